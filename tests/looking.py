@@ -82,17 +82,17 @@ def test_databases_of_others(program):
 
 @quickly
 def test_files_of_a_byte_or_none(program):
-    """The engine writes its first page, by a log that stays. There is no table in it."""
+    """They stay so, with a log beside them that holds no commit, and without one. `lines` makes a city of them."""
     for data in b"", b"S":
-        for words, empty in LOOKS.values():
+        for log in None, b"", b"x" * 100:
             file = Path(program.folder, "city.db")
-            file.write_bytes(data)
-            assert asks(program, words, file.name) == empty, (data, words)
-            assert set(os.listdir(program.folder)) <= {file.name, f"{file.name}-wal"}, (
-                data, words, os.listdir(program.folder)
-            )
-            assert not held(file), (data, words)
-            removed(file)
+            put({"": data} if log is None else {"": data, "-wal": log}, file)
+            stays(program, file.name)
+        removed(file)
+        put({"": data}, file)
+        assert program.run("lines", file.name, given=b"") == (0, b"", b"") and held(file), data
+        stays(program, file.name)
+        removed(file)
 
 
 @quickly

@@ -129,7 +129,7 @@ module _ {S : Type 0} where
   abbrev pub LeavesAll : Ghosts S → Held S → Held S → Type 0
   LeavesAll g old c = HasCleanDisk (state g c) → AllLeft (state g c) (state g old).may_leave
 
-  -- so it stands for the operator for whom the tables stood
+  -- so it stands for the operator for which the tables stood
   abbrev pub LeavesFor : Ghosts S → Operator → Held S → Type 0
   LeavesFor g s c = HasCleanDisk (state g c) → AllLeft (state g c) (TreesStandFor s)
 
@@ -138,7 +138,7 @@ module _ {S : Type 0} where
   LeavesOrStands g old s c =
       HasCleanDisk (state g c) → AllLeft (state g c) (λ trees. (state g old).may_leave trees ⊎ TreesStandFor s trees)
 
-  -- WHAT AN ADOPTION OWES: a desk at the operator for whom the database stands, or a fault that hands the connection back
+  -- WHAT AN ADOPTION OWES: a desk at the operator for which the database stands, or a fault that hands the connection back
   pub record Adopts (g : Ghosts S) (old : Held S) (result : Result (DeskValue S) (AdoptFault S)) : Type 0 where
     pub clean : MatchResult result (λ d. doubt (state g old).is_clean ≤ doubt (desk_state g d).is_clean)
         (λ e. doubt (state g old).is_clean ≤ doubt (state g (handed e)).is_clean)

@@ -33,9 +33,9 @@ pub enum AdoptCause {
     Older(u64),
     /// The database is of this later version of the schema. It is as it was.
     Newer(u64),
-    /// Memory was refused. What is stored stands for the operator for whom it stood.
+    /// Memory was refused. What is stored stands for the operator for which it stood.
     NoMemory,
-    /// The store failed. What is stored stands for the operator for whom it stood.
+    /// The store failed. What is stored stands for the operator for which it stood.
     StoreFailed,
 }
 
@@ -144,7 +144,7 @@ fn found<S: Alter>(conn: Connection<S>, finding: Finding) -> Result<Desk<S>, Ado
 }
 
 /// Takes a connection outside a transaction into service. A database with none of the product's tables, and no
-/// foreign key that names one, gets them in one transaction, and the desk begins with the operator of whom nothing was
+/// foreign key that names one, gets them in one transaction, and the desk begins with the operator of which nothing was
 /// asked. Of any other database the tables are audited, and the desk stands for their operator, if there is one. Tables
 /// of other names stay. A fault tells what the database is, or that memory or the store failed, and hands the connection back.
 pub fn adopt<S: Alter>(alloc: Global, conn: Connection<S>) -> Result<Desk<S>, AdoptFault<S>>

@@ -15,7 +15,8 @@ use bike_json::{JsonState, Output};
 fn write_error<W: Output>(json: &mut JsonState, out: &mut W, name: &str)
     requires value { IsTrue (takes_value json.old.top) }
     requires room { length json.old.round < 16 }
-    ensures wrote { WroteNext json.old json.new (W.contents out.old) (W.contents out.new) (text_of (error_tree name.now)) }
+    ensures wrote { WroteNext json.old json.new (W.contents out.old) (W.contents out.new)
+        (text_of (error_tree name.now)) }
     ensures place { IsAt json.new (after_value json.old.top) json.old.round }
 {
     write_object(
@@ -31,7 +32,8 @@ fn write_error<W: Output>(json: &mut JsonState, out: &mut W, name: &str)
 fn write_refused<W: Output>(json: &mut JsonState, out: &mut W, refusal: Refusal)
     requires value { IsTrue (takes_value json.old.top) }
     requires room { length json.old.round < 16 }
-    ensures wrote { WroteNext json.old json.new (W.contents out.old) (W.contents out.new) (text_of (refused_tree refusal)) }
+    ensures wrote { WroteNext json.old json.new (W.contents out.old) (W.contents out.new)
+        (text_of (refused_tree refusal)) }
     ensures place { IsAt json.new (after_value json.old.top) json.old.round }
 {
     write_object(
@@ -48,7 +50,8 @@ fn write_refused<W: Output>(json: &mut JsonState, out: &mut W, refusal: Refusal)
 fn write_rejected<W: Output>(json: &mut JsonState, out: &mut W, rejection: Rejection)
     requires value { IsTrue (takes_value json.old.top) }
     requires room { length json.old.round < 16 }
-    ensures wrote { WroteNext json.old json.new (W.contents out.old) (W.contents out.new) (text_of (rejected_tree rejection)) }
+    ensures wrote { WroteNext json.old json.new (W.contents out.old) (W.contents out.new)
+        (text_of (rejected_tree rejection)) }
     ensures place { IsAt json.new (after_value json.old.top) json.old.round }
 {
     match rejection {
@@ -63,7 +66,8 @@ fn write_rejected<W: Output>(json: &mut JsonState, out: &mut W, rejection: Rejec
 fn write_replied<W: Output>(json: &mut JsonState, out: &mut W, reply: &Reply)
     requires value { IsTrue (takes_value json.old.top) }
     requires room { length json.old.round < 16 }
-    ensures wrote { WroteNext json.old json.new (W.contents out.old) (W.contents out.new) (text_of (replied_tree reply.now)) }
+    ensures wrote { WroteNext json.old json.new (W.contents out.old) (W.contents out.new)
+        (text_of (replied_tree reply.now)) }
     ensures place { IsAt json.new (after_value json.old.top) json.old.round }
 {
     let ok = ("result", Scalar::Text("ok"));
@@ -97,7 +101,8 @@ fn write_replied<W: Output>(json: &mut JsonState, out: &mut W, reply: &Reply)
 pub fn write_body<W: Output>(json: &mut JsonState, out: &mut W, answer: &Answer)
     requires value { IsTrue (takes_value json.old.top) }
     requires room { length json.old.round < 16 }
-    ensures wrote { WroteNext json.old json.new (W.contents out.old) (W.contents out.new) (text_of (body_of answer.now)) }
+    ensures wrote { WroteNext json.old json.new (W.contents out.old) (W.contents out.new)
+        (text_of (body_of answer.now)) }
     ensures place { IsAt json.new (after_value json.old.top) json.old.round }
 {
     match answer {

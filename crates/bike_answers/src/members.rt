@@ -35,7 +35,8 @@ pub(crate) fn signed(number: i64) -> Scalar<'static>
 
 fn write_scalar<W: Output>(json: &mut JsonState, out: &mut W, scalar: Scalar)
     requires { IsTrue (takes_value json.old.top) }
-    ensures wrote { WroteNext json.old json.new (W.contents out.old) (W.contents out.new) (text_of (scalar_tree scalar.entry)) }
+    ensures wrote { WroteNext json.old json.new (W.contents out.old) (W.contents out.new)
+        (text_of (scalar_tree scalar.entry)) }
     ensures place { IsAt json.new (after_value json.old.top) json.old.round }
 {
     let _ = match scalar {
@@ -47,7 +48,8 @@ fn write_scalar<W: Output>(json: &mut JsonState, out: &mut W, scalar: Scalar)
 
 fn write_member<W: Output>(json: &mut JsonState, out: &mut W, name: &str, value: Scalar)
     requires { IsTrue (takes_name json.old.top) }
-    ensures wrote { Wrote json.old json.new (W.contents out.old) (W.contents out.new) (member_text (has_more json.old.top) name.now (scalar_tree value.entry)) }
+    ensures wrote { Wrote json.old json.new (W.contents out.old) (W.contents out.new)
+        (member_text (has_more json.old.top) name.now (scalar_tree value.entry)) }
     ensures place { IsAt json.new Level.FilledObject json.old.round }
 {
     let _ = json.name(out, name);
@@ -56,7 +58,8 @@ fn write_member<W: Output>(json: &mut JsonState, out: &mut W, name: &str, value:
 
 fn write_members<W: Output>(json: &mut JsonState, out: &mut W, fields: &[(&str, Scalar)])
     requires { json.old.top ≡ Level.EmptyObject }
-    ensures wrote { Wrote json.old json.new (W.contents out.old) (W.contents out.new) (members_text false (members (map (λ m. (m.0.now, scalar_tree m.1)) fields.now))) }
+    ensures wrote { Wrote json.old json.new (W.contents out.old) (W.contents out.new)
+        (members_text false (members (map (λ m. (m.0.now, scalar_tree m.1)) fields.now))) }
     ensures name { IsTrue (takes_name json.new.top) }
     ensures round { json.new.round ≡ json.old.round }
 {

@@ -31,7 +31,8 @@ fn open_rental(rental: Option<RentalNumber>) -> Scalar<'static>
 pub(crate) fn write_rider<W: Output>(json: &mut JsonState, out: &mut W, row: &RiderRow)
     requires value { IsTrue (takes_value json.old.top) }
     requires room { length json.old.round < 16 }
-    ensures wrote { WroteNext json.old json.new (W.contents out.old) (W.contents out.new) (text_of (rider_tree row.now)) }
+    ensures wrote { WroteNext json.old json.new (W.contents out.old) (W.contents out.new)
+        (text_of (rider_tree row.now)) }
     ensures place { IsAt json.new (after_value json.old.top) json.old.round }
 {
     write_object(
@@ -64,7 +65,8 @@ pub(crate) fn write_bike<W: Output>(
 )
     requires value { IsTrue (takes_value json.old.top) }
     requires room { length json.old.round < 16 }
-    ensures wrote { WroteNext json.old json.new (W.contents out.old) (W.contents out.new) (text_of (bike_tree number bike.now)) }
+    ensures wrote { WroteNext json.old json.new (W.contents out.old) (W.contents out.new)
+        (text_of (bike_tree number bike.now)) }
     ensures place { IsAt json.new (after_value json.old.top) json.old.round }
 {
     let first = ("bike", whole(number));
@@ -170,8 +172,8 @@ fn write_closed<'a, W: Output>(
 )
     requires value { IsTrue (takes_value json.old.top) }
     requires room { length json.old.round < 16 }
-    ensures wrote { let members = closed_members closed.entry.to.now closed.entry.finish.now closed.entry.fare closed.entry.refunded in
-        WroteNext json.old json.new (W.contents out.old) (W.contents out.new)
+    ensures wrote { let members = closed_members closed.entry.to.now closed.entry.finish.now closed.entry.fare
+        closed.entry.refunded in WroteNext json.old json.new (W.contents out.old) (W.contents out.new)
         (text_of (rental_object number rental.now start.now members)) }
     ensures place { IsAt json.new (after_value json.old.top) json.old.round }
 {
@@ -203,7 +205,8 @@ pub(crate) fn write_rental<W: Output>(
 )
     requires value { IsTrue (takes_value json.old.top) }
     requires room { length json.old.round < 16 }
-    ensures wrote { WroteNext json.old json.new (W.contents out.old) (W.contents out.new) (text_of (rental_tree number rental.now refunded)) }
+    ensures wrote { WroteNext json.old json.new (W.contents out.old) (W.contents out.new)
+        (text_of (rental_tree number rental.now refunded)) }
     ensures place { IsAt json.new (after_value json.old.top) json.old.round }
 {
     let start = rental.start.text();
@@ -239,7 +242,8 @@ pub(crate) fn write_order<W: Output>(
 )
     requires value { IsTrue (takes_value json.old.top) }
     requires room { length json.old.round < 16 }
-    ensures wrote { WroteNext json.old json.new (W.contents out.old) (W.contents out.new) (text_of (order_tree number order.now)) }
+    ensures wrote { WroteNext json.old json.new (W.contents out.old) (W.contents out.new)
+        (text_of (order_tree number order.now)) }
     ensures place { IsAt json.new (after_value json.old.top) json.old.round }
 {
     write_object(

@@ -32,7 +32,8 @@ pub fn body_length(answer: &Answer) -> Option<u64>
 /// Writes an answer, the length of whose body is known.
 fn send<W: Write>(out: &mut W, answer: &Answer, size: u64) -> Result<u16, WriteFault>
     requires { size ≡ length (text_of (body_of answer.now)) }
-    ensures ok { IfOk result (λ status. (status ≡ status_of answer.now) × Appends (W.contents out.old) (W.contents out.new) (answer_text answer.now)) }
+    ensures ok { IfOk result (λ status. (status ≡ status_of answer.now)
+        × Appends (W.contents out.old) (W.contents out.new) (answer_text answer.now)) }
     ensures err { OnErr result (AppendsFront (W.contents out.old) (W.contents out.new) (answer_text answer.now)) }
 {
     let head = head_text(answer.status(), answer.allow(), size);

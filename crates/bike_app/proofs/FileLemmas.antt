@@ -1,5 +1,5 @@
 -- How a word over a file ends.
-use Rattle.std.proofs.Common.{ℕ, List, Option, Some, Result, Ok, Err, IfOk, sym, subst}
+use Rattle.std.proofs.Common.{◌≡◌, ℕ, List, Option, Some, false, Result, Ok, Err, IfOk, sym, subst}
 use Rattle.sqlite_disk.specs.declared.Disk as disk
 use Rattle.sqlite_wal.specs.Recovery.{Image}
 use Rattle.sqlite_store.specs.declared.store.FileStore.{FileStore}
@@ -11,7 +11,9 @@ use Rattle.bike_console.specs.declared.end.Fault.{Fault}
 use Rattle.bike_console.specs.declared.closing.Remains.{Remains}
 use Rattle.bike_console.specs.declared.closing.Remains.TheVariants.{Open, Settled, Unsettled}
 use Rattle.bike_console.specs.Closing.{Closes}
-use Rattle.bike_app.specs.Files.{DoesOverFile, EndsOnFile, IsAlone}
+use Rattle.bike_console.specs.Files.{HoldsBlank}
+use Rattle.bike_app.specs.Words.{DoesInMemory}
+use Rattle.bike_app.specs.Files.{DoesOverFile, EndsOnFile, IsAlone, LooksAtBlank, settles}
 
 module _ {D : Type 0} {g : disk.Ghosts D} (image : Image) (input ahead old new : Option (List ℕ)) (task : FileTask) (clock : Option ℕ) (conn : Held (FileStore D g)) (end : Result ℕ Fault)
     (does : HasCleanDisk (file_state conn) → DoesOverFile image input ahead old new task clock conn end) where
@@ -31,3 +33,10 @@ closed_alone conn end (Settled files) (Ok count) it = tt
 closed_alone conn (Ok n) (Open c) (Ok count) it = absurd (let kept = it.2 in cc)
 closed_alone conn (Err fault) (Open c) (Ok count) it = absurd (let same = it.1 in cc)
 closed_alone conn end (Unsettled store) (Ok count) it = absurd (let told = it.0 in cc)
+
+-- a blank file was looked at
+pub looks_at_blank : {D : Type 0} {g : disk.Ghosts D} (image : Image) (input ahead old new : Option (List ℕ)) (task : FileTask) (clock : Option ℕ) (end : Result ℕ Fault) → settles task ≡ false
+    → (found : Remains D g) → HoldsBlank image found → DoesInMemory input ahead old new task clock end → LooksAtBlank g image input ahead old new task clock end
+looks_at_blank image input ahead old new task clock end looks (Open c) holds does = absurd holds
+looks_at_blank image input ahead old new task clock end looks (Settled files) holds does = record { looks = looks; files = files; blank = holds; does = does }
+looks_at_blank image input ahead old new task clock end looks (Unsettled store) holds does = absurd holds

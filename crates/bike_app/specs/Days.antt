@@ -33,7 +33,7 @@ module _ (table : DayTable) (date zone : List ℕ) where
       pub told : TellsTable s old new end
       pub at : (end ≡ Err StoreFailed → ⊥) → IsAt g desk s
 
-    -- The database stood for an operator, and over a desk at him his table was written.
+    -- The database stood for an operator, and over a desk at it its table was written.
     pub record Reports (first last : Held S) (old new : Option (List ℕ)) (end : Result ℕ Fault) : Type 0 where
       pub desk : DeskValue S
       pub conn : last ≡ desk.conn

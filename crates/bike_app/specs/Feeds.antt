@@ -40,7 +40,7 @@ pub record PublishesAt {S : Type 0} (g : Ghosts S) (desk : DeskValue S) (s : Ope
   pub told : TellsFeed s f moment old new end
   pub at : (end ≡ Err StoreFailed → ⊥) → IsAt g desk s
 
--- The database stood for an operator, and over a desk at him his feed was written.
+-- The database stood for an operator, and over a desk at it its feed was written.
 pub record Publishes {S : Type 0} (g : Ghosts S) (first last : Held S) (f : Feed) (moment : Option ℕ)
     (old new : Option (List ℕ)) (end : Result ℕ Fault) : Type 0 where
   pub desk : DeskValue S

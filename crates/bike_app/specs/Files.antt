@@ -24,8 +24,8 @@ use Rattle.bike_console.specs.declared.end.Fault.{Fault}
 use Rattle.bike_console.specs.declared.end.Fault.TheVariants.{StoreFailed}
 use Rattle.bike_console.specs.declared.closing.Remains.{Remains}
 use Rattle.bike_console.specs.declared.closing.Remains.TheVariants as remains
-use Rattle.bike_console.specs.Files.{IsOpeningFault, IsRefused}
-use Rattle.bike_app.specs.Words.{Does}
+use Rattle.bike_console.specs.Files.{FindsBlank, IsOpeningFault, IsRefused}
+use Rattle.bike_app.specs.Words.{Does, DoesInMemory}
 
 -- There is no connection to a file of these bytes, for the reason that the end tells. Nothing was read, and nothing written.
 pub record IsUntouched {D : Type 0} {g : disk.Ghosts D} (image : Image) (conn : Option (Held (FileStore D g))) (input ahead old new : Option (List ℕ)) (end : Result ℕ Fault) : Type 0 where
@@ -80,6 +80,14 @@ pub record EndsSettled {D : Type 0} (g : disk.Ghosts D) (image : Image) (input a
   pub does : HasCleanDisk (file_state last) → DoesOverFile image input ahead old new task clock last end
   pub alone : AreClean g files.log files.db → IsCopied last files
 
+-- The task only looks, the file is blank, and it was done over a database in memory.
+pub record LooksAtBlank {D : Type 0} (g : disk.Ghosts D) (image : Image) (input ahead old new : Option (List ℕ)) (task : FileTask) (clock : Option ℕ)
+    (end : Result ℕ Fault) : Type 0 where
+  pub looks : settles task ≡ false
+  pub files : Files D
+  pub blank : FindsBlank g image files
+  pub does : DoesInMemory input ahead old new task clock end
+
 module _ {D : Type 0} {g : disk.Ghosts D} (image : Image) (input ahead old new : Option (List ℕ)) (task : FileTask) (clock : Option ℕ) where
   -- The task was done over a connection, and its log couldn't be brought into the file.
   pub record EndsUnsettled (store : FileStore D g) (end : Result ℕ Fault) : Type 0 where
@@ -91,7 +99,7 @@ module _ {D : Type 0} {g : disk.Ghosts D} (image : Image) (input ahead old new :
 
   -- HOW A WORD OVER A FILE ENDS: by what is left of its connection
   abbrev pub EndsOnFile : Option (Remains D g) → Result ℕ Fault → Type 0
-  EndsOnFile None end = IsNotThere input ahead old new end ⊎ IsUntouched {D = D} {g = g} image None input ahead old new end
+  EndsOnFile None end = IsNotThere input ahead old new end ⊎ (IsUntouched {D = D} {g = g} image None input ahead old new end ⊎ LooksAtBlank g image input ahead old new task clock end)
   EndsOnFile (Some (remains.Open c)) end = HasCleanDisk (file_state c) → DoesOverFile image input ahead old new task clock c end
   EndsOnFile (Some (remains.Settled files)) end = EndsSettled g image input ahead old new task clock files end
   EndsOnFile (Some (remains.Unsettled store)) end = EndsUnsettled store end

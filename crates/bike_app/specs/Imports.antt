@@ -44,7 +44,7 @@ module _ {S : Type 0} (g : Ghosts S) (input ahead old new : Option (List ℕ)) (
   TellsImport None desk s end = (end ≡ Err NoClock) × IsAt g desk s × Keeps input ahead × Keeps old new
   TellsImport (Some moment) desk s end = ImportsAt desk s moment end
 
-  -- The database stood for an operator, or had none of the tables, and the input was imported over a desk at him.
+  -- The database stood for an operator, or had none of the tables, and the input was imported over a desk at it.
   pub record ImportsOver (first last : Held S) (moment : Option ℕ) (end : Result ℕ Fault) : Type 0 where
     pub desk : DeskValue S
     pub conn : last ≡ desk.conn

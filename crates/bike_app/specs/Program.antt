@@ -53,7 +53,7 @@ module _ {S : Type 0} (g : Ghosts S) (input ahead old new : Option (List ℕ)) w
     pub conn : last ≡ desk.conn
     pub ran : RanLines g desk s input ahead old new result
 
-  -- The database stood for an operator, or had none of the tables, and the input was served over a desk at him.
+  -- The database stood for an operator, or had none of the tables, and the input was served over a desk at it.
   pub record ServesOver (first last : Held S) (end : Result ℕ Fault) : Type 0 where
     pub operator : Operator
     pub was : IsOf (state g first).now operator

@@ -24,7 +24,7 @@ WritesLine old new line (Err fault) = (fault ≡ WriteFailed) × AppendsFront ol
 abbrev pub version_line : List ℕ
 version_line = codes "version 3\n"
 
--- The database stood for an operator at some version, and stands for him at the newest, with all that a crash may leave.
+-- The database stood for an operator at some version, and stands for it at the newest, with all that a crash may leave.
 pub record RaisedUp {S : Type 0} (g : Ghosts S) (first last : Held S) : Type 0 where
   pub version : Option Earlier
   pub operator : Operator

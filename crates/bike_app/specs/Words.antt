@@ -16,7 +16,7 @@ use Rattle.bike_app.specs.Days.{TellsReported, ReportsInMemory}
 use Rattle.bike_app.specs.Imports.{TellsImported, ImportsInMemory}
 use Rattle.bike_app.specs.Raises.{WritesLine, TellsRaised, version_line}
 
--- The database stood for an operator, or had none of the tables, and stands for him, with all that a crash may leave.
+-- The database stood for an operator, or had none of the tables, and stands for it, with all that a crash may leave.
 pub record TakenUp {S : Type 0} (g : Ghosts S) (first last : Held S) : Type 0 where
   pub operator : Operator
   pub was : IsOf (state g first).now operator

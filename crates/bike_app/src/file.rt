@@ -1,6 +1,6 @@
 //! The words over the database file at a path: how it is opened, what is done over it, and how it is closed.
 
-ghost use Rattle.std.specs.Prelude.{◌≡◌, true, IfSome, IsNone, IfOk};
+ghost use Rattle.std.specs.Prelude.{◌≡◌, true, false, IfSome, IsNone, IfOk};
 ghost use Rattle.sqlite.specs.State.{HasCleanDisk};
 ghost use Rattle.sqlite.specs.Files.{file_state};
 ghost use Rattle.sqlite_wal.specs.Files.{image_at};
@@ -11,10 +11,12 @@ ghost use Rattle.bike_command_line.specs.Program.{IsWithinOnFile};
 ghost use Rattle.bike_app.specs.Words.{IsRaise, MayStand};
 ghost use Rattle.bike_app.specs.Files.{DoesOverFile, EndsOnFile, IsAlone, IsUntouched, LeavesRaised, settles};
 
-use crate::words::run_words;
+use crate::words::{run_words, run_words_in_memory};
 use bike_adoption::Watch;
 use bike_command_line::FileTask;
-use bike_console::{Fault, NewLog, Remains, open_file, prepare_file, settle};
+use bike_console::{
+    Fault, NewLog, Remains, may_be_blank, open_blank, open_file, prepare_file, settle,
+};
 use bike_fixed::Moment;
 use sqlite::{Connection, FileFrom, FileStore, Start};
 use std::io::{Read, Write};
@@ -74,8 +76,38 @@ fn settles(task: &FileTask<'_>) -> bool
     }
 }
 
+/// Does a task that only looks over the blank file at a path: over a database in memory, since a file that the engine opens gets its
+/// first page. `StoreFailed` where the file isn't blank.
+fn look_at_blank<F: Start, R: Read, W: Write>(
+    rt: &HostRuntime,
+    task: &FileTask<'_>,
+    clock: Option<Moment>,
+    path: &str,
+    start: F,
+    reader: &mut R,
+    writer: &mut W,
+) -> (Option<Remains<FileFrom<F>>>, Result<u64, Fault>)
+    requires within { IsWithinOnFile task.now }
+    requires looks { settles task.now ≡ false }
+    ensures none { IsNone result.0 }
+    ensures done { EndsOnFile (image_at F.Start) (R.remaining reader.old) (R.remaining reader.new)
+        (W.contents writer.old) (W.contents writer.new) task.now clock result.0 result.1 }
+{
+    match open_blank(rt, path, start) {
+        Ok(Some(found)) => {
+            let end = run_words_in_memory(rt.alloc(), task, clock, reader, writer);
+            drop(found);
+            (None, end)
+        }
+        // It was written to since its length was looked at, or its log may hold commits.
+        Ok(None) => (None, Err(Fault::StoreFailed)),
+        Err(fault) => (None, Err(fault)),
+    }
+}
+
 /// Does the task over the database file at a path, as `run_file` does, from the path on to the closing. Tasks that only look, and
-/// `Raise`, make no file: where there is none that is `StoreFailed`. A log that may hold commits and has no file, or an empty one, is
+/// `Raise`, make no file: where there is none that is `StoreFailed`. Tasks that only look leave a file of at most one byte as it is: it
+/// is a database in which nothing was made yet. A log that may hold commits and has no file, or an empty one, is
 /// `StoreFailed` for all tasks, and stays. Tasks that may change the database bring the log into the file at their end, so that after a
 /// number the file is the whole database by itself; where that fails, they end with `StoreFailed`, and the file and its log are the
 /// database together. Tasks that only look, and a file that is refused, leave no log where there was none. Gives back what is left of the
@@ -97,6 +129,9 @@ pub fn run_on_file<F: Start, R: Read, W: Write, P: Watch>(
 {
     if let Err(fault) = prepare_file(rt, path, may_make(task)) {
         return (None, Err(fault));
+    }
+    if !settles(task) && may_be_blank(rt, path) {
+        return look_at_blank(rt, task, clock, path, start, reader, writer);
     }
     let made = NewLog::beside(rt, path);
     let (conn, end) = run_file(rt, task, clock, path, start, reader, writer, watch);

@@ -37,7 +37,8 @@ fn audit_tables<S: Alter, P: Watch>(
     conn: &mut Connection<S>,
     watch: &mut P,
 ) -> Result<Finding, StatementFault>
-    ensures found { ReadsWhere S.Store HasTables conn.old conn.new result (λ db found. HasTables db × IsByRules db found) }
+    ensures found { ReadsWhere S.Store HasTables conn.old conn.new result
+        (λ db found. HasTables db × IsByRules db found) }
     ensures watched { WasTold (P.told watch.old) (P.told watch.new) (AreToldOf result) }
 {
     check_open(conn)?;

@@ -18,7 +18,7 @@ docks_left s station docks = pos docks -ℤ pos (occupied_docks s station + dock
 abbrev pub counted_station : Operator → List ℕ × Station → Row
 counted_station s e = station_row e.0 e.1 (docks_left s e.0 e.1.row.docks) (docks_broken s e.0 e.1.row.docks)
 
--- An operator need not be sound between two changes of a request: then his tables have the docks left in place of the docks available.
+-- An operator need not be sound between two changes of a request: then its tables have the docks left in place of the docks available.
 abbrev pub tables_between : Operator → Listed → Tables
 tables_between s m = record (tables_for s m) { stations = map (counted_station s) (fin.entries s.stations) }
 

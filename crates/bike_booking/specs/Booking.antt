@@ -28,7 +28,7 @@ pub record AreTexts (s : Operator) (now : ℕ) (q : Request) (texts : KeptTexts)
   pub command : texts.command.now ≡ text_of q.command
   pub reply : texts.reply.now ≡ reply_text (reply_of s now q.command)
 
--- What is known of an acceptance: the operator decides so, the records before are his, and what is stored was read.
+-- What is known of an acceptance: the operator decides so, the records before are its own, and what is stored was read.
 pub record IsAccepted (s : Operator) (m : Listed) (now : ℕ) (q : Request) (a : Accepted) (n : Stored) (texts : KeptTexts) : Type 0 where
   pub sound : IsSound s
   pub listing : IsListing s m
@@ -48,7 +48,7 @@ BooksAccepted =
     (s : Operator) (m : Listed) (now : ℕ) (q : Request) (a : Accepted) (n : Stored) (texts : KeptTexts) (rows : List RowChange)
     → IsAccepted s m now q a n texts → writes_of rows ≡ writes_of_accepted now n texts a → Books rows s m now q
 
--- Where an entry is booked, it is added to the entries of a sound operator, which are fewer than there may be: his sums take one more.
+-- Where an entry is booked, it is added to the entries of a sound operator, which are fewer than there may be: its sums take one more.
 abbrev pub SumsTakeOneMore : Type 0
 SumsTakeOneMore =
     (s : Operator) (now : ℕ) (q : Request) (a : Accepted) → IsSound s → Decides s now q.command (Ok a) → IsSound (after_acceptance s now q)

@@ -1,4 +1,4 @@
--- The operator's figures: his moment and sums, and how many rentals, orders and entries he has.
+-- The operator's figures: its moment and sums, and how many rentals, orders and entries it has.
 use Rattle.std.specs.Prelude.{◌≡◌, ℕ, length, Option, Some, None, Ok}
 use Rattle.bike_commands.specs.declared.request.Request.{Request}
 use Rattle.bike_operator.specs.Operator.{Operator}

@@ -8,12 +8,12 @@ use crate::stored::Sums;
 use bike_accepted::{Accepted, Booked, Change};
 use bike_fixed::Moment;
 
-/// The operator's moment and sums, and how many rentals, orders and entries he has.
+/// The operator's moment and sums, and how many rentals, orders and entries it has.
 #[derive(Clone, Copy)]
 pub struct Figures {
     /// The greatest moment of an accepted request.
     pub now: Moment,
-    /// His sums.
+    /// Its sums.
     pub sums: Sums,
     /// How many rentals there are.
     pub rentals: u32,
@@ -58,7 +58,8 @@ impl Figures {
     /// operator's.
     pub fn after(&self, now: Moment, accepted: &Accepted<'_>) -> Option<Figures>
         ensures figures { IfSome result (λ figures. figures ≡ figures_after self.entry.now now accepted.now) }
-        ensures some { IfSome accepted.now.entry (λ _. IsBalance self.entry.now.sums.cash × IsBalance self.entry.now.sums.revenue)
+        ensures some { IfSome accepted.now.entry
+            (λ _. IsBalance self.entry.now.sums.cash × IsBalance self.entry.now.sums.revenue)
             → IsSome result }
     {
         let Some(sums) = self.sums.with(&accepted.entry) else {

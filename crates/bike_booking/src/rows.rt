@@ -47,7 +47,8 @@ fn count_row<'a>(
     less: BikeShares,
     more: BikeShares,
 ) -> RowChange<'a>
-    ensures { result ≡ count_row counts.now station.entry type_id.entry (bikes_by (record { less = less; more = more }) (counts_in counts.now)) }
+    ensures { result ≡ count_row counts.now station.entry type_id.entry
+        (bikes_by (record { less = less; more = more }) (counts_in counts.now)) }
 {
     match counts {
         None => RowChange::AddCount {
@@ -156,7 +157,8 @@ fn push_held_mark<'a>(
     now: Moment,
 )
     requires { HasRoom 3 rows.old }
-    ensures rows { rows.new.items ≡ rows.old.items ++ moved_rows now stored.now (moved.Marked at.now (Some held.now) is_broken) }
+    ensures rows { rows.new.items ≡ rows.old.items ++ moved_rows now stored.now
+        (moved.Marked at.now (Some held.now) is_broken) }
     ensures room { TakesRows 3 rows.old rows.new }
 {
     let dock = &stored.dock;

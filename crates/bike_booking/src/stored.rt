@@ -32,7 +32,7 @@ pub struct StoredCounts {
     pub disabled: Total,
 }
 
-/// The operator's sums over his entries.
+/// The operator's sums over its entries.
 #[derive(Clone, Copy)]
 pub struct Sums {
     /// All top-ups.

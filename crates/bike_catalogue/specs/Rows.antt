@@ -102,6 +102,7 @@ system_of_fields system_id language name opening_hours feed_contact_email timezo
   ttl = ttl;
 }
 
+-- a position from its latitude and longitude, in microdegrees
 abbrev pub position_of_fields : ℤ → ℤ → PositionRow
 position_of_fields lat lon = record { lat = lat; lon = lon }
 
@@ -207,6 +208,7 @@ pub record IsStation (s : StationRow) : Type 0 where
   pub some_docks : 1 ≤ s.docks
   pub few_docks : s.docks ≤ MOST_DOCKS
 
+-- a latitude and a longitude that there are
 pub record IsPosition (p : PositionRow) : Type 0 where
   pub lat : IsLatitude p.lat
   pub lon : IsMicro p.lon
@@ -234,6 +236,7 @@ pub record IsSystem (s : SystemRow) : Type 0 where
   pub base_url : is_ascii_field s.base_url ≡ true
   pub ttl : s.ttl ≤ LONGEST_TIME_TO_LIVE
 
+-- each of the six keeps the bound that the system's own field has
 pub record IsSettings (s : SettingsRow) : Type 0 where
   pub name : is_name s.name ≡ true
   pub opening_hours : is_ascii_field s.opening_hours ≡ true

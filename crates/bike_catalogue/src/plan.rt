@@ -31,7 +31,14 @@ impl Model for Plan {
 
     ghost Value = { PlanRow };
 
-    ghost view = { λ a. record { plan_id = a.plan_id; name = a.name; price = a.price; taxable = a.taxable; description = a.description; segments = a.segments.items } };
+    ghost view = { λ a. record {
+      plan_id = a.plan_id;
+      name = a.name;
+      price = a.price;
+      taxable = a.taxable;
+      description = a.description;
+      segments = a.segments.items;
+    } };
 
     ghost invariant = { λ a. length a.segments.items ≤ MOST_SEGMENTS };
 }
@@ -65,8 +72,10 @@ impl Plan {
         description: &str,
         segments: &[Segment],
     ) -> Result<Price, FieldFault>
-        ensures value { Tests (λ kept. kept) price (plan_fault (plan_of_fields plan_id.now name.now price taxable description.now segments.now)) result }
-        ensures good { IfOk result (λ kept. IsPlan (plan_of_fields plan_id.now name.now kept taxable description.now segments.now)) }
+        ensures value { Tests (λ kept. kept) price (plan_fault
+            (plan_of_fields plan_id.now name.now price taxable description.now segments.now)) result }
+        ensures good { IfOk result
+            (λ kept. IsPlan (plan_of_fields plan_id.now name.now kept taxable description.now segments.now)) }
     {
         let _ = taxable;
         let _ = Ident::tested(Field::Plan, plan_id)?;
@@ -93,7 +102,8 @@ impl Plan {
         segments: &[Segment],
     ) -> Result<Plan, AllocError>
         requires { IsPlan (plan_of_fields plan_id.now name.now price taxable description.now segments.now) }
-        ensures { IfOk result (λ made. made ≡ plan_of_fields plan_id.now name.now price taxable description.now segments.now) }
+        ensures { IfOk result
+            (λ made. made ≡ plan_of_fields plan_id.now name.now price taxable description.now segments.now) }
     {
         Ok(Plan {
             plan_id: Ident::of(alloc, plan_id)?,

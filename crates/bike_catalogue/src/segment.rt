@@ -27,7 +27,12 @@ impl Model for Segment {
 
     ghost view = { λ a. record { start = a.start; rate = a.rate; interval = a.interval; end = a.end } };
 
-    ghost invariant = { λ a. IsSegment (record { start = a.start; rate = a.rate; interval = a.interval; end = a.end }) };
+    ghost invariant = { λ a. IsSegment (record {
+      start = a.start;
+      rate = a.rate;
+      interval = a.interval;
+      end = a.end;
+    }) };
 
     ghost inverse = { λ r. record { start = r.start; rate = r.rate; interval = r.interval; end = r.end } };
 }
@@ -78,7 +83,13 @@ impl Segment {
         interval: u32,
         end: Option<u32>,
     ) -> Result<Segment, FieldFault>
-        ensures { let row : SegmentRow = record { start = start; rate = rate; interval = interval; end = end } in result ≡ value_or_fault row (segment_fault row) }
+        ensures { let row : SegmentRow = record {
+          start = start;
+          rate = rate;
+          interval = interval;
+          end = end;
+        } in
+            result ≡ value_or_fault row (segment_fault row) }
     {
         let start: SegmentMinute = in_range(Field::Start, start)?;
         let rate = rate_of(rate)?;
@@ -99,7 +110,8 @@ impl Segment {
         interval: SegmentMinute,
         end: Option<SegmentMinute>,
     ) -> Option<Segment>
-        ensures { result ≡ (if is_after start end then Some (record { start = start; rate = rate; interval = interval; end = end }) else None) }
+        ensures { result ≡ (if is_after start end
+            then Some (record { start = start; rate = rate; interval = interval; end = end }) else None) }
     {
         let ends = match &end {
             None => true,

@@ -26,7 +26,13 @@ impl Model for Station {
 
     ghost Value = { StationRow };
 
-    ghost view = { λ a. record { station_id = a.station_id; name = a.name; lat = a.lat; lon = a.lon; docks = a.docks } };
+    ghost view = { λ a. record {
+      station_id = a.station_id;
+      name = a.name;
+      lat = a.lat;
+      lon = a.lon;
+      docks = a.docks;
+    } };
 
     ghost invariant = { λ a. IsLatitude a.lat };
 }
@@ -59,8 +65,10 @@ impl Station {
         lon: i32,
         docks: u32,
     ) -> Result<(Micro, Micro, DockCount), FieldFault>
-        ensures value { Tests (λ kept. kept) (lat, lon, docks) (station_fault (station_of_fields station_id.now name.now lat lon docks)) result }
-        ensures good { IfOk result (λ kept. IsStation (station_of_fields station_id.now name.now kept.0 kept.1 kept.2)) }
+        ensures value { Tests (λ kept. kept) (lat, lon, docks)
+            (station_fault (station_of_fields station_id.now name.now lat lon docks)) result }
+        ensures good { IfOk result
+            (λ kept. IsStation (station_of_fields station_id.now name.now kept.0 kept.1 kept.2)) }
     {
         let _ = Ident::tested(Field::Station, station_id)?;
         let _ = Name::tested(Field::Name, name)?;

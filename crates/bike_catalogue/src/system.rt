@@ -60,8 +60,8 @@ impl System {
         base_url: &str,
         ttl: u32,
     ) -> Result<System, FieldFault>
-        ensures { MakesSystem (system_of_fields system_id.now language.now name.now opening_hours.now feed_contact_email.now timezone.now
-            currency.now base_url.now ttl) result }
+        ensures { MakesSystem (system_of_fields system_id.now language.now name.now opening_hours.now
+            feed_contact_email.now timezone.now currency.now base_url.now ttl) result }
     {
         let system_id = Ident::tested(Field::SystemId, system_id)?;
         let language = Language::tested(Field::Language, language)?;
@@ -136,7 +136,8 @@ impl System {
         base_url: Ascii,
         ttl: TimeToLive,
     ) -> System
-        ensures { result ≡ system_of_fields system_id language name opening_hours feed_contact_email timezone currency base_url ttl }
+        ensures { result ≡ system_of_fields system_id language name opening_hours feed_contact_email timezone
+            currency base_url ttl }
     {
         System {
             system_id,

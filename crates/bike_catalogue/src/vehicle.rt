@@ -75,6 +75,8 @@ impl Propulsion {
 pub fn vehicle_laws()
     ensures form_sound { (text : List ℕ) (form : FormValue) → form_of text ≡ Some form → text ≡ form_text form }
     ensures form_full { (form : FormValue) → form_of (form_text form) ≡ Some form }
-    ensures propulsion_sound { (text : List ℕ) (propulsion : PropulsionValue) → propulsion_of text ≡ Some propulsion → text ≡ propulsion_text propulsion }
-    ensures propulsion_full { (propulsion : PropulsionValue) → propulsion_of (propulsion_text propulsion) ≡ Some propulsion }
+    ensures propulsion_sound { (text : List ℕ) (propulsion : PropulsionValue)
+        → propulsion_of text ≡ Some propulsion → text ≡ propulsion_text propulsion }
+    ensures propulsion_full { (propulsion : PropulsionValue)
+        → propulsion_of (propulsion_text propulsion) ≡ Some propulsion }
 {}

@@ -28,7 +28,14 @@ impl Model for VehicleType {
 
     ghost Value = { TypeRow };
 
-    ghost view = { λ a. record { type_id = a.type_id; name = a.name; form = a.form; propulsion = a.propulsion; max_range = a.max_range; plan_id = a.plan_id } };
+    ghost view = { λ a. record {
+      type_id = a.type_id;
+      name = a.name;
+      form = a.form;
+      propulsion = a.propulsion;
+      max_range = a.max_range;
+      plan_id = a.plan_id;
+    } };
 
     ghost invariant = { λ a. IsRange a.propulsion a.max_range };
 }
@@ -86,8 +93,10 @@ impl VehicleType {
         max_range: u32,
         plan_id: &str,
     ) -> Result<MaxRange, FieldFault>
-        ensures value { Tests (λ range. range) max_range (type_fault (type_of_fields type_id.now name.now form propulsion max_range plan_id.now)) result }
-        ensures good { IfOk result (λ range. IsType (type_of_fields type_id.now name.now form propulsion range plan_id.now)) }
+        ensures value { Tests (λ range. range) max_range
+            (type_fault (type_of_fields type_id.now name.now form propulsion max_range plan_id.now)) result }
+        ensures good { IfOk result
+            (λ range. IsType (type_of_fields type_id.now name.now form propulsion range plan_id.now)) }
     {
         let _ = form;
         let _ = Ident::tested(Field::TypeId, type_id)?;
@@ -108,7 +117,8 @@ impl VehicleType {
         plan_id: &str,
     ) -> Result<VehicleType, AllocError>
         requires { IsType (type_of_fields type_id.now name.now form propulsion max_range plan_id.now) }
-        ensures { IfOk result (λ made. made ≡ type_of_fields type_id.now name.now form propulsion max_range plan_id.now) }
+        ensures { IfOk result
+            (λ made. made ≡ type_of_fields type_id.now name.now form propulsion max_range plan_id.now) }
     {
         Ok(VehicleType {
             type_id: Ident::of(alloc, type_id)?,

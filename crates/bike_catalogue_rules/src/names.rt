@@ -126,7 +126,8 @@ impl NameJudge {
 
     /// How many names of the same thing there are with the line's, where it has a name which may follow those before it.
     fn next_run(&self, line: &Row) -> Option<u32>
-        ensures { result ≡ next_run self.now.own (option_and_then name_read self.now.last) self.now.run (name_read line.now) }
+        ensures { result ≡ next_run self.now.own (option_and_then name_read self.now.last) self.now.run
+            (name_read line.now) }
     {
         let name = read_name(Part::whole(line))?;
         let before = self.names_since(&name);

@@ -45,7 +45,8 @@ fn segment_name(line: &Row) -> Option<SegmentName<'_>>
 
 /// Whether a segment is the one after that in the line before.
 fn comes_after(before: &Option<Row>, segment: &SegmentName<'_>) -> bool
-    ensures { result ≡ comes_after (option_and_then segment_name before.now) (segment.now.plan.now, segment.now.number) }
+    ensures { result ≡ comes_after (option_and_then segment_name before.now)
+        (segment.now.plan.now, segment.now.number) }
 {
     let Some(line) = before else {
         return false;

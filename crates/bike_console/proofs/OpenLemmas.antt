@@ -25,7 +25,7 @@ use Rattle.bike_recognition.specs.Added.{has_added_unique}
 use Rattle.bike_console.specs.declared.end.Fault.{Fault}
 use Rattle.bike_console.specs.declared.end.Fault.TheVariants.{StoreFailed, Foreign}
 use Rattle.bike_console.specs.Ends.{open_fault}
-use Rattle.bike_console.specs.Files.{IsLoneLog, IsUnopened, TellsWhy}
+use Rattle.bike_console.specs.Files.{FindsBlank, IsBlank, IsLoneLog, IsUnopened, TellsWhy}
 
 -- a fault of the disk is one of the store, whatever its name
 named_told : (old new : Tally) → StoreFailed ≡ open_fault (store_error (named old new))
@@ -50,6 +50,9 @@ module _ {D : Type 0} {g : disk.Ghosts D} (image : Image) (files now : Files D) 
     told_of = refl;
     cause = inr (inr (record { files = files; bytes = bytes; now = now; lone = λ clean. subst IsLoneLog bytes (lone clean); keeps = leaves_both }));
   }
+
+  pub found_blank : (AreClean g now.log now.db → IsBlank (image_of g files)) → FindsBlank g image now
+  found_blank blank = record { files = files; bytes = bytes; blank = λ clean. subst IsBlank bytes (blank clean); keeps = leaves_both }
 
   pub unread : (told : Fault) → told ≡ StoreFailed → MoreFaults (faults_of g files) (faults_of g now) → IsUnopened g image told
   unread told is more =

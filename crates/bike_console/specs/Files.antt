@@ -1,5 +1,5 @@
 -- Why a file isn't open.
-use Rattle.std.specs.Prelude.{◌≡◌, ◌⊎◌, ◌≤◌, true, length, Result, Ok, Err}
+use Rattle.std.specs.Prelude.{◌≡◌, ◌⊎◌, ◌≤◌, ◌<◌, true, length, Result, Ok, Err}
 use Rattle.sqlite_disk.specs.declared.Disk as disk
 use Rattle.sqlite_disk.specs.declared.Files.{Files}
 use Rattle.sqlite_wal.specs.Recovery.{Image}
@@ -18,6 +18,8 @@ use Rattle.sqlite_trees.specs.Tree.{Trees}
 use Rattle.bike_operator.specs.Operator.{Operator}
 use Rattle.bike_schema.specs.Stands.{TreesStandFor}
 use Rattle.bike_recognition.specs.Added.{has_added_unique}
+use Rattle.bike_console.specs.declared.closing.Remains.{Remains}
+use Rattle.bike_console.specs.declared.closing.Remains.TheVariants.{Settled}
 use Rattle.bike_console.specs.declared.end.Fault.{Fault}
 use Rattle.bike_console.specs.declared.end.Fault.TheVariants.{OutOfMemory, StoreFailed, Foreign}
 use Rattle.bike_console.specs.Ends.{open_fault}
@@ -38,6 +40,22 @@ TellsBarred told = (e : Error) × (told ≡ open_fault e) × IsBarred e
 -- A LOG ALONE: the database file is empty, and its log is long enough to hold a commit.
 abbrev pub IsLoneLog : Image → Type 0
 IsLoneLog image = (length image.db ≡ 0) × (LEAST_LOG ≤ length image.log)
+
+-- A BLANK FILE: the database file has at most one byte, and its log is too short to hold a commit.
+abbrev pub IsBlank : Image → Type 0
+IsBlank image = (length image.db ≤ 1) × (length image.log < LEAST_LOG)
+
+-- Files that hold these bytes were opened, and are a blank file. They were only read.
+pub record FindsBlank {D : Type 0} (g : disk.Ghosts D) (image : Image) (now : Files D) : Type 0 where
+  pub files : Files D
+  pub bytes : image_of g files ≡ image
+  pub blank : AreClean g now.log now.db → IsBlank image
+  pub keeps : LeavesFiles {g = g} files (left.Files now)
+
+-- the files of a blank file, of which nothing was changed
+abbrev pub HoldsBlank : {D : Type 0} {g : disk.Ghosts D} → Image → Remains D g → Type 0
+HoldsBlank {g = g} image (Settled now) = FindsBlank g image now
+HoldsBlank image _ = ⊥
 
 module _ {D : Type 0} (g : disk.Ghosts D) (image : Image) where
   -- Files that hold these bytes were opened, and the engine could not go on. Where nothing else wrote to them, memory was refused, the disk failed

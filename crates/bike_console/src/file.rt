@@ -27,7 +27,11 @@ use std::io::ErrorKind;
 pub const LEAST_LOG: usize = 32 + 24 + 512;
 
 /// The log and the database file at a path, which are made where they are missing.
-fn open_pair<F: Start>(rt: &HostRuntime, path: &str, start: F) -> Result<Files<FileFrom<F>>, Fault>
+pub(crate) fn open_pair<F: Start>(
+    rt: &HostRuntime,
+    path: &str,
+    start: F,
+) -> Result<Files<FileFrom<F>>, Fault>
     ensures usable { IfOk result (λ files.
         IsTrue (file_is_usable F.Start files.log) × IsTrue (file_is_usable F.Start files.db)) }
     ensures fresh { IfOk result (λ files. IsFresh true files.log × IsFresh false files.db) }

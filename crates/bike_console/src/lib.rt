@@ -5,6 +5,7 @@
 #![tactic(auto)]
 
 mod blank;
+mod blank_file;
 mod closing;
 mod end;
 mod file;
@@ -12,9 +13,10 @@ mod pieces;
 mod place;
 mod progress;
 
+pub use blank_file::open_blank;
 pub use closing::{Remains, settle};
 pub use end::{Fault, exit_code};
 pub use file::{LEAST_LOG, open_file};
 pub use pieces::{put, put_number};
-pub use place::{NewLog, prepare_file};
+pub use place::{NewLog, may_be_blank, prepare_file};
 pub use progress::{Counted, Progress};

@@ -54,6 +54,34 @@ pub fn prepare_file(rt: &HostRuntime, path: &str, may_make: bool) -> Result<(), 
     Ok(())
 }
 
+/// The name of the log of the database file at a path; none where memory is refused.
+fn log_name(rt: &HostRuntime, path: &str) -> Option<String> {
+    let name = match fs::canonicalize(rt, path) {
+        Ok(real) => format!(in rt.alloc(); "{}-wal", real.as_str()),
+        Err(_) => format!(in rt.alloc(); "{path}-wal"),
+    };
+    match name {
+        Ok(name) => Some(name),
+        Err(_) => None,
+    }
+}
+
+/// Whether the database file at a path has at most one byte, beside a log that holds no commit, as their lengths say before they are
+/// opened.
+pub fn may_be_blank(rt: &HostRuntime, path: &str) -> bool {
+    match fs::metadata(rt, path) {
+        Ok(found) if is_plain(path) && found.len() <= 1 => {}
+        _ => return false,
+    }
+    let Some(log) = log_name(rt, path) else {
+        return false;
+    };
+    match fs::symlink_metadata(rt, log.as_str()) {
+        Ok(found) => found.len() < LEAST_LOG as u64,
+        Err(_) => true,
+    }
+}
+
 /// The name of the log of a database file that has none yet.
 #[derive(Drop)]
 pub struct NewLog {
@@ -63,12 +91,8 @@ pub struct NewLog {
 impl NewLog {
     /// The log that an opening of this path would make; none where there is one, or where its name can't be told.
     pub fn beside(rt: &HostRuntime, path: &str) -> NewLog {
-        let name = match fs::canonicalize(rt, path) {
-            Ok(real) => format!(in rt.alloc(); "{}-wal", real.as_str()),
-            Err(_) => format!(in rt.alloc(); "{path}-wal"),
-        };
-        match name {
-            Ok(name) if is_missing(rt, name.as_str()) => NewLog { name: Some(name) },
+        match log_name(rt, path) {
+            Some(name) if is_missing(rt, name.as_str()) => NewLog { name: Some(name) },
             _ => NewLog { name: None },
         }
     }

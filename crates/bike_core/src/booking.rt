@@ -56,7 +56,14 @@ pub(crate) fn fare_booked(entries: u32, row: &RentalView, now: Moment) -> Booked
     requires few { entries < MOST_ENTRIES }
     requires began { row.now.rental.start ≤ now }
     requires balance { IsBalance row.now.balance }
-    ensures entry { result.entry ≡ record { number = entries + 1; kind = kind.Fare; rider = row.now.rental.rider; rental = row.now.number; amount = fare_now row.now now; at = now } }
+    ensures entry { result.entry ≡ record {
+      number = entries + 1;
+      kind = kind.Fare;
+      rider = row.now.rental.rider;
+      rental = row.now.number;
+      amount = fare_now row.now now;
+      at = now;
+    } }
     ensures balance { result.balance ≡ row.now.balance +ℤ credit kind.Fare (fare_now row.now now) }
     ensures refunded { result.refunded ≡ None }
 {

@@ -140,7 +140,8 @@ pub(crate) fn decide_set_station<'a>(
     is_returning: bool,
 ) -> Decision<'a>
     ensures decides { DecidesOn view.now (command.SetStation station.now is_installed is_renting is_returning) result }
-    ensures found { IfOk result (FindsOn view.now (command.SetStation station.now is_installed is_renting is_returning)) }
+    ensures found { IfOk result
+        (FindsOn view.now (command.SetStation station.now is_installed is_renting is_returning)) }
 {
     if view.station.is_none() {
         return Err(Refusal::UnknownStation);

@@ -46,7 +46,8 @@ fn check_open_order(
     to_end: &OrderEnd,
     count: OrderQuantity,
 ) -> Result<OrderNumber, Refusal>
-    ensures tests { (truck : ℕ) (type_id : List ℕ) → refusal_in result ≡ first (tests view.now (command.OpenOrder truck from_end.now to_end.now type_id count)) }
+    ensures tests { (truck : ℕ) (type_id : List ℕ) → refusal_in result
+        ≡ first (tests view.now (command.OpenOrder truck from_end.now to_end.now type_id count)) }
     ensures number { IfOk result (λ n. n ≡ view.now.orders + 1) }
 {
     let Some(truck) = &view.truck else {
@@ -186,7 +187,8 @@ fn check_unload(
     side: Side,
     dock: UnloadDock,
 ) -> Result<Unloading<'_>, Refusal>
-    ensures tests { (bike : ℕ) → refusal_in result ≡ first (tests view.now (command.Unload truck order bike side dock)) }
+    ensures tests { (bike : ℕ)
+        → refusal_in result ≡ first (tests view.now (command.Unload truck order bike side dock)) }
     ensures order { IfOk result (λ u. view.now.order ≡ Some u.order.now) }
     ensures bike { IfOk result (λ u. view.now.bike ≡ Some u.bike.now) }
 {

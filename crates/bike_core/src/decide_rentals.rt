@@ -24,7 +24,8 @@ use bike_operator::{Bike, BikeState, DockedBike, NewPlace, RentalView, View};
 
 /// The bicycle that a rental takes from its dock, or the first refusal of a start.
 fn check_start(view: &View, dock: DockNumber) -> Result<&DockedBike, Refusal>
-    ensures tests { (rider : ℕ) (station : List ℕ) → refusal_in result ≡ first (tests view.now (command.Start rider station dock)) }
+    ensures tests { (rider : ℕ) (station : List ℕ)
+        → refusal_in result ≡ first (tests view.now (command.Start rider station dock)) }
     ensures docked { IfOk result (λ b. view.now.docked ≡ Some b.now) }
     ensures room { IfOk result (λ b. view.now.is_ledger_full ≡ false) }
 {
@@ -129,7 +130,8 @@ struct Ending<'a> {
 
 /// The rental that ends with its bicycle in a dock, or the first refusal of its end.
 fn check_end(view: &View, dock: DockNumber) -> Result<Ending<'_>, Refusal>
-    ensures tests { (bike : ℕ) (station : List ℕ) → refusal_in result ≡ first (tests view.now (command.End bike station dock)) }
+    ensures tests { (bike : ℕ) (station : List ℕ)
+        → refusal_in result ≡ first (tests view.now (command.End bike station dock)) }
     ensures bike { IfOk result (λ e. view.now.bike ≡ Some e.bike.now) }
     ensures rental { IfOk result (λ e. view.now.rental ≡ Some e.rental.now) }
     ensures station { IfOk result (λ e. IsSome view.now.station) }

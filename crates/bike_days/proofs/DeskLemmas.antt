@@ -42,6 +42,7 @@ module _ {S : Type 0} (g : Ghosts S) where
   stays_asked x q = record {
     clean = q.clean;
     same = λ clean s at. (q.ok clean s at).1;
+    rests = λ clean s at. q.rests clean s at q.goes_on;
     left = q.left;
     went_on = was_going x q;
     goes_on = q.goes_on;
@@ -51,6 +52,7 @@ module _ {S : Type 0} (g : Ghosts S) where
   stays_then {d} {e} {f} p q = record {
     clean = omega (arith, p.clean, q.clean);
     same = λ clean s at. q.same clean s (p.same (earlier e f q.clean clean) s at);
+    rests = λ clean s at. q.rests clean s (p.same (earlier e f q.clean clean) s at) ∙ p.rests (earlier e f q.clean clean) s at;
     left = λ clean s at db h. p.left (earlier e f q.clean clean) s at db (q.left clean s (p.same (earlier e f q.clean clean) s at) db h);
     went_on = p.went_on;
     goes_on = q.goes_on;
@@ -68,6 +70,7 @@ module _ {S : Type 0} (g : Ghosts S) where
     day = λ refused is. absurd cc;
     write = λ clean s at is. absurd cc;
     no_memory = λ clean s at is. subst (λ (x : DeskValue S). IsAt g x s) (sym (q.no_memory (told {A = A} {B = B} is))) at;
+    rests = q.rests;
     left = q.left;
     goes_on = tt;
     stops = λ is. q.stops (told {A = A} {B = B} is);
@@ -86,6 +89,7 @@ module _ {S : Type 0} (g : Ghosts S) where
     write = λ clean s at is. absurd cc;
     no_memory = λ clean s at is. subst (λ (x : DeskValue S). IsAt g x s) (sym (q.no_memory (told {A = A} {B = B} is)))
         (p.same (earlier e f q.clean clean) s at);
+    rests = λ clean s at on. q.rests clean s (p.same (earlier e f q.clean clean) s at) on ∙ p.rests (earlier e f q.clean clean) s at;
     left = λ clean s at db h. p.left (earlier e f q.clean clean) s at db (q.left clean s (p.same (earlier e f q.clean clean) s at) db h);
     goes_on = tt;
     stops = λ is. q.stops (told {A = A} {B = B} is);
@@ -101,6 +105,7 @@ module _ {S : Type 0} (g : Ghosts S) where
     day = λ refused is. absurd cc;
     write = λ clean s at is. absurd cc;
     no_memory = λ clean s at is. absurd cc;
+    rests = λ clean s at on. p.rests clean s at;
     left = p.left;
     goes_on = p.goes_on;
     stops = λ is. absurd cc;
@@ -116,6 +121,7 @@ module _ {S : Type 0} (g : Ghosts S) where
     day = λ refused is. absurd cc;
     write = λ clean s at is. p.same clean s at;
     no_memory = λ clean s at is. absurd cc;
+    rests = λ clean s at on. p.rests clean s at;
     left = p.left;
     goes_on = tt;
     stops = λ is. absurd cc;
@@ -131,6 +137,7 @@ module _ {S : Type 0} (g : Ghosts S) where
     day = λ refused is. absurd cc;
     write = λ clean s at is. absurd cc;
     no_memory = λ clean s at is. p.same clean s at;
+    rests = λ clean s at on. p.rests clean s at;
     left = p.left;
     goes_on = tt;
     stops = λ is. absurd cc;
@@ -146,6 +153,7 @@ module _ {S : Type 0} (g : Ghosts S) where
     day = λ refused is. refl;
     write = λ clean s at is. absurd cc;
     no_memory = λ clean s at is. absurd cc;
+    rests = λ clean s at on. refl;
     left = λ clean s at db h. h;
     goes_on = tt;
     stops = λ is. absurd cc;

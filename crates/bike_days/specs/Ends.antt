@@ -12,7 +12,7 @@ use Rattle.bike_operator.specs.Operator.{Operator}
 use Rattle.bike_schema.specs.Stands.{AllLeft}
 use Rattle.bike_desk.specs.declared.fault.DeskFault.{DeskFault}
 use Rattle.bike_desk.specs.declared.fault.DeskFault.TheVariants.{NoMemory, StoreFailed, Stopped}
-use Rattle.bike_desk.specs.Desk.{DeskValue, desk_state, IsAt}
+use Rattle.bike_desk.specs.Desk.{DeskValue, desk_state, IsAt, KeepsWhereGoing}
 use Rattle.bike_day_texts.specs.declared.table.DayTable.{DayTable}
 use Rattle.bike_days.specs.declared.fault.DayTableFault.{DayTableFault}
 use Rattle.bike_days.specs.declared.fault.DayTableFault.TheVariants.{Day, Write, Desk}
@@ -80,6 +80,7 @@ pub record LeavesDesk {S : Type 0} (g : Ghosts S) (old new : DeskValue S) {A : T
   pub day : (fault : DayFault) → result ≡ Err (Day fault) → new ≡ old
   pub write : HasCleanDisk (desk_state g new) → (s : Operator) → IsAt g old s → result ≡ Err Write → IsAt g new s
   pub no_memory : HasCleanDisk (desk_state g new) → (s : Operator) → IsAt g old s → result ≡ Err (Desk NoMemory) → IsAt g new s
+  pub rests : KeepsWhereGoing g old new
   -- whatever is answered, a crash may leave no more than before
   pub left : HasCleanDisk (desk_state g new) → (s : Operator) → IsAt g old s → AllLeft (desk_state g new) (desk_state g old).may_leave
   pub goes_on : OnOk result (new.is_stopped ≡ false)

@@ -7,15 +7,16 @@ use Rattle.sqlite.specs.State.{HasCleanDisk}
 use Rattle.bike_stream.specs.Writing.{AppendsFront}
 use Rattle.bike_operator.specs.Operator.{Operator}
 use Rattle.bike_schema.specs.Stands.{AllLeft}
-use Rattle.bike_desk.specs.Desk.{DeskValue, desk_state, IsAt}
+use Rattle.bike_desk.specs.Desk.{DeskValue, desk_state, IsAt, OfOperator, KeepsDatabase}
 use Rattle.bike_days.specs.declared.fault.DayTableFault.{DayTableFault}
 use Rattle.bike_days.specs.declared.fault.DayTableFault.TheVariants.{Day, Write, Desk}
 use Rattle.bike_days.specs.Ends.{AppendsUntil, LeavesDesk}
 
--- the desk was asked, goes on, and is at the operator at whom it was
+-- the desk was asked, goes on, and is at the operator at which it was
 pub record StaysAt {S : Type 0} (g : Ghosts S) (old new : DeskValue S) : Type 0 where
   pub clean : doubt (desk_state g old).is_clean ≤ doubt (desk_state g new).is_clean
   pub same : HasCleanDisk (desk_state g new) → (s : Operator) → IsAt g old s → IsAt g new s
+  pub rests : OfOperator g old new (λ s. KeepsDatabase g old new)
   pub left : HasCleanDisk (desk_state g new) → (s : Operator) → IsAt g old s → AllLeft (desk_state g new) (desk_state g old).may_leave
   pub went_on : old.is_stopped ≡ false
   pub goes_on : new.is_stopped ≡ false

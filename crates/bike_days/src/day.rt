@@ -14,7 +14,7 @@ use sqlite::Alter;
 use std::alloc::Global;
 use std::io::Write;
 
-/// Writes a day's table of the operator for whom the desk stands: its header, and the rows that lie in the day, by number.
+/// Writes a day's table of the operator for which the desk stands: its header, and the rows that lie in the day, by number.
 ///
 /// An entry lies in the day where it was booked, a rental in that where it ended; `day_bounds` tells the day of a date
 /// (`YYYY-MM-DD`) and a zone (POSIX's `TZ`). `Day` comes exactly where that refuses them, before the desk is asked, and then

@@ -50,7 +50,8 @@ fn write_rental<W: Write>(
     out: &mut W,
 ) -> Result<(), LineFault>
     ensures { (closing : ClosingInfo) → ended.now.1.closing ≡ Some closing
-        → WritesLine (W.contents out.old) (W.contents out.new) (ended_line (info_row ended.now.0 ended.now.1 closing)) result }
+        → WritesLine (W.contents out.old) (W.contents out.new)
+        (ended_line (info_row ended.now.0 ended.now.1 closing)) result }
 {
     let (number, info) = ended;
     let Some(closing) = &info.closing else {

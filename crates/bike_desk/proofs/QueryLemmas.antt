@@ -32,6 +32,7 @@ module _ {S : Type 0} (g : Ghosts S) (desk : DeskValue S) {A : Type 0} (says : O
   stopped_before is_stopped = record {
     clean = omega arith;
     ok = λ clean s at. tt;
+    rests = λ clean s at on. refl;
     goes_on = tt;
     left = λ clean s at db h. h;
     no_memory = λ is. refl;
@@ -44,6 +45,7 @@ module _ {S : Type 0} (g : Ghosts S) (desk : DeskValue S) {A : Type 0} (says : O
   no_room going = record {
     clean = omega arith;
     ok = λ clean s at. tt;
+    rests = λ clean s at on. refl;
     goes_on = tt;
     left = λ clean s at db h. h;
     no_memory = λ is. refl;
@@ -77,6 +79,7 @@ module _ {S : Type 0} (g : Ghosts S) (conn next : Held S) (stopped : Bool) (newe
             remembers = record { newest = told.0; figures = at.remembers.figures };
           },
         );
+    rests = λ clean s at on. (reads.same clean (kept_ours (state g conn) s at.keeps)).0.now_is;
     goes_on = going_stays stopped conn.in_transaction next.in_transaction going reads.quiet.mode;
     left = λ clean s at. quiet g conn next s at.keeps clean reads.quiet;
     no_memory = λ is. absurd cc;
@@ -93,6 +96,7 @@ module _ {S : Type 0} (g : Ghosts S) (conn next : Held S) (stopped : Bool) (newe
   failed tells e reads = record {
     clean = reads.quiet.survives.clean;
     ok = λ clean s at. tt;
+    rests = λ clean s at on. absurd (let e : true ≡ false = on in cc);
     goes_on = tt;
     left = λ clean s at. quiet g conn next s at.keeps clean reads.quiet;
     no_memory = λ is. absurd cc;
@@ -121,6 +125,7 @@ queries_then g old mid new one two enough =
     record {
       clean = omega (arith, one.clean, two.clean);
       ok = λ clean s at. two.ok clean s (one.ok (mid_clean clean) s at).1;
+      rests = λ clean s at on. two.rests clean s (one.ok (mid_clean clean) s at).1 on ∙ one.rests (mid_clean clean) s at one.goes_on;
       goes_on = two.goes_on;
       left = λ clean s at db h. one.left (mid_clean clean) s at db (two.left clean s (one.ok (mid_clean clean) s at).1 db h);
       no_memory = λ is. absurd (enough is);

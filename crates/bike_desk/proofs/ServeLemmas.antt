@@ -101,7 +101,7 @@ accepts_read db s t now q figures x a later texts sound it good decides found af
   texts_are = told;
 }
 
--- and the figures after it are his
+-- and the figures after it are the operator's
 pub figures_read : (s : Operator) (now : ℕ) (q : Request) (a : Accepted) {figures later : Figures} → FiguresFollow → figures ≡ figures_of s → Decides s now q.command (Ok a) → AreFound now s a → later ≡ figures_after figures now a
     → later ≡ figures_of (after_acceptance s now q)
 figures_read s now q a follow are decides found after = after ∙ ap (λ (f : Figures). figures_after f now a) are ∙ follow s now q a decides found

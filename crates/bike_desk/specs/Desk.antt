@@ -59,7 +59,7 @@ pub record IsRemembered (s : Operator) (r : Remembered) : Type 0 where
   pub newest : IsTrue r.newest_tells → NewestTells s
   pub figures : AreFigures r.figures s
 
--- The desk goes on; its tables and all that a crash may leave stand for the operator. What it remembers is so of him.
+-- The desk goes on; its tables and all that a crash may leave stand for the operator. What it remembers is so of that operator.
 pub record IsAt {S : Type 0} (g : Ghosts S) (d : DeskValue S) (s : Operator) : Type 0 where
   pub goes_on : d.is_stopped ≡ false
   pub keeps : Keeps (state g d.conn) s
@@ -68,3 +68,11 @@ pub record IsAt {S : Type 0} (g : Ghosts S) (d : DeskValue S) (s : Operator) : T
 -- So it is of the operator at which the desk was, where the disk is clean afterwards.
 abbrev pub OfOperator : {S : Type 0} → Ghosts S → DeskValue S → DeskValue S → (Operator → Type 0) → Type 0
 OfOperator g old new says = HasCleanDisk (desk_state g new) → (s : Operator) → IsAt g old s → says s
+
+-- The whole database is as it was.
+abbrev pub KeepsDatabase : {S : Type 0} → Ghosts S → DeskValue S → DeskValue S → Type 0
+KeepsDatabase g old new = (desk_state g new).now ≡ (desk_state g old).now
+
+-- So it is where the desk goes on.
+abbrev pub KeepsWhereGoing : {S : Type 0} → Ghosts S → DeskValue S → DeskValue S → Type 0
+KeepsWhereGoing g old new = OfOperator g old new (λ s. new.is_stopped ≡ false → KeepsDatabase g old new)

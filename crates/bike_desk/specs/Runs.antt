@@ -4,11 +4,15 @@ use Rattle.sqlite_trees.specs.Tree.{Trees}
 use Rattle.sqlite_trees.specs.declared.store.Store.{Ghosts}
 use Rattle.bike_commands.specs.declared.reply.Reply.{Reply}
 use Rattle.bike_operator.specs.Operator.{Operator}
-use Rattle.bike_operator.specs.Runs.{Call, after, replies}
+use Rattle.bike_operator.specs.Runs.{Call, step, after, replies}
 use Rattle.bike_schema.specs.Stands.{AllLeft, TreesStandFor}
 use Rattle.bike_desk.specs.declared.fault.DeskFault.{DeskFault}
 use Rattle.bike_desk.specs.declared.fault.DeskFault.TheVariants.{NoMemory, StoreFailed, Stopped}
 use Rattle.bike_desk.specs.Desk.{DeskValue, desk_state, IsAt, TreesStandForEither}
+
+-- what a crash may leave stands for the operator before or after the request
+abbrev pub LeavesEither : {S : Type 0} → Ghosts S → DeskValue S → Operator → Call → Type 0
+LeavesEither g desk s c = AllLeft (desk_state g desk) (TreesStandForEither s (step s c.0 c.1).1)
 
 module _ {S : Type 0} (g : Ghosts S) (desk : DeskValue S) (s : Operator) (calls : List Call) where
   -- the desk after k answers, as the fault of the next request tells, or of the room for replies; an unstopped desk is not told that it is stopped

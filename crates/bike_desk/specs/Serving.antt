@@ -37,7 +37,7 @@ pub record IsAsked (asked : Asked) : Type 0 where
   pub caller : asked.caller.now ≡ caller_text asked.request.now.caller
   pub text : asked.text.now ≡ text_of asked.request.now.command
 
--- The connection keeps the operator, and the row changes lead from his tables to those of the next one, who is sound.
+-- The connection keeps the operator, and the row changes lead from its tables to those of the next one, which is sound.
 pub record IsNextBy (c : State) (changes : List RowChange) (s next : Operator) : Type 0 where
   pub keeps : Keeps c s
   pub stores : Stores c.now s
@@ -58,7 +58,7 @@ pub record IsReadFor (db : Database) (s : Operator) (moment now : ℕ) (q : Requ
   pub view_is : x.view ≡ view_of s q.command
   pub sight : IsSightOf db s q.command x
 
--- The operator accepts the request so, and then is sound; the records before are his, the sums those with its entry, and the texts those of both.
+-- The operator accepts the request so, and then is sound; the records before are its own, the sums those with its entry, and the texts those of both.
 pub record Accepts (s : Operator) (now : ℕ) (q : Request) (a : Accepted) (sums : Sums) (texts : KeptTexts) : Type 0 where
   pub decides : Decides s now q.command (Ok a)
   pub found : AreFound now s a

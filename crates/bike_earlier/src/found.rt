@@ -114,7 +114,8 @@ fn find_by_meta_row<S: Alter>(
     alloc: Global,
     conn: &mut Connection<S>,
 ) -> Result<Found, StatementFault>
-    ensures { ReadsWhere S.Store (TableStands Meta) conn.old conn.new result (λ db found. IsByVersion db (meta_version db) found) }
+    ensures { ReadsWhere S.Store (TableStands Meta) conn.old conn.new result
+        (λ db found. IsByVersion db (meta_version db) found) }
 {
     let told = find_version(conn)?;
     find_by_row(alloc, conn, told)

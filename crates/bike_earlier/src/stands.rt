@@ -49,7 +49,8 @@ fn stations_stand<S: Alter>(
     conn: &mut Connection<S>,
     earlier: Earlier,
 ) -> Result<bool, StatementFault>
-    ensures { ReadsAny S.Store conn.old conn.new result (λ db stands. IsTrue stands ↔ Stands db 1 (stations_layout earlier)) }
+    ensures { ReadsAny S.Store conn.old conn.new result
+        (λ db stands. IsTrue stands ↔ Stands db 1 (stations_layout earlier)) }
 {
     check_open(conn)?;
     if !has_stations(alloc, conn.schema(), earlier)? {
@@ -87,7 +88,8 @@ pub fn stands_at<S: Alter>(
     earlier: Earlier,
     table: TableName,
 ) -> Result<bool, StatementFault>
-    ensures { ReadsAny S.Store conn.old conn.new result (λ db stands. IsTrue stands ↔ StandsAt earlier db (table_named table)) }
+    ensures { ReadsAny S.Store conn.old conn.new result
+        (λ db stands. IsTrue stands ↔ StandsAt earlier db (table_named table)) }
 {
     if !has_table(earlier, table) {
         check_open(conn)?;

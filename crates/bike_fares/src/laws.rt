@@ -8,7 +8,8 @@ ghost use Rattle.bike_fares.specs.Pricing.{fare_of, greatest_fare, AreSegments, 
 /// rider.
 pub fn greatest_fare_law()
     ensures low { (plan : PlanRow) (start end : ℕ) → pos 0 ≤ℤ fare_of plan start end }
-    ensures high { (plan : PlanRow) (start end : ℕ) → IsPlan plan → AreSegments plan.segments → fare_of plan start end ≤ℤ greatest_fare }
+    ensures high { (plan : PlanRow) (start end : ℕ) → IsPlan plan → AreSegments plan.segments
+        → fare_of plan start end ≤ℤ greatest_fare }
 {}
 
 /// The law of a segment's minutes: those at which it charges before its end are its start, and each minute

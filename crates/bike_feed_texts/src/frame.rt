@@ -38,7 +38,8 @@ pub fn open_list<W: Output>(
     name: &str,
 ) -> Result<(), WriteFault>
     requires { IsAt json.old Level.Start [] }
-    ensures wrote { Wrote json.old json.new (W.contents out.old) (W.contents out.new) (list_head_text system.now moment name.now) }
+    ensures wrote { Wrote json.old json.new (W.contents out.old) (W.contents out.new)
+        (list_head_text system.now moment name.now) }
     ensures place { IsAt json.new Level.EmptyArray in_list }
     ensures outcome { is_ok result ≡ not json.new.failed }
 {

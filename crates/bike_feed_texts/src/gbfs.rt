@@ -47,7 +47,8 @@ fn url_of(system: &System, feed: Feed) -> ArrayString<URL_ROOM>
 fn write_link<W: Output>(json: &mut JsonState, out: &mut W, system: &System, feed: &Feed)
     requires value { IsTrue (takes_value json.old.top) }
     requires room { length json.old.round < 16 }
-    ensures wrote { WroteValue json.old json.new (W.contents out.old) (W.contents out.new) (link_tree system.now feed.now) }
+    ensures wrote { WroteValue json.old json.new (W.contents out.old) (W.contents out.new)
+        (link_tree system.now feed.now) }
     ensures place { IsAt json.new (after_value json.old.top) json.old.round }
 {
     let url = url_of(system, *feed);
@@ -61,7 +62,8 @@ fn write_link<W: Output>(json: &mut JsonState, out: &mut W, system: &System, fee
 fn write_links<W: Output>(json: &mut JsonState, out: &mut W, system: &System, feeds: &[Feed])
     requires top { json.old.top ≡ Level.EmptyArray }
     requires room { length json.old.round < 16 }
-    ensures wrote { Wrote json.old json.new (W.contents out.old) (W.contents out.new) (items_text false (items (link_tree system.now) feeds.now)) }
+    ensures wrote { Wrote json.old json.new (W.contents out.old) (W.contents out.new)
+        (items_text false (items (link_tree system.now) feeds.now)) }
     ensures place { IsTrue (takes_array_end json.new.top) × (json.new.round ≡ json.old.round) }
 {
     for feed in feeds {

@@ -31,18 +31,24 @@ pub fn further_name_laws()
 /// The text of a feed whose data are a list: what `open_list` writes, the elements with commas between them, and what `close_list`
 /// writes. Of the system's, what `open_information` writes, the languages, and what `close_information` writes.
 pub fn list_text_laws()
-    ensures system_information { (s : Operator) (x : SystemRow) (seconds : ℕ) → text_of (feed_tree s x Feed.SystemInformation seconds)
-        ≡ information_head_text x seconds
-        ++ (items_text false (items text (x.language ∷ further_languages s)) ++ information_end_text x (further_names s named.System x.system_id)) }
-    ensures vehicle_types { (s : Operator) (x : SystemRow) (seconds : ℕ) → text_of (feed_tree s x Feed.VehicleTypes seconds)
-        ≡ list_head_text x seconds (codes "vehicle_types") ++ (items_text false (items (type_element s x) (values s.types)) ++ list_end_text) }
-    ensures station_information { (s : Operator) (x : SystemRow) (seconds : ℕ) → text_of (feed_tree s x Feed.StationInformation seconds)
-        ≡ list_head_text x seconds (codes "stations") ++ (items_text false (items (station_element s x) (values s.stations)) ++ list_end_text) }
-    ensures station_status { (s : Operator) (x : SystemRow) (seconds : ℕ) → text_of (feed_tree s x Feed.StationStatus seconds)
-        ≡ list_head_text x seconds (codes "stations")
-        ++ (items_text false (items (λ station. status_tree (report_of station) (counts_of s station)) (values s.stations)) ++ list_end_text) }
-    ensures system_pricing_plans { (s : Operator) (x : SystemRow) (seconds : ℕ) → text_of (feed_tree s x Feed.SystemPricingPlans seconds)
-        ≡ list_head_text x seconds (codes "plans") ++ (items_text false (items (plan_element s x) (values s.plans)) ++ list_end_text) }
-    ensures system_regions { (s : Operator) (x : SystemRow) (seconds : ℕ) → text_of (feed_tree s x Feed.SystemRegions seconds)
-        ≡ list_head_text x seconds (codes "regions") ++ (items_text false (items (region_element s x) (values s.regions)) ++ list_end_text) }
+    ensures system_information { (s : Operator) (x : SystemRow) (seconds : ℕ)
+        → text_of (feed_tree s x Feed.SystemInformation seconds) ≡ information_head_text x seconds
+        ++ (items_text false (items text (x.language ∷ further_languages s))
+        ++ information_end_text x (further_names s named.System x.system_id)) }
+    ensures vehicle_types { (s : Operator) (x : SystemRow) (seconds : ℕ)
+        → text_of (feed_tree s x Feed.VehicleTypes seconds) ≡ list_head_text x seconds (codes "vehicle_types")
+        ++ (items_text false (items (type_element s x) (values s.types)) ++ list_end_text) }
+    ensures station_information { (s : Operator) (x : SystemRow) (seconds : ℕ)
+        → text_of (feed_tree s x Feed.StationInformation seconds) ≡ list_head_text x seconds (codes "stations")
+        ++ (items_text false (items (station_element s x) (values s.stations)) ++ list_end_text) }
+    ensures station_status { (s : Operator) (x : SystemRow) (seconds : ℕ)
+        → text_of (feed_tree s x Feed.StationStatus seconds) ≡ list_head_text x seconds (codes "stations")
+        ++ (items_text false (items (λ station. status_tree (report_of station) (counts_of s station))
+        (values s.stations)) ++ list_end_text) }
+    ensures system_pricing_plans { (s : Operator) (x : SystemRow) (seconds : ℕ)
+        → text_of (feed_tree s x Feed.SystemPricingPlans seconds) ≡ list_head_text x seconds (codes "plans")
+        ++ (items_text false (items (plan_element s x) (values s.plans)) ++ list_end_text) }
+    ensures system_regions { (s : Operator) (x : SystemRow) (seconds : ℕ)
+        → text_of (feed_tree s x Feed.SystemRegions seconds) ≡ list_head_text x seconds (codes "regions")
+        ++ (items_text false (items (region_element s x) (values s.regions)) ++ list_end_text) }
 {}

@@ -26,7 +26,8 @@ pub(crate) fn text_member<W: Output>(json: &mut JsonState, out: &mut W, name: &s
 /// A whole number.
 pub(crate) fn whole_member<W: Output>(json: &mut JsonState, out: &mut W, name: &str, number: u32)
     requires { IsTrue (takes_name json.old.top) }
-    ensures wrote { WroteMember json.old json.new (W.contents out.old) (W.contents out.new) name.now (whole (pos number)) }
+    ensures wrote { WroteMember json.old json.new (W.contents out.old) (W.contents out.new) name.now
+        (whole (pos number)) }
     ensures place { IsAt json.new Level.FilledObject json.old.round }
 {
     let _ = json.name(out, name);
@@ -51,7 +52,8 @@ pub(crate) fn micro_member<W: Output>(
     coordinate: Micro,
 )
     requires { IsTrue (takes_name json.old.top) }
-    ensures wrote { WroteMember json.old json.new (W.contents out.old) (W.contents out.new) name.now (micro coordinate) }
+    ensures wrote { WroteMember json.old json.new (W.contents out.old) (W.contents out.new) name.now
+        (micro coordinate) }
     ensures place { IsAt json.new Level.FilledObject json.old.round }
 {
     let _ = json.name(out, name);
@@ -76,7 +78,8 @@ pub(crate) fn moment_member<W: Output>(
     moment: Moment,
 )
     requires { IsTrue (takes_name json.old.top) }
-    ensures wrote { WroteMember json.old json.new (W.contents out.old) (W.contents out.new) name.now (moment_tree moment) }
+    ensures wrote { WroteMember json.old json.new (W.contents out.old) (W.contents out.new) name.now
+        (moment_tree moment) }
     ensures place { IsAt json.new Level.FilledObject json.old.round }
 {
     let text = moment.text();

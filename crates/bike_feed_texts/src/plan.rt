@@ -16,7 +16,8 @@ use bike_stream::WriteFault;
 /// The minute at which a segment ends, where it does.
 fn end_member<W: Output>(json: &mut JsonState, out: &mut W, end: Option<u32>)
     requires { json.old.top ≡ Level.FilledObject }
-    ensures wrote { WroteMembers json.old json.new (W.contents out.old) (W.contents out.new) (members (end_members end)) }
+    ensures wrote { WroteMembers json.old json.new (W.contents out.old) (W.contents out.new)
+        (members (end_members end)) }
     ensures place { IsAt json.new Level.FilledObject json.old.round }
 {
     match end {
@@ -43,7 +44,8 @@ fn write_segment<W: Output>(json: &mut JsonState, out: &mut W, segment: &Segment
 fn write_segments<W: Output>(json: &mut JsonState, out: &mut W, segments: &[Segment])
     requires top { json.old.top ≡ Level.EmptyArray }
     requires room { length json.old.round < 16 }
-    ensures wrote { Wrote json.old json.new (W.contents out.old) (W.contents out.new) (items_text false (items segment_tree segments.now)) }
+    ensures wrote { Wrote json.old json.new (W.contents out.old) (W.contents out.new)
+        (items_text false (items segment_tree segments.now)) }
     ensures place { IsTrue (takes_array_end json.new.top) × (json.new.round ≡ json.old.round) }
 {
     for segment in segments {
@@ -55,7 +57,8 @@ fn write_segments<W: Output>(json: &mut JsonState, out: &mut W, segments: &[Segm
 fn segments_member<W: Output>(json: &mut JsonState, out: &mut W, name: &str, segments: &[Segment])
     requires name { IsTrue (takes_name json.old.top) }
     requires room { length json.old.round < 15 }
-    ensures wrote { WroteMember json.old json.new (W.contents out.old) (W.contents out.new) name.now (array (items segment_tree segments.now)) }
+    ensures wrote { WroteMember json.old json.new (W.contents out.old) (W.contents out.new) name.now
+        (array (items segment_tree segments.now)) }
     ensures place { IsAt json.new Level.FilledObject json.old.round }
 {
     let _ = json.name(out, name);
@@ -68,7 +71,8 @@ fn segments_member<W: Output>(json: &mut JsonState, out: &mut W, name: &str, seg
 fn pricing_member<W: Output>(json: &mut JsonState, out: &mut W, segments: &[Segment])
     requires top { json.old.top ≡ Level.FilledObject }
     requires room { length json.old.round < 15 }
-    ensures wrote { WroteMembers json.old json.new (W.contents out.old) (W.contents out.new) (members (pricing_members segments.now)) }
+    ensures wrote { WroteMembers json.old json.new (W.contents out.old) (W.contents out.new)
+        (members (pricing_members segments.now)) }
     ensures place { IsAt json.new Level.FilledObject json.old.round }
 {
     if !segments.is_empty() {

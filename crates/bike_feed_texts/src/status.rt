@@ -27,7 +27,7 @@ pub struct TypeCount {
 pub struct Counts<'a> {
     /// The bicycles that are fit and in a dock that isn't broken.
     pub available: u32,
-    /// The same of each vehicle type of the system.
+    /// Of these, how many there are of each vehicle type of the system.
     pub by_type: &'a [TypeCount],
     /// The other bicycles in its docks.
     pub disabled: u32,
@@ -68,7 +68,8 @@ fn write_type_count<W: Output>(json: &mut JsonState, out: &mut W, count: &TypeCo
 fn write_type_counts<W: Output>(json: &mut JsonState, out: &mut W, counts: &[TypeCount])
     requires top { json.old.top ≡ Level.EmptyArray }
     requires room { length json.old.round < 16 }
-    ensures wrote { Wrote json.old json.new (W.contents out.old) (W.contents out.new) (items_text false (items type_count_tree counts.now)) }
+    ensures wrote { Wrote json.old json.new (W.contents out.old) (W.contents out.new)
+        (items_text false (items type_count_tree counts.now)) }
     ensures place { IsTrue (takes_array_end json.new.top) × (json.new.round ≡ json.old.round) }
 {
     for count in counts {
@@ -85,7 +86,8 @@ fn type_counts_member<W: Output>(
 )
     requires name { IsTrue (takes_name json.old.top) }
     requires room { length json.old.round < 15 }
-    ensures wrote { WroteMember json.old json.new (W.contents out.old) (W.contents out.new) name.now (array (items type_count_tree counts.now)) }
+    ensures wrote { WroteMember json.old json.new (W.contents out.old) (W.contents out.new) name.now
+        (array (items type_count_tree counts.now)) }
     ensures place { IsAt json.new Level.FilledObject json.old.round }
 {
     let _ = json.name(out, name);
@@ -97,7 +99,8 @@ fn type_counts_member<W: Output>(
 fn counts_members<W: Output>(json: &mut JsonState, out: &mut W, counts: &Counts<'_>)
     requires top { json.old.top ≡ Level.FilledObject }
     requires room { length json.old.round < 15 }
-    ensures wrote { WroteMembers json.old json.new (W.contents out.old) (W.contents out.new) (members (counts_members (counts_row counts.now))) }
+    ensures wrote { WroteMembers json.old json.new (W.contents out.old) (W.contents out.new)
+        (members (counts_members (counts_row counts.now))) }
     ensures place { IsAt json.new Level.FilledObject json.old.round }
 {
     whole_member(json, out, "num_vehicles_available", counts.available);
@@ -116,7 +119,8 @@ fn while_installed(station: &StationReport<'_>, flag: bool) -> bool
 
 fn report_members<W: Output>(json: &mut JsonState, out: &mut W, station: &StationReport<'_>)
     requires { json.old.top ≡ Level.FilledObject }
-    ensures wrote { WroteMembers json.old json.new (W.contents out.old) (W.contents out.new) (members (report_members (report_row station.now))) }
+    ensures wrote { WroteMembers json.old json.new (W.contents out.old) (W.contents out.new)
+        (members (report_members (report_row station.now))) }
     ensures place { IsAt json.new Level.FilledObject json.old.round }
 {
     flag_member(json, out, "is_installed", station.is_installed);

@@ -23,7 +23,8 @@ pub fn open_information<W: Output>(
     moment: Moment,
 ) -> Result<(), WriteFault>
     requires { IsAt json.old Level.Start [] }
-    ensures wrote { Wrote json.old json.new (W.contents out.old) (W.contents out.new) (information_head_text system.now moment) }
+    ensures wrote { Wrote json.old json.new (W.contents out.old) (W.contents out.new)
+        (information_head_text system.now moment) }
     ensures place { IsAt json.new Level.EmptyArray in_list }
     ensures outcome { is_ok result ≡ not json.new.failed }
 {
@@ -51,7 +52,8 @@ pub fn write_language<W: Output>(
 /// The system's name, with its further names, and how it is reached.
 fn contact<W: Output>(json: &mut JsonState, out: &mut W, system: &System, names: &[MoreName])
     requires { IsAt json.old Level.FilledObject in_feed }
-    ensures wrote { WroteMembers json.old json.new (W.contents out.old) (W.contents out.new) (members (contact_members system.now names.now)) }
+    ensures wrote { WroteMembers json.old json.new (W.contents out.old) (W.contents out.new)
+        (members (contact_members system.now names.now)) }
     ensures place { IsAt json.new Level.FilledObject in_feed }
 {
     localized_member(json, out, "name", system, system.name(), names);
@@ -74,7 +76,8 @@ pub fn close_information<W: Output>(
 ) -> Result<(), WriteFault>
     requires array { IsTrue (takes_array_end json.old.top) }
     requires round { json.old.round ≡ in_list }
-    ensures wrote { Wrote json.old json.new (W.contents out.old) (W.contents out.new) (information_end_text system.now names.now) }
+    ensures wrote { Wrote json.old json.new (W.contents out.old) (W.contents out.new)
+        (information_end_text system.now names.now) }
     ensures place { IsAt json.new Level.Done [] }
     ensures outcome { is_ok result ≡ not json.new.failed }
 {

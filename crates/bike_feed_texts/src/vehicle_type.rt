@@ -13,7 +13,8 @@ use bike_stream::WriteFault;
 /// The greatest range in metres, where the propulsion has one.
 fn range_member<W: Output>(json: &mut JsonState, out: &mut W, propulsion: Propulsion, metres: u32)
     requires { json.old.top ≡ Level.FilledObject }
-    ensures wrote { WroteMembers json.old json.new (W.contents out.old) (W.contents out.new) (members (range_members propulsion metres)) }
+    ensures wrote { WroteMembers json.old json.new (W.contents out.old) (W.contents out.new)
+        (members (range_members propulsion metres)) }
     ensures place { IsAt json.new Level.FilledObject json.old.round }
 {
     match propulsion {

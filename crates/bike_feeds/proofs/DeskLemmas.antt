@@ -1,5 +1,5 @@
 -- What the desk is after its questions.
-use Rattle.std.proofs.Common.{◌≡◌, ◌≢◌, ◌≤◌, Bool, true, false, IsTrue, None, Result, Ok, Err, sym, ap, ◌∙◌, subst, arith}
+use Rattle.std.proofs.Common.{◌≡◌, ◌≢◌, ◌≤◌, Bool, true, false, IsTrue, None, Result, Ok, Err, refl, sym, ap, ◌∙◌, subst, arith}
 use Rattle.std.specs.Result.{IsErrAnd}
 use Rattle.sqlite_trees.specs.View.{doubt}
 use Rattle.sqlite_trees.specs.declared.store.Store.{Ghosts}
@@ -43,6 +43,7 @@ module _ {S : Type 0} (g : Ghosts S) where
   stays_still d going = record {
     clean = omega arith;
     same = λ clean s at. at;
+    rests = λ clean s at. refl;
     left = λ clean s at db h. h;
     went_on = going;
     goes_on = going;
@@ -53,6 +54,7 @@ module _ {S : Type 0} (g : Ghosts S) where
   stays_asked x going q = record {
     clean = q.clean;
     same = λ clean s at. (q.ok clean s at).1;
+    rests = λ clean s at. q.rests clean s at q.goes_on;
     left = q.left;
     went_on = going;
     goes_on = q.goes_on;
@@ -62,6 +64,7 @@ module _ {S : Type 0} (g : Ghosts S) where
   stays_then {d} {e} {f} p q = record {
     clean = omega (arith, p.clean, q.clean);
     same = λ clean s at. q.same clean s (p.same (earlier e f q.clean clean) s at);
+    rests = λ clean s at. q.rests clean s (p.same (earlier e f q.clean clean) s at) ∙ p.rests (earlier e f q.clean clean) s at;
     left = λ clean s at db h. p.left (earlier e f q.clean clean) s at db (q.left clean s (p.same (earlier e f q.clean clean) s at) db h);
     went_on = p.went_on;
     goes_on = q.goes_on;
@@ -76,6 +79,7 @@ module _ {S : Type 0} (g : Ghosts S) where
     missing = λ clean s at is. absurd cc;
     write = λ clean s at is. absurd cc;
     no_memory = λ clean s at is. subst (λ (x : DeskValue S). IsAt g x s) (sym (q.no_memory (told is))) (p.same (earlier e f q.clean clean) s at);
+    rests = λ clean s at on. q.rests clean s (p.same (earlier e f q.clean clean) s at) on ∙ p.rests (earlier e f q.clean clean) s at;
     left = λ clean s at db h. p.left (earlier e f q.clean clean) s at db (q.left clean s (p.same (earlier e f q.clean clean) s at) db h);
     goes_on = tt;
     stops = λ is. q.stops (told is);
@@ -91,6 +95,7 @@ module _ {S : Type 0} (g : Ghosts S) where
     missing = λ clean s at is. absurd cc;
     write = λ clean s at is. absurd cc;
     no_memory = λ clean s at is. absurd cc;
+    rests = λ clean s at on. p.rests clean s at;
     left = p.left;
     goes_on = p.goes_on;
     stops = λ is. absurd cc;
@@ -106,6 +111,7 @@ module _ {S : Type 0} (g : Ghosts S) where
     missing = λ clean s at is. absurd cc;
     write = λ clean s at is. p.same clean s at;
     no_memory = λ clean s at is. absurd cc;
+    rests = λ clean s at on. p.rests clean s at;
     left = p.left;
     goes_on = tt;
     stops = λ is. absurd cc;
@@ -115,7 +121,7 @@ module _ {S : Type 0} (g : Ghosts S) where
 
   -- a desk that was asked and left as it is told stays
   pub left_well : {A : Type 0} {d e : DeskValue S} (x : A) → d.is_stopped ≡ false → LeavesDesk g d e (Ok x) → StaysAt g d e
-  left_well x going l = record { clean = l.clean; same = l.same; left = l.left; went_on = going; goes_on = l.goes_on }
+  left_well x going l = record { clean = l.clean; same = l.same; rests = λ clean s at. l.rests clean s at l.goes_on; left = l.left; went_on = going; goes_on = l.goes_on }
 
   -- no system is set
   pub leaves_missing : {A : Type 0} {d e : DeskValue S} → StaysAt g d e → (HasCleanDisk (desk_state g e) → (s : Operator) → IsAt g d s → s.system ≡ None)
@@ -126,6 +132,7 @@ module _ {S : Type 0} (g : Ghosts S) where
     missing = λ clean s at is. (none clean s at, p.same clean s at);
     write = λ clean s at is. absurd cc;
     no_memory = λ clean s at is. absurd cc;
+    rests = λ clean s at on. p.rests clean s at;
     left = p.left;
     goes_on = tt;
     stops = λ is. absurd cc;
@@ -142,6 +149,7 @@ module _ {S : Type 0} (g : Ghosts S) where
     missing = λ clean s at is. l.missing clean s (p.same (earlier e f l.clean clean) s at) is;
     write = λ clean s at is. l.write clean s (p.same (earlier e f l.clean clean) s at) is;
     no_memory = λ clean s at is. l.no_memory clean s (p.same (earlier e f l.clean clean) s at) is;
+    rests = λ clean s at on. l.rests clean s (p.same (earlier e f l.clean clean) s at) on ∙ p.rests (earlier e f l.clean clean) s at;
     left = λ clean s at db h. p.left (earlier e f l.clean clean) s at db (l.left clean s (p.same (earlier e f l.clean clean) s at) db h);
     goes_on = tt;
     stops = l.stops;
@@ -157,6 +165,7 @@ module _ {S : Type 0} (g : Ghosts S) where
     missing = λ clean s at is. l.missing clean s at (same_fault is);
     write = λ clean s at is. l.write clean s at (same_fault is);
     no_memory = λ clean s at is. l.no_memory clean s at (same_fault is);
+    rests = l.rests;
     left = l.left;
     goes_on = tt;
     stops = λ is. l.stops (same_fault is);

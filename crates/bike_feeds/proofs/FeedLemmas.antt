@@ -149,6 +149,7 @@ leaves_first {S} g fault q = record {
   missing = λ clean s at is. absurd cc;
   write = λ clean s at is. absurd cc;
   no_memory = λ clean s at is. let same : fault ≡ NoMemory = cc in subst (λ (x : DeskValue S). IsAt g x s) (sym (q.no_memory (ap (λ (x : DeskFault). Err x) same))) at;
+  rests = q.rests;
   left = q.left;
   goes_on = tt;
   stops = λ is. let same : fault ≡ StoreFailed = cc in q.stops (ap (λ (x : DeskFault). Err x) same);

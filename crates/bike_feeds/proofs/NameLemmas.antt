@@ -51,6 +51,7 @@ module _ {S A : Type 0} (g : Ghosts S) {says : Operator → A → Type 0} {d e :
   answers_so x y means query = record {
     clean = query.clean;
     ok = λ clean s at. (means s (query.ok clean s at).0, (query.ok clean s at).1);
+    rests = query.rests;
     goes_on = query.goes_on;
     left = query.left;
     no_memory = λ is. absurd cc;
@@ -69,6 +70,7 @@ pub tells_so : {S A : Type 0} (g : Ghosts S) {says so : Operator → A → Type 
 tells_so g r means query = record {
   clean = query.clean;
   ok = λ clean s at. if_ok r (λ x h. (means s x h.0, h.1)) (query.ok clean s at);
+  rests = query.rests;
   goes_on = query.goes_on;
   left = query.left;
   no_memory = query.no_memory;
@@ -84,6 +86,7 @@ module _ {S A C : Type 0} (g : Ghosts S) {says : Operator → A → Type 0} {so 
   fails_so fault (Err other) told query = record {
     clean = query.clean;
     ok = λ clean s at. tt;
+    rests = query.rests;
     goes_on = tt;
     left = query.left;
     no_memory = λ is. query.no_memory (told_of fault other told is);
@@ -106,6 +109,7 @@ module _ {S A B C : Type 0} (g : Ghosts S) {says : Operator → A → Type 0} {a
   fails_behind x fault (Err other) told going first second takes_none = record {
     clean = omega (arith, first.clean, second.clean);
     ok = λ clean s at. tt;
+    rests = λ clean s at on. let before = earlier g e f second.clean clean in second.rests clean s (first.ok before s at).1 on ∙ first.rests before s at first.goes_on;
     goes_on = tt;
     left = λ clean s at db h.
         let before = earlier g e f second.clean clean in
@@ -125,6 +129,7 @@ module _ {S A B C : Type 0} (g : Ghosts S) {says : Operator → A → Type 0} {a
         let one = first.ok (earlier g e f second.clean clean) s at in
         let two = second.ok clean s one.1 in
         (means s one.0 two.0, two.1);
+    rests = λ clean s at on. let before = earlier g e f second.clean clean in second.rests clean s (first.ok before s at).1 on ∙ first.rests before s at first.goes_on;
     goes_on = second.goes_on;
     left = λ clean s at db h.
         let before = earlier g e f second.clean clean in
@@ -141,6 +146,7 @@ pub unasked : {S A : Type 0} (g : Ghosts S) {says : Operator → A → Type 0} {
 unasked g x going means = record {
   clean = omega arith;
   ok = λ clean s at. (means s, at);
+  rests = λ clean s at on. refl;
   goes_on = going;
   left = λ clean s at db h. h;
   no_memory = λ is. absurd cc;

@@ -13,7 +13,7 @@ use Rattle.bike_feed_texts.specs.declared.feed.Feed.{Feed}
 use Rattle.bike_feed_texts.specs.Trees.{feed_tree}
 use Rattle.bike_schema.specs.Stands.{AllLeft}
 use Rattle.bike_desk.specs.declared.fault.DeskFault.TheVariants.{NoMemory, StoreFailed, Stopped}
-use Rattle.bike_desk.specs.Desk.{DeskValue, desk_state, IsAt, OfOperator}
+use Rattle.bike_desk.specs.Desk.{DeskValue, desk_state, IsAt, OfOperator, KeepsWhereGoing}
 use Rattle.bike_feeds.specs.declared.fault.FeedFault.{FeedFault}
 use Rattle.bike_feeds.specs.declared.fault.FeedFault.TheVariants.{SystemMissing, Write, Desk}
 
@@ -52,6 +52,7 @@ pub record LeavesDesk {S : Type 0} (g : Ghosts S) (old new : DeskValue S) {A : T
   pub missing : OfOperator g old new (λ s. result ≡ Err SystemMissing → (s.system ≡ None) × IsAt g new s)
   pub write : OfOperator g old new (λ s. result ≡ Err Write → IsAt g new s)
   pub no_memory : OfOperator g old new (λ s. result ≡ Err (Desk NoMemory) → IsAt g new s)
+  pub rests : KeepsWhereGoing g old new
   -- whatever is answered, a crash may leave no more than before
   pub left : OfOperator g old new (λ s. AllLeft (desk_state g new) (desk_state g old).may_leave)
   pub goes_on : OnOk result (new.is_stopped ≡ false)

@@ -14,15 +14,16 @@ use Rattle.bike_feed_texts.specs.declared.feed.Feed.{Feed}
 use Rattle.bike_feed_texts.specs.Elements.{CountsRow}
 use Rattle.bike_queries.specs.declared.counts.Counts.{Counts}
 use Rattle.bike_schema.specs.Stands.{AllLeft}
-use Rattle.bike_desk.specs.Desk.{DeskValue, desk_state, IsAt, OfOperator}
+use Rattle.bike_desk.specs.Desk.{DeskValue, desk_state, IsAt, OfOperator, KeepsDatabase}
 use Rattle.bike_feeds.specs.declared.fault.FeedFault.{FeedFault}
 use Rattle.bike_feeds.specs.declared.fault.FeedFault.TheVariants.{Write}
 use Rattle.bike_feeds.specs.Publishing.{LeavesDesk, WantsNoMemory, feed_text}
 
--- the desk was asked, goes on, and is at the operator at whom it was
+-- the desk was asked, goes on, and is at the operator at which it was
 pub record StaysAt {S : Type 0} (g : Ghosts S) (old new : DeskValue S) : Type 0 where
   pub clean : doubt (desk_state g old).is_clean ≤ doubt (desk_state g new).is_clean
   pub same : OfOperator g old new (λ s. IsAt g new s)
+  pub rests : OfOperator g old new (λ s. KeepsDatabase g old new)
   pub left : OfOperator g old new (λ s. AllLeft (desk_state g new) (desk_state g old).may_leave)
   pub went_on : old.is_stopped ≡ false
   pub goes_on : new.is_stopped ≡ false

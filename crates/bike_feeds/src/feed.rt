@@ -78,7 +78,7 @@ fn publish<S: Alter, W: Output>(
     write_of_system(alloc, desk, &system, feed, moment, json, out)
 }
 
-/// Writes the feed for a moment: the text of the operator for whom the desk stands, and nothing else.
+/// Writes the feed for a moment: the text of the operator for which the desk stands, and nothing else.
 ///
 /// `SystemMissing` comes exactly where no system is set, and then nothing is written; after `Write` or a fault of the desk a front of
 /// the text is. What is kept never changes. `Write` leaves the desk as it was, `StoreFailed` stops it, also where memory is

@@ -24,7 +24,8 @@ pub enum DayFault {
 /// The moment at which a date begins in the zone, unless it lies before 1970-01-01T00:00:00Z.
 fn begin_of(date: Date, zone: &TimeZone<'_>) -> Option<Moment>
     requires { IsCovered (epoch_day date) }
-    ensures begins { IfSome result (λ moment. BeginsAt (plain_zone zone.now) (epoch_day date) (pos moment *ℤ pos 1_000_000_000)) }
+    ensures begins { IfSome result
+        (λ moment. BeginsAt (plain_zone zone.now) (epoch_day date) (pos moment *ℤ pos 1_000_000_000)) }
     ensures before { IfNone result (BeginsBefore1970 (plain_zone zone.now) (epoch_day date)) }
 {
     let midnight = date.to_datetime(Time::midnight());
@@ -52,7 +53,8 @@ fn digit(byte: u8) -> Option<u8>
 /// The number of two digits.
 fn pair(digits: (u8, u8)) -> Option<u8>
     ensures none { IfNone result (is_digit digits.0 && is_digit digits.1 ≡ false) }
-    ensures some { IfSome result (λ n. (is_digit digits.0 && is_digit digits.1 ≡ true) × (n ≡ pair_value digits.0 digits.1) × (n ≤ 99)) }
+    ensures some { IfSome result
+        (λ n. (is_digit digits.0 && is_digit digits.1 ≡ true) × (n ≡ pair_value digits.0 digits.1) × (n ≤ 99)) }
 {
     let high = digit(digits.0)?;
     let low = digit(digits.1)?;
@@ -74,8 +76,10 @@ fn date_of(century: u8, year: u8, month: u8, day: u8) -> Option<Date>
 
 /// The date that these pairs of digits spell.
 fn date_of_pairs(century: (u8, u8), year: (u8, u8), month: (u8, u8), day: (u8, u8)) -> Option<Date>
-    ensures some { IfSome result (IsNamed (date_parts (century.0 ∷ century.1 ∷ year.0 ∷ year.1 ∷ 45 ∷ month.0 ∷ month.1 ∷ 45 ∷ day.0 ∷ day.1 ∷ []))) }
-    ensures none { IfNone result (NamesDate (date_parts (century.0 ∷ century.1 ∷ year.0 ∷ year.1 ∷ 45 ∷ month.0 ∷ month.1 ∷ 45 ∷ day.0 ∷ day.1 ∷ [])) → ⊥) }
+    ensures some { IfSome result (IsNamed (date_parts
+        (century.0 ∷ century.1 ∷ year.0 ∷ year.1 ∷ 45 ∷ month.0 ∷ month.1 ∷ 45 ∷ day.0 ∷ day.1 ∷ []))) }
+    ensures none { IfNone result (NamesDate (date_parts
+        (century.0 ∷ century.1 ∷ year.0 ∷ year.1 ∷ 45 ∷ month.0 ∷ month.1 ∷ 45 ∷ day.0 ∷ day.1 ∷ [])) → ⊥) }
 {
     date_of(pair(century)?, pair(year)?, pair(month)?, pair(day)?)
 }

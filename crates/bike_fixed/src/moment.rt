@@ -75,6 +75,13 @@ impl Moment {
         self.seconds
     }
 
+    /// Tells the bound of a moment to a proof.
+    pub fn bounds(&self)
+        ensures { self.now ≤ last_moment }
+    {
+        let _seconds = self.seconds;
+    }
+
     /// The later of two moments, and the bound of the first.
     pub fn later(&self, other: &Moment) -> Moment
         ensures value { result ≡ max self.now other.now }

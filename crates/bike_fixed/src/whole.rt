@@ -59,10 +59,16 @@ pub fn signed_text(number: i64) -> ArrayString<20>
 /// The laws of reading: a number is read from a text exactly where the text is its decimal and it lies in the range, so
 /// its own text is read back.
 pub fn number_laws()
-    ensures sound { (low high : ℕ) (text : List ℕ) (n : ℕ) → number_of low high text ≡ Some n → IsNumber low high text n }
-    ensures full { (low high : ℕ) (text : List ℕ) (n : ℕ) → high < 2 ^ 64 → IsNumber low high text n → number_of low high text ≡ Some n }
-    ensures read_back { (low high n : ℕ) → high < 2 ^ 64 → low ≤ n → n ≤ high → number_of low high (decimal n) ≡ Some n }
-    ensures signed_sound { (low high : ℤ) (text : List ℕ) (z : ℤ) → signed_of low high text ≡ Some z → IsSignedNumber low high text z }
-    ensures signed_full { (low high : ℤ) (text : List ℕ) (z : ℤ) → FitsSigned w64 z → IsSignedNumber low high text z → signed_of low high text ≡ Some z }
-    ensures signed_read_back { (low high z : ℤ) → FitsSigned w64 z → low ≤ℤ z → z ≤ℤ high → signed_of low high (signed_decimal z) ≡ Some z }
+    ensures sound { (low high : ℕ) (text : List ℕ) (n : ℕ) → number_of low high text ≡ Some n
+        → IsNumber low high text n }
+    ensures full { (low high : ℕ) (text : List ℕ) (n : ℕ) → high < 2 ^ 64 → IsNumber low high text n
+        → number_of low high text ≡ Some n }
+    ensures read_back { (low high n : ℕ) → high < 2 ^ 64 → low ≤ n → n ≤ high
+        → number_of low high (decimal n) ≡ Some n }
+    ensures signed_sound { (low high : ℤ) (text : List ℕ) (z : ℤ) → signed_of low high text ≡ Some z
+        → IsSignedNumber low high text z }
+    ensures signed_full { (low high : ℤ) (text : List ℕ) (z : ℤ) → FitsSigned w64 z
+        → IsSignedNumber low high text z → signed_of low high text ≡ Some z }
+    ensures signed_read_back { (low high z : ℤ) → FitsSigned w64 z → low ≤ℤ z → z ≤ℤ high
+        → signed_of low high (signed_decimal z) ≡ Some z }
 {}

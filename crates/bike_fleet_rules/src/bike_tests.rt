@@ -117,7 +117,8 @@ fn is_carried(line: &Row, type_id: &str, truck: TruckNumber) -> bool
 
 /// Whether the bicycle may be where it is, if it is in a rental or on a truck.
 fn is_used(line: &Row, bike: BicycleNumber, type_id: &str, place: &StoredPlace<'_>) -> bool
-    ensures { result ≡ is_used bike type_id.now (place_of place.now) (rental_read (part 8 10 line.now)) (order_read (part 18 8 line.now)) }
+    ensures { result ≡ is_used bike type_id.now (place_of place.now) (rental_read (part 8 10 line.now))
+        (order_read (part 18 8 line.now)) }
 {
     match place {
         StoredPlace::Rental { rental: _ } => is_ridden(line, bike),

@@ -142,7 +142,8 @@ impl DockJudge {
 }
 
 impl Judge for DockJudge {
-    ghost says = { λ j lines verdict. option_map number_row (dock_pass (option_and_then docked_in j.last) j.found lines) ≡ verdict };
+    ghost says = { λ j lines verdict. option_map number_row
+        (dock_pass (option_and_then docked_in j.last) j.found lines) ≡ verdict };
 
     fn take(&mut self, line: &Row) -> Result<Option<BadKey>, StatementFault> {
         let Some(bike) = docked_bike(line) else {

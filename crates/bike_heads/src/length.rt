@@ -55,7 +55,8 @@ fn is_named(name: &[u8], wanted: &[u8]) -> bool
 fn field_at<'b>(bytes: &'b [u8], fields: &[HeaderSpan], at: usize) -> (&'b [u8], &'b [u8])
     requires at { at < length fields.now }
     requires within { All (IsHeaderWithin (length bytes.now)) fields.now }
-    ensures { (other : _) → (result.0.now, result.1.now) ≡ slice_index_or (map (header_bytes bytes.now) fields.now) at other }
+    ensures { (other : _)
+        → (result.0.now, result.1.now) ≡ slice_index_or (map (header_bytes bytes.now) fields.now) at other }
 {
     let field = fields[at];
     (field.name.of(bytes), field.value.of(bytes))

@@ -28,7 +28,7 @@ same_command : (text : List ℕ) → bytes_eq text text ≡ true
 same_command text = (bytes_eq-Decides text text).1 refl
 
 module _ (input : Option (List ℕ)) (s : Operator) (first : Response) (came : CameBefore input s first) where
-  -- its step is the first reply, and leaves the operator as he is
+  -- its step is the first reply, and leaves the operator as it is
   again_is : (t : ℕ) → step s t came.request ≡ ((step came.earlier came.moment came.request).0, s)
   again_is t =
       subst (λ (o : Operator). step o t came.request ≡ ((step came.earlier came.moment came.request).0, o)) (sym came.now)
@@ -66,7 +66,7 @@ module _ {S : Type 0} (g : Ghosts S) (d : DeskValue S) (s : Operator) (t : ℕ) 
 
   sent_again : (sent : Response) → TellsFor g d s t input sent → IsFirstOrNone first sent × (d.is_stopped ≡ false → IsAt g d s)
   sent_again sent told = elim told [
-    | inl none ↦ (inr none.0, λ going. none.1)
+    | inl none ↦ (inr none.0, λ going. none.2)
     | inr some ↦ told_again some.response sent some.next some.answers (tells_any g d s some.answers.asked some.told)
   ]
 

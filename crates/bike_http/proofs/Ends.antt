@@ -3,7 +3,7 @@ use Rattle.std.proofs.Common.{◌≡◌, inl, inr, ℕ, List, Option, Some, None
 use Rattle.sqlite_trees.specs.declared.store.Store.{Ghosts}
 use Rattle.bike_operator.specs.Operator.{Operator}
 use Rattle.bike_incoming.specs.declared.asked.Asked.{Asked}
-use Rattle.bike_incoming.specs.Received.{Received}
+use Rattle.bike_incoming.specs.Received.{Received, WantsMemory}
 use Rattle.bike_incoming.proofs.Once.{asks_once}
 use Rattle.bike_answers.specs.declared.answer.Answer.TheVariants as answer
 use Rattle.bike_feeds.specs.Desk.{DeskValue, IsAt}
@@ -46,10 +46,11 @@ module _ {S : Type 0} (g : Ghosts S) (d : DeskValue S) (s : Operator) (t : ℕ) 
     is_done (Err fault.Cut) h is = absurd (let wrong : 0 ≡ 200 = ap told_status is in omega (arith, wrong))
 
   -- memory was refused while it was read
-  pub refuses : (r : Result ℕ SendFault) → IsAt g d s → SendsAnswer before after answer.Unavailable r → Serves g d s t input before after (end_of_sending r)
-  refuses (Ok status) at h = (answered answer.Unavailable, inl (refl, at), h.0, h.1)
-  refuses (Err fault.Write) at h = (answered answer.Unavailable, inl (refl, at), h)
-  refuses (Err fault.Cut) at h = absurd h
+  pub refuses : (r : Result ℕ SendFault) → IfSome input WantsMemory → IsAt g d s → SendsAnswer before after answer.Unavailable r
+      → Serves g d s t input before after (end_of_sending r)
+  refuses (Ok status) wants at h = (answered answer.Unavailable, inl (refl, wants, at), h.0, h.1)
+  refuses (Err fault.Write) wants at h = (answered answer.Unavailable, inl (refl, wants, at), h)
+  refuses (Err fault.Cut) wants at h = absurd h
 
   pub never_done : (r : Result ℕ SendFault) → SendsAnswer before after answer.Unavailable r → end_of_sending r ≡ Ok (Status 200) → IsDone g d s t input
   never_done (Ok status) h is = absurd (let wrong : 200 ≡ 503 = sym (ap told_status is) ∙ h.0 in omega (arith, wrong))
@@ -83,7 +84,8 @@ module _ (input before after : Option (List ℕ)) where
   stopped_refuses asked received (Err fault.Cut) h = absurd h
 
   -- memory was refused while it was read
-  pub stopped_unread : (r : Result ℕ SendFault) → SendsAnswer before after answer.Unavailable r → Refuses input before after (end_of_sending r)
-  stopped_unread (Ok status) h = (answer.Unavailable, inl refl, h)
-  stopped_unread (Err fault.Write) h = (answer.Unavailable, inl refl, h)
-  stopped_unread (Err fault.Cut) h = absurd h
+  pub stopped_unread : (r : Result ℕ SendFault) → IfSome input WantsMemory → SendsAnswer before after answer.Unavailable r
+      → Refuses input before after (end_of_sending r)
+  stopped_unread (Ok status) wants h = (answer.Unavailable, inl (refl, wants), h)
+  stopped_unread (Err fault.Write) wants h = (answer.Unavailable, inl (refl, wants), h)
+  stopped_unread (Err fault.Cut) wants h = absurd h

@@ -50,6 +50,7 @@ module _ {S : Type 0} (g : Ghosts S) (old new : DeskValue S) {A B : Type 0} (say
   query_told x y tell q = record {
     clean = q.clean;
     ok = λ clean s at. (tell s (q.ok clean s at).0, (q.ok clean s at).1);
+    rests = q.rests;
     goes_on = q.goes_on;
     left = q.left;
     no_memory = λ is. absurd cc;
@@ -62,6 +63,7 @@ module _ {S : Type 0} (g : Ghosts S) (old new : DeskValue S) {A B : Type 0} (say
   query_failed e q = record {
     clean = q.clean;
     ok = λ clean s at. tt;
+    rests = q.rests;
     goes_on = tt;
     left = q.left;
     no_memory = λ is. q.no_memory (let same : e ≡ NoMemory = cc in ap Err same);

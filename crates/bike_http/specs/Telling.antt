@@ -8,10 +8,10 @@ use Rattle.bike_operator.specs.Operator.{Operator}
 use Rattle.bike_operator.specs.Runs.{step}
 use Rattle.bike_schema.specs.Stands.{AllLeft}
 use Rattle.bike_feed_texts.specs.declared.feed.Feed.{Feed}
-use Rattle.bike_feeds.specs.Desk.{DeskValue, desk_state, IsAt, TreesStandForEither}
+use Rattle.bike_feeds.specs.Desk.{DeskValue, desk_state, IsAt, TreesStandForEither, KeepsDatabase}
 use Rattle.bike_incoming.specs.declared.asked.Asked.{Asked}
 use Rattle.bike_incoming.specs.declared.asked.Asked.TheVariants.{Reject, Apply, Show, Publish}
-use Rattle.bike_incoming.specs.Received.{Received}
+use Rattle.bike_incoming.specs.Received.{Received, WantsMemory}
 use Rattle.bike_answers.specs.declared.answer.Answer.{Answer}
 use Rattle.bike_answers.specs.declared.answer.Answer.TheVariants as answer
 use Rattle.bike_answers.specs.Sent.{answer_text, Sends}
@@ -25,7 +25,7 @@ use Rattle.bike_http.specs.declared.exchange.ServeFault.TheVariants.{Read, Write
 
 -- ---- the desk
 
--- A request failed: the desk goes on at the operator before it, or it is stopped, and a crash leaves him or the one after it.
+-- A request failed: the desk goes on at the operator before it, or it is stopped, and a crash leaves it or the one after it.
 pub record IsUndone {S : Type 0} (g : Ghosts S) (d : DeskValue S) (s next : Operator) : Type 0 where
   pub goes_on : d.is_stopped ≡ false → IsAt g d s
   pub left : AllLeft (desk_state g d) (TreesStandForEither s next)
@@ -55,9 +55,10 @@ pub record TellsResponse {S : Type 0} (g : Ghosts S) (d : DeskValue S) (s : Oper
   pub answers : Answers input s t response next
   pub told : TellsAsked g d s answers.asked response next sent
 
--- the same of an input; where memory was refused while it was read, the desk is asked nothing
+-- What is told of an input; where memory was refused while it was read, as it may be for a whole request to act alone, the desk is
+-- asked nothing.
 abbrev pub TellsFor : {S : Type 0} → Ghosts S → DeskValue S → Operator → ℕ → Option (List ℕ) → Response → Type 0
-TellsFor g d s t input sent = ((sent ≡ unavailable) × IsAt g d s) ⊎ TellsResponse g d s t input sent
+TellsFor g d s t input sent = ((sent ≡ unavailable) × IfSome input WantsMemory × IsAt g d s) ⊎ TellsResponse g d s t input sent
 
 -- the input asks for something, and the desk is at the operator after it
 abbrev pub IsDone : {S : Type 0} → Ghosts S → DeskValue S → Operator → ℕ → Option (List ℕ) → Type 0
@@ -65,19 +66,20 @@ IsDone g d s t input = (response : Response) × (next : Operator) × Answers inp
 
 -- ---- the tables
 
--- what was asked leaves the operator as he is, and isn't a question
+-- what was asked leaves the operator as it is
 abbrev pub LeavesOperator : Operator → ℕ → Asked → Type 0
 LeavesOperator s t (Reject rejection) = Unit {0}
 LeavesOperator s t (Apply q) = (step s t q).1 ≡ s
-LeavesOperator s t (Show row) = ⊥
-LeavesOperator s t (Publish named) = ⊥
+LeavesOperator s t (Show row) = Unit {0}
+LeavesOperator s t (Publish named) = Unit {0}
 
 -- where it does, and the desk goes on, the whole database is as it was
 abbrev pub RestsAfter : {S : Type 0} → Ghosts S → DeskValue S → DeskValue S → Operator → ℕ → Asked → Type 0
 RestsAfter g old new s t asked =
-    LeavesOperator s t asked → new.is_stopped ≡ false → (desk_state g new).now ≡ (desk_state g old).now
+    LeavesOperator s t asked → new.is_stopped ≡ false → KeepsDatabase g old new
 
--- A REQUEST THAT CHANGES NOTHING of the operator, since it is rejected or refused or comes again, changes nothing of the database
+-- A REQUEST THAT CHANGES NOTHING of the operator, since it is rejected or refused, comes again or asks what is shown, changes nothing
+-- of the database
 abbrev pub LeavesTables : {S : Type 0} → Ghosts S → DeskValue S → DeskValue S → Operator → ℕ → Option (List ℕ) → Type 0
 LeavesTables g old new s t input =
     (asked : Asked) → IsSomeAnd input (λ bytes. Received bytes (Some asked)) → RestsAfter g old new s t asked
@@ -161,9 +163,9 @@ refusal_of (Apply q) = answer.Unavailable
 refusal_of (Show row) = answer.Unavailable
 refusal_of (Publish named) = answer.Unavailable
 
--- the same of an input; where memory was refused while it was read, there is no answer now
+-- What is sent of an input; where memory was refused while it was read, there is no answer now.
 abbrev pub RefusesWith : Option (List ℕ) → Answer → Type 0
-RefusesWith input a = (a ≡ answer.Unavailable) ⊎ ((asked : Asked) × IfSome input (λ bytes. Received bytes (Some asked)) × (a ≡ refusal_of asked))
+RefusesWith input a = ((a ≡ answer.Unavailable) × IfSome input WantsMemory) ⊎ ((asked : Asked) × IfSome input (λ bytes. Received bytes (Some asked)) × (a ≡ refusal_of asked))
 
 -- HOW AN EXCHANGE WITH A STOPPED DESK ENDS over an input
 abbrev pub Refuses : Option (List ℕ) → Option (List ℕ) → Option (List ℕ) → Result Served ServeFault → Type 0

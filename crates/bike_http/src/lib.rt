@@ -1,6 +1,6 @@
 //! One exchange of HTTP/1.1 over a desk: a request is read, the desk is asked, and the answer is written.
 //!
-//! What is answered is a function of the input's bytes, the operator for whom the desk stands and the moment. Once
+//! What is answered is a function of the input's bytes, the operator for which the desk stands and the moment. Once
 //! an answer with status 200 is written, the desk and all that a crash may leave stand for the operator after
 //! the request.
 #![tactic(auto)]

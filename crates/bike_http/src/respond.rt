@@ -3,7 +3,7 @@
 ghost use Rattle.std.specs.Prelude.{◌≡◌, ◌≤◌, IsTrue};
 ghost use Rattle.sqlite_trees.specs.View.{doubt};
 ghost use Rattle.bike_operator.specs.Sound.{IsCall};
-ghost use Rattle.bike_feeds.specs.Desk.{desk_state, OfOperator};
+ghost use Rattle.bike_feeds.specs.Desk.{desk_state, OfOperator, KeepsWhereGoing};
 ghost use Rattle.bike_feeds.specs.Queries.{Queries};
 ghost use Rattle.bike_feeds.specs.Publishing.{IsLength};
 ghost use Rattle.bike_http.specs.Shown.{shown_of};
@@ -59,7 +59,7 @@ fn act<S: Alter>(alloc: Global, desk: &mut Desk<S>, moment: Moment, request: &Re
 {
     // What is booked is a good request at a moment of the program.
     request.bounds();
-    let _ = moment.seconds();
+    moment.bounds();
     match desk.apply(alloc, moment, request) {
         Ok(reply) => Answer::Replied(reply),
         Err(_) => Answer::Unavailable,
@@ -83,6 +83,7 @@ fn show<S: Alter>(alloc: Global, desk: &mut Desk<S>, row: Shown) -> Answer
     ensures clean { doubt (desk_state S.Store desk.old).is_clean ≤ doubt (desk_state S.Store desk.new).is_clean }
     ensures told { OfOperator S.Store desk.old desk.new (λ s.
         Tells S.Store desk.new s (answered (shown_of s row)) s (answered result)) }
+    ensures rests { KeepsWhereGoing S.Store desk.old desk.new }
     ensures stays { IsTrue desk.old.is_stopped → desk.new ≡ desk.old }
     ensures refuses { IsTrue desk.old.is_stopped → result ≡ Answer.Unavailable }
 {
@@ -104,6 +105,7 @@ fn publish_whole<S: Alter, W: Write>(
     ensures clean { doubt (desk_state S.Store desk.old).is_clean ≤ doubt (desk_state S.Store desk.new).is_clean }
     ensures sent { OfOperator S.Store desk.old desk.new (λ s. IsLength s feed moment length
         → Publishes S.Store desk.new s moment feed (W.contents writer.old) (W.contents writer.new) result) }
+    ensures rests { KeepsWhereGoing S.Store desk.old desk.new }
     ensures stays { IsTrue desk.old.is_stopped → desk.new ≡ desk.old }
 {
     let head = head_text(200, None, length);
@@ -128,6 +130,7 @@ fn publish_counted<S: Alter, W: Write>(
     ensures clean { doubt (desk_state S.Store desk.old).is_clean ≤ doubt (desk_state S.Store desk.new).is_clean }
     ensures sent { OfOperator S.Store desk.old desk.new (λ s.
         Publishes S.Store desk.new s moment feed (W.contents writer.old) (W.contents writer.new) result) }
+    ensures rests { KeepsWhereGoing S.Store desk.old desk.new }
     ensures stays { IsTrue desk.old.is_stopped → desk.new ≡ desk.old }
     ensures refuses { IsTrue desk.old.is_stopped
         → SendsAnswer (W.contents writer.old) (W.contents writer.new) Answer.Unavailable result }
@@ -164,6 +167,7 @@ fn publish<S: Alter, W: Write>(
     ensures clean { doubt (desk_state S.Store desk.old).is_clean ≤ doubt (desk_state S.Store desk.new).is_clean }
     ensures sent { OfOperator S.Store desk.old desk.new (λ s.
         Publishes S.Store desk.new s moment feed (W.contents writer.old) (W.contents writer.new) result) }
+    ensures rests { KeepsWhereGoing S.Store desk.old desk.new }
     ensures stays { IsTrue desk.old.is_stopped → desk.new ≡ desk.old }
     ensures refuses { IsTrue desk.old.is_stopped
         → SendsAnswer (W.contents writer.old) (W.contents writer.new) Answer.Unavailable result }

@@ -10,13 +10,13 @@ use Rattle.bike_operator.specs.Runs.{Call, step, after, replies}
 use Rattle.bike_operator.specs.Sound.{IsCall, AreCalls, is_refused}
 use Rattle.bike_laws.proofs.RunLemmas.{after-append, replies-append}
 use Rattle.bike_schema.specs.Stands.{AllLeft, TreesStandFor}
-use Rattle.bike_desk.specs.Desk.{DeskValue, desk_state, IsAt}
+use Rattle.bike_desk.specs.Desk.{DeskValue, desk_state, IsAt, KeepsDatabase}
 use Rattle.bike_desk.specs.declared.fault.DeskFault.TheVariants.{NoMemory, StoreFailed, Stopped}
 use Rattle.bike_imports.specs.declared.fault.ImportFault.{ImportFault}
 use Rattle.bike_imports.specs.declared.fault.ImportFault.TheVariants.{BadHeader, Unreadable, Row, Read, TooManyRows, Desk}
 use Rattle.bike_imports.specs.Rows.{Record, header, call_of, ChangesNothing, AreCallsOf, AreAccepted, Accepts}
 use Rattle.bike_imports.specs.Tables.{StandsBehind, Takes, FindsNone, MeetsFault, MeetsHeaderFault}
-use Rattle.bike_imports.specs.Serving.{KeepsDatabase, ServesRow}
+use Rattle.bike_imports.specs.Serving.{ServesRow}
 use Rattle.bike_imports.specs.Imports.{AllChangeNothing, Imports, StandsAfterSome}
 use Rattle.bike_imports.proofs.Reading.{begins}
 

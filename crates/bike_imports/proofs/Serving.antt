@@ -13,13 +13,13 @@ use Rattle.bike_operator.specs.Operator.{Operator, Kept}
 use Rattle.bike_operator.specs.Steps.{refusal_of}
 use Rattle.bike_operator.specs.Runs.{Call, step, outcome_with_kept, outcome, key_in}
 use Rattle.bike_schema.specs.Stands.{AllLeft}
-use Rattle.bike_desk.specs.Desk.{DeskValue, desk_state, IsAt, TreesStandForEither}
+use Rattle.bike_desk.specs.Desk.{DeskValue, desk_state, IsAt, KeepsDatabase, TreesStandForEither}
 use Rattle.bike_desk.specs.declared.fault.DeskFault.{DeskFault}
 use Rattle.bike_desk.specs.declared.fault.DeskFault.TheVariants.{NoMemory, StoreFailed, Stopped}
 use Rattle.bike_imports.specs.declared.fault.ImportFault.{ImportFault}
 use Rattle.bike_imports.specs.declared.fault.ImportFault.TheVariants.{BadHeader, Unreadable, Row, Read, TooManyRows, Desk}
 use Rattle.bike_imports.specs.Rows.{Record, station_of, request_of, call_of, ChangesNothing}
-use Rattle.bike_imports.specs.Serving.{KeepsDatabase, ServesCall, ServesRow, MakesRequest}
+use Rattle.bike_imports.specs.Serving.{ServesCall, ServesRow, MakesRequest}
 
 -- what a `?` tells
 pub err_is : {A : Type 0} (result : Result A ImportFault) (fault : ImportFault) → IsErrAnd result (λ told. told ≡ fault) → result ≡ Err fault

@@ -8,8 +8,8 @@ use Rattle.bike_commands.specs.Requests.{IsRequest}
 use Rattle.bike_operator.specs.Operator.{Operator}
 use Rattle.bike_operator.specs.Runs.{Call, step}
 use Rattle.bike_operator.specs.Sound.{IsCall, is_refused}
-use Rattle.bike_schema.specs.Stands.{AllLeft}
-use Rattle.bike_desk.specs.Desk.{DeskValue, desk_state, IsAt, TreesStandForEither}
+use Rattle.bike_desk.specs.Desk.{DeskValue, IsAt}
+use Rattle.bike_desk.specs.Runs.{LeavesEither}
 use Rattle.bike_desk.specs.declared.fault.DeskFault.{DeskFault}
 use Rattle.bike_desk.specs.declared.fault.DeskFault.TheVariants.{NoMemory, StoreFailed, Stopped}
 use Rattle.bike_imports.specs.declared.fault.ImportFault.{ImportFault}
@@ -32,14 +32,6 @@ GoesOn new None = new.is_stopped ≡ false
 GoesOn new (Some NoMemory) = new.is_stopped ≡ false
 GoesOn new (Some StoreFailed) = IsTrue new.is_stopped
 GoesOn new (Some Stopped) = ⊥
-
--- the database is as it was
-abbrev pub KeepsDatabase : {S : Type 0} → Ghosts S → DeskValue S → DeskValue S → Type 0
-KeepsDatabase g old new = (desk_state g new).now ≡ (desk_state g old).now
-
--- what a crash may leave stands for the operator before or after the request
-abbrev pub LeavesEither : {S : Type 0} → Ghosts S → DeskValue S → Operator → Call → Type 0
-LeavesEither g desk s c = AllLeft (desk_state g desk) (TreesStandForEither s (step s c.0 c.1).1)
 
 module _ {S : Type 0} (g : Ghosts S) (new : DeskValue S) (s : Operator) where
   -- the store failed at the request: what it holds stands for the operator before or after it

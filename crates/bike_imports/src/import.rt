@@ -4,9 +4,9 @@ ghost use Rattle.std.specs.Prelude.{◌≡◌, ◌≢◌, ◌<◌, ◌≤◌, Er
 ghost use Rattle.std.specs.Io.KnownBytes.{Keeps};
 ghost use Rattle.sqlite_trees.specs.View.{doubt};
 ghost use Rattle.bike_schema.specs.Stands.{AllLeft};
-ghost use Rattle.bike_desk.specs.Desk.{desk_state, OfOperator};
+ghost use Rattle.bike_desk.specs.Desk.{desk_state, KeepsDatabase, OfOperator};
 ghost use Rattle.bike_desk.specs.Runs.{StopsBy};
-ghost use Rattle.bike_imports.specs.Serving.{desk_fault, KeepsDatabase};
+ghost use Rattle.bike_imports.specs.Serving.{desk_fault};
 ghost use Rattle.bike_imports.specs.Imports.{AllChangeNothing, Imports, StandsAfterSome};
 
 use crate::fault::ImportFault;

@@ -3,10 +3,9 @@
 ghost use Rattle.std.specs.Prelude.{◌≡◌, ◌≢◌, ◌≤◌, false, Some, Err};
 ghost use Rattle.csv.specs.Records.{fields_of};
 ghost use Rattle.sqlite_trees.specs.View.{doubt};
-ghost use Rattle.bike_fixed.specs.Whole.{last_moment};
-ghost use Rattle.bike_desk.specs.Desk.{desk_state, OfOperator};
+ghost use Rattle.bike_desk.specs.Desk.{desk_state, KeepsDatabase, OfOperator};
 ghost use Rattle.bike_imports.specs.Rows.{call_of, ChangesNothing};
-ghost use Rattle.bike_imports.specs.Serving.{desk_fault, GoesOn, KeepsDatabase, ServesCall, ServesRow};
+ghost use Rattle.bike_imports.specs.Serving.{desk_fault, GoesOn, ServesCall, ServesRow};
 
 use crate::fault::ImportFault;
 use crate::request::row_request;
@@ -17,13 +16,6 @@ use bike_fixed::Moment;
 use csv::StringRecord;
 use sqlite::Alter;
 use std::alloc::Global;
-
-/// A moment is at most the last one, as its type keeps it.
-fn moment_bounds(moment: Moment)
-    ensures { moment ≤ last_moment }
-{
-    let _ = moment.seconds();
-}
 
 /// Serves the request of the row of that number. An error where it isn't accepted.
 fn serve_request<S: Alter>(
@@ -66,7 +58,7 @@ pub fn import_row<S: Alter>(
         ChangesNothing s (call_of moment name.now number (fields_of row.now))
         → result ≢ Err (ImportFault.Desk DeskFault.StoreFailed) → KeepsDatabase S.Store desk.old desk.new) }
 {
-    moment_bounds(moment);
+    moment.bounds();
     let request = row_request(alloc, name, number, row)?;
     let served = serve_request(alloc, desk, moment, number, &request);
     drop(request);

@@ -2,13 +2,15 @@
 
 ghost use Rattle.std.specs.Prelude.{◌≡◌, IfOk, OnErr, option_map};
 ghost use Rattle.serde_json.specs.View.{view};
+ghost use Rattle.serde_json.specs.Data.{Data};
 ghost use Rattle.bike_incoming.specs.Asked.{object_of, application_of, request_of, is_method, asked_by_rider, asked_by_dock, asked_by_crew, asked_by_office, shown, got, asked_at, asked_for, IsPost, MayAct, ActsAt, IsToAct};
 ghost use Rattle.bike_incoming.specs.Bodies.{dock_command, crew_command, rider_in, station_in, truck_in};
+ghost use Rattle.bike_incoming.specs.Members.{key_in};
 
 use crate::body::{read_crew_command, read_dock_command, read_office, read_start};
 use crate::members::key_in;
 use bike_commands::{Command, Request};
-use bike_fields::{Caller, Ident};
+use bike_fields::{Caller, Ident, RequestKey};
 use bike_fixed::Within;
 use bike_heads::{Allow, Feed, Rejection, Route, Routes, Shown, path_of};
 use serde_json::Value;
@@ -81,9 +83,26 @@ fn read_object(alloc: Global, bytes: &[u8]) -> Result<Option<Value>, AllocError>
     }
 }
 
-/// The request of that caller whose key the body has; a member of the key or of the command that is missing, of another
-/// kind or out of its bounds is a bad field. An error is a want of memory.
+/// The request of that caller with the command and the key that a body has; one that is missing, of another kind or out of
+/// its bounds is a bad field.
 #[tactic(auto, unfolding(crate::specs::Asked::request_of))]
+fn applied(caller: Caller, command: Option<Command>, key: Option<RequestKey>) -> Asked
+    ensures { (body : Data) → key ≡ key_in body → result ≡ application_of (request_of caller command body) }
+{
+    let Some(key) = key else {
+        return Asked::Reject(Rejection::BadField);
+    };
+    match command {
+        Some(command) => Asked::Apply(Request {
+            caller,
+            key,
+            command,
+        }),
+        None => Asked::Reject(Rejection::BadField),
+    }
+}
+
+/// The request of that caller whose key the body has. An error is a want of memory.
 fn apply(
     alloc: Global,
     caller: Caller,
@@ -92,17 +111,9 @@ fn apply(
 ) -> Result<Asked, AllocError>
     ensures { IfOk result (λ asked. asked ≡ application_of (request_of caller command (view body.now))) }
 {
-    let Some(command) = command else {
-        return Ok(Asked::Reject(Rejection::BadField));
-    };
-    let Some(key) = key_in(alloc, body)? else {
-        return Ok(Asked::Reject(Rejection::BadField));
-    };
-    Ok(Asked::Apply(Request {
-        caller,
-        key,
-        command,
-    }))
+    // The key is read first, and a command is freed in one function alone: proofs of what is freed are the longest.
+    let key = key_in(alloc, body)?;
+    Ok(applied(caller, command, key))
 }
 
 /// A rider starts a rental.

@@ -28,7 +28,8 @@ fn add_next<S: Alter, F: LineFold>(
     lines: &mut F,
 ) -> Result<Step, StatementFault>
     ensures same_reference { rows.new.conn.ghost_name ≡ rows.old.conn.ghost_name }
-    ensures steps { (total : _) → Steps S.Store (ComesTo F.after total) rows.old.conn.now rows.new.conn.now lines.old lines.new result }
+    ensures steps { (total : _)
+        → Steps S.Store (ComesTo F.after total) rows.old.conn.now rows.new.conn.now lines.old lines.new result }
 {
     rows.advance()?;
     match rows.get() {

@@ -39,9 +39,12 @@ fn test_next<S: Alter, T: RowTest>(
 ) -> Result<Option<bool>, StatementFault>
     ensures same_reference { rows.new.conn.ghost_name ≡ rows.old.conn.ghost_name }
     ensures next { HasCleanDisk (state S.Store rows.new.conn.now) → IfOk result (λ next. (all given : List Row)
-        → HasRead S.Store all rows.old.conn.now given → TestsNext S.Store (T.test test.now) all rows.new.conn.now given next) }
-    ensures same { HasCleanDisk (state S.Store rows.new.conn.now) → OnOk result (IsUnchanged (state S.Store rows.old.conn.now) (state S.Store rows.new.conn.now)) }
-    ensures failed { HasCleanDisk (state S.Store rows.new.conn.now) → OnErr result (IsLeft (state S.Store rows.old.conn.now) (state S.Store rows.new.conn.now)) }
+        → HasRead S.Store all rows.old.conn.now given
+        → TestsNext S.Store (T.test test.now) all rows.new.conn.now given next) }
+    ensures same { HasCleanDisk (state S.Store rows.new.conn.now)
+        → OnOk result (IsUnchanged (state S.Store rows.old.conn.now) (state S.Store rows.new.conn.now)) }
+    ensures failed { HasCleanDisk (state S.Store rows.new.conn.now)
+        → OnErr result (IsLeft (state S.Store rows.old.conn.now) (state S.Store rows.new.conn.now)) }
     ensures mode { rows.old.conn.now.in_transaction ≡ false → rows.new.conn.now.in_transaction ≡ false }
     ensures survives { Survives (state S.Store rows.old.conn.now) (state S.Store rows.new.conn.now) (λ _. ⊥) }
 {

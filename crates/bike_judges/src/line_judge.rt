@@ -25,7 +25,8 @@ impl<T: LineTest> LineJudge<T> {
     pub fn new(test: T) -> LineJudge<T>
         ensures test { result.test ≡ test }
         ensures before { result.before ≡ 0 }
-        ensures says { (lines : List Row) (verdict : Option Row) → first_failing (T.test test) (T.key test) 0 lines ≡ verdict
+        ensures says { (lines : List Row) (verdict : Option Row)
+            → first_failing (T.test test) (T.key test) 0 lines ≡ verdict
             → first_failing (T.test result.test) (T.key result.test) result.before lines ≡ verdict }
     {
         LineJudge { test, before: 0 }

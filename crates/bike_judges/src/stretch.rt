@@ -26,7 +26,8 @@ impl<A: Account> StretchJudge<A> {
     pub fn new() -> StretchJudge<A>
         ensures account { result.account ≡ None }
         ensures closed { result.closed ≡ 0 }
-        ensures says { (lines : List Row) (verdict : Option Row) → pass A.begins A.more A.good A.key (take 1) None 0 lines ≡ verdict
+        ensures says { (lines : List Row) (verdict : Option Row)
+            → pass A.begins A.more A.good A.key (take 1) None 0 lines ≡ verdict
             → pass A.begins A.more A.good A.key (take 1) result.account result.closed lines ≡ verdict }
     {
         StretchJudge {

@@ -1,4 +1,4 @@
--- The operator of whom nothing was asked yet is sound.
+-- The operator of which nothing was asked yet is sound.
 use Rattle.std.proofs.Common.{◌≡◌, ℕ, zero, suc, List, [], ◌∷◌, length, true, Some, refl, sym, ap, ◌∙◌, arith}
 use Rattle.std.specs.FinMap as finmap
 use Rattle.std.specs.FinSet as finset

@@ -23,7 +23,8 @@ pub fn keeps_rentals()
 
 /// The law of soundness: a step keeps an operator sound.
 pub fn keeps_soundness()
-    ensures { (s : Operator) (t : ℕ) (q : Request) → t ≤ last_moment → IsRequest q → IsSound s → IsSound (step s t q).1 }
+    ensures { (s : Operator) (t : ℕ) (q : Request) → t ≤ last_moment → IsRequest q → IsSound s
+        → IsSound (step s t q).1 }
 {}
 
 /// The law of soundness over lists: every list of requests leaves a sound operator sound.
@@ -36,13 +37,14 @@ pub fn money_law()
     ensures { (s : Operator) → IsSound s → IsConserved (keys s.riders) s.entries }
 {}
 
-/// The law of money over lists: after every list of requests from the operator of whom nothing was asked, the
+/// The law of money over lists: after every list of requests from the operator of which nothing was asked, the
 /// balances of all riders and the revenue together are the cash.
 pub fn money_law_over_lists()
-    ensures { (cs : List Call) → AreCalls cs → IsConserved (keys (after no_operator cs).riders) (after no_operator cs).entries }
+    ensures { (cs : List Call) → AreCalls cs
+        → IsConserved (keys (after no_operator cs).riders) (after no_operator cs).entries }
 {}
 
-/// The operator of whom nothing was asked yet is sound.
+/// The operator of which nothing was asked yet is sound.
 pub fn no_operator_law()
     ensures { IsSound no_operator }
 {}
@@ -50,5 +52,6 @@ pub fn no_operator_law()
 /// The law of runs: a list that is served in two parts is served as one.
 pub fn run_law()
     ensures operator { (s : Operator) (cs ds : List Call) → after s (cs ++ ds) ≡ after (after s cs) ds }
-    ensures answers { (s : Operator) (cs ds : List Call) → replies s (cs ++ ds) ≡ replies s cs ++ replies (after s cs) ds }
+    ensures answers { (s : Operator) (cs ds : List Call)
+        → replies s (cs ++ ds) ≡ replies s cs ++ replies (after s cs) ds }
 {}

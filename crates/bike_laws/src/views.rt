@@ -15,7 +15,8 @@ ghost use Rattle.bike_laws.specs.Answers.{IsAcceptance};
 
 /// The law of views: the numbers of a view of a sound operator are bounded.
 pub fn view_law()
-    ensures { (s : Operator) (now : ℕ) (c : Command) → IsSound s → IsCommand c → s.now ≤ now → IsBounded (view_of s c) now }
+    ensures { (s : Operator) (now : ℕ) (c : Command) → IsSound s
+        → IsCommand c → s.now ≤ now → IsBounded (view_of s c) now }
 {}
 
 /// The law of the ledger's room: a sound operator has no more open rentals than bicycles, so that few entries leave room
@@ -23,7 +24,8 @@ pub fn view_law()
 pub fn ledger_room_law()
     ensures bikes { (s : Operator) → IsSound s → open_rentals s ≤ len s.bikes }
     ensures few { (s : Operator) → IsSound s → open_rentals s ≤ MOST_BIKES }
-    ensures room { (s : Operator) → IsSound s → length s.entries + MOST_BIKES < MOST_ENTRIES → has_full_ledger s ≡ false }
+    ensures room { (s : Operator) → IsSound s → length s.entries + MOST_BIKES < MOST_ENTRIES
+        → has_full_ledger s ≡ false }
 {}
 
 /// The law of replies: an accepted command of a sound operator is answered by a reply of the program, which

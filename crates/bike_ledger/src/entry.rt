@@ -38,17 +38,45 @@ impl Model for Entry {
 
     ghost Value = { EntryValue };
 
-    ghost view = { λ a. record { number = a.number; kind = a.kind; rider = a.rider; rental = a.rental; amount = a.amount; at = a.at } };
+    ghost view = { λ a. record {
+      number = a.number;
+      kind = a.kind;
+      rider = a.rider;
+      rental = a.rental;
+      amount = a.amount;
+      at = a.at;
+    } };
 
-    ghost invariant = { λ a. IsEntry (record { number = a.number; kind = a.kind; rider = a.rider; rental = a.rental; amount = a.amount; at = a.at }) };
+    ghost invariant = { λ a. IsEntry (record {
+      number = a.number;
+      kind = a.kind;
+      rider = a.rider;
+      rental = a.rental;
+      amount = a.amount;
+      at = a.at;
+    }) };
 
-    ghost inverse = { λ e. record { number = e.number; kind = e.kind; rider = e.rider; rental = e.rental; amount = e.amount; at = e.at } };
+    ghost inverse = { λ e. record {
+      number = e.number;
+      kind = e.kind;
+      rider = e.rider;
+      rental = e.rental;
+      amount = e.amount;
+      at = e.at;
+    } };
 }
 
 impl Entry {
     /// The entry of a top-up, of 1 to 1,000,000 hundredths.
     pub fn top_up(number: EntryNumber, rider: RiderNumber, amount: Payment, at: Moment) -> Entry
-        ensures { result ≡ record { number = number; kind = EntryKind.TopUp; rider = rider; rental = 0; amount = pos amount; at = at } }
+        ensures { result ≡ record {
+          number = number;
+          kind = EntryKind.TopUp;
+          rider = rider;
+          rental = 0;
+          amount = pos amount;
+          at = at;
+        } }
     {
         Entry {
             number,
@@ -70,7 +98,14 @@ impl Entry {
     ) -> Entry
         requires low { pos 0 ≤ℤ amount }
         requires high { amount ≤ℤ GREATEST_FARE }
-        ensures { result ≡ record { number = number; kind = EntryKind.Fare; rider = rider; rental = rental; amount = amount; at = at } }
+        ensures { result ≡ record {
+          number = number;
+          kind = EntryKind.Fare;
+          rider = rider;
+          rental = rental;
+          amount = amount;
+          at = at;
+        } }
     {
         let rental = some(rental);
         Entry {
@@ -91,7 +126,14 @@ impl Entry {
         amount: Payment,
         at: Moment,
     ) -> Entry
-        ensures { result ≡ record { number = number; kind = EntryKind.Refund; rider = rider; rental = rental; amount = pos amount; at = at } }
+        ensures { result ≡ record {
+          number = number;
+          kind = EntryKind.Refund;
+          rider = rider;
+          rental = rental;
+          amount = pos amount;
+          at = at;
+        } }
     {
         let rental = some(rental);
         Entry {

@@ -60,19 +60,26 @@ pub fn refundable(fare: Cents, refunded: Cents) -> Cents
 /// The law of one more entry: the balance of its rider changes by its credit and no other rider's does,
 /// and cash, revenue and the refunds of a rental change by what its kind adds.
 pub fn entry_law()
-    ensures balance { (es : List Entry) (e : Entry) (rider : ℕ) → balance_of rider (es ++ e ∷ []) ≡ balance_of rider es +ℤ share rider e }
-    ensures own { (es : List Entry) (e : Entry) → balance_of e.rider (es ++ e ∷ []) ≡ balance_of e.rider es +ℤ credit e.kind e.amount }
-    ensures others { (es : List Entry) (e : Entry) (rider : ℕ) → e.rider ≢ rider → balance_of rider (es ++ e ∷ []) ≡ balance_of rider es }
+    ensures balance { (es : List Entry) (e : Entry) (rider : ℕ)
+        → balance_of rider (es ++ e ∷ []) ≡ balance_of rider es +ℤ share rider e }
+    ensures own { (es : List Entry) (e : Entry)
+        → balance_of e.rider (es ++ e ∷ []) ≡ balance_of e.rider es +ℤ credit e.kind e.amount }
+    ensures others { (es : List Entry) (e : Entry) (rider : ℕ) → e.rider ≢ rider
+        → balance_of rider (es ++ e ∷ []) ≡ balance_of rider es }
     ensures cash { (es : List Entry) (e : Entry) → cash_of (es ++ e ∷ []) ≡ cash_of es +ℤ cash_in e.kind e.amount }
-    ensures revenue { (es : List Entry) (e : Entry) → revenue_of (es ++ e ∷ []) ≡ revenue_of es +ℤ revenue_in e.kind e.amount }
-    ensures refunded { (es : List Entry) (e : Entry) (rental : ℕ) → refunded_of rental (es ++ e ∷ []) ≡ refunded_of rental es +ℤ given_back_of rental e }
-    ensures any_sum { (figure : Entry → ℤ) (es : List Entry) (e : Entry) → total figure (es ++ e ∷ []) ≡ total figure es +ℤ figure e }
+    ensures revenue { (es : List Entry) (e : Entry)
+        → revenue_of (es ++ e ∷ []) ≡ revenue_of es +ℤ revenue_in e.kind e.amount }
+    ensures refunded { (es : List Entry) (e : Entry) (rental : ℕ)
+        → refunded_of rental (es ++ e ∷ []) ≡ refunded_of rental es +ℤ given_back_of rental e }
+    ensures any_sum { (figure : Entry → ℤ) (es : List Entry) (e : Entry)
+        → total figure (es ++ e ∷ []) ≡ total figure es +ℤ figure e }
 {}
 
 /// The law of bounds: fewer than `GREATEST_SERIAL` entries, of amounts that an entry may have, leave every balance,
 /// the cash and the revenue where one more entry can be added.
 pub fn bound_law()
-    ensures balance { (es : List Entry) (rider : ℕ) → AreAmounts es → length es < GREATEST_SERIAL → IsBalance (balance_of rider es) }
+    ensures balance { (es : List Entry) (rider : ℕ) → AreAmounts es → length es < GREATEST_SERIAL
+        → IsBalance (balance_of rider es) }
     ensures cash { (es : List Entry) → AreAmounts es → length es < GREATEST_SERIAL → IsBalance (cash_of es) }
     ensures revenue { (es : List Entry) → AreAmounts es → length es < GREATEST_SERIAL → IsBalance (revenue_of es) }
 {}

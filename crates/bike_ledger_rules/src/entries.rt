@@ -76,7 +76,8 @@ struct EntryJudge {
 impl EntryJudge {
     /// Whether it has the next number and room, its rider is there, and it is of the past.
     fn is_next(&self, entry: &StoredEntry) -> bool
-        ensures { result ≡ is_next (is_listed self.now.riders) self.now.moment self.now.riding self.now.before (entry_of entry.now) }
+        ensures { result ≡ is_next (is_listed self.now.riders) self.now.moment self.now.riding self.now.before
+            (entry_of entry.now) }
     {
         let is_next = u64::from(entry.number.get()).checked_sub(1) == Some(self.before);
         let has_room = match self.before.checked_add(self.riding) {
@@ -97,7 +98,8 @@ impl EntryJudge {
 }
 
 impl Judge for EntryJudge {
-    ghost says = { λ j lines verdict. first_bad (is_listed j.riders) j.moment j.riding j.fares j.before lines ≡ verdict };
+    ghost says = { λ j lines verdict. first_bad (is_listed j.riders) j.moment j.riding j.fares j.before lines
+        ≡ verdict };
 
     fn take(&mut self, line: &Row) -> Result<Option<BadKey>, StatementFault> {
         let Some(entry) = read_entry(Part::of(line, ENTRY_AT, entries::COLUMNS)) else {

@@ -115,7 +115,8 @@ pub(crate) fn read_riders<S: Alter>(
     alloc: Global,
     conn: &mut Connection<S>,
 ) -> Result<ByNumber<()>, StatementFault>
-    ensures { ReadsWhere S.Store IsOurs conn.old conn.new result (λ db riders. is_listed riders ≡ has_rider (tables_of db)) }
+    ensures { ReadsWhere S.Store IsOurs conn.old conn.new result
+        (λ db riders. is_listed riders ≡ has_rider (tables_of db)) }
 {
     let none = RiderSet {
         numbers: ByNumber::new(alloc),
@@ -129,7 +130,8 @@ fn read_bikes<S: Alter>(
     alloc: Global,
     conn: &mut Connection<S>,
 ) -> Result<ByNumber<Option<u32>>, StatementFault>
-    ensures { ReadsWhere S.Store IsOurs conn.old conn.new result (λ db bikes. value_at bikes ≡ bike_rental (tables_of db)) }
+    ensures { ReadsWhere S.Store IsOurs conn.old conn.new result
+        (λ db bikes. value_at bikes ≡ bike_rental (tables_of db)) }
 {
     let none = BikeSet {
         rentals: ByNumber::new(alloc),
@@ -140,7 +142,8 @@ fn read_bikes<S: Alter>(
 
 /// The identifiers of all plans.
 fn read_plans<S: Alter>(alloc: Global, conn: &mut Connection<S>) -> Result<Idents, StatementFault>
-    ensures { ReadsWhere S.Store IsOurs conn.old conn.new result (λ db plans. set.contains plans ≡ has_plan (tables_of db)) }
+    ensures { ReadsWhere S.Store IsOurs conn.old conn.new result
+        (λ db plans. set.contains plans ≡ has_plan (tables_of db)) }
 {
     let none = PlanSet {
         idents: Idents::new(alloc),
@@ -154,7 +157,8 @@ fn read_stations<S: Alter>(
     alloc: Global,
     conn: &mut Connection<S>,
 ) -> Result<Idents, StatementFault>
-    ensures { ReadsWhere S.Store IsOurs conn.old conn.new result (λ db stations. set.contains stations ≡ has_station (tables_of db)) }
+    ensures { ReadsWhere S.Store IsOurs conn.old conn.new result
+        (λ db stations. set.contains stations ≡ has_station (tables_of db)) }
 {
     let none = StationSet {
         idents: Idents::new(alloc),

@@ -58,7 +58,8 @@ impl RentalTest {
 
     /// Whether a closing is no earlier than the start, by the moment, and at a station that is there.
     fn closes(&self, start: Moment, closing: &StoredClosing<'_>) -> bool
-        ensures { result ≡ closes (set.contains self.now.names.stations) self.now.moment start (Some (closing_of closing.now)) }
+        ensures { result ≡ closes (set.contains self.now.names.stations) self.now.moment start
+            (Some (closing_of closing.now)) }
     {
         let is_stop = match closing.to_station {
             Some(station) => self.names.stations.contains(station),

@@ -12,11 +12,11 @@ use Rattle.bike_requests.specs.Spelling.{SpellsRequest}
 use Rattle.bike_operator.specs.Operator.{Operator}
 use Rattle.bike_operator.specs.Runs.{Call, step}
 use Rattle.bike_schema.specs.Stands.{AllLeft}
-use Rattle.bike_desk.specs.Desk.{DeskValue, desk_state, IsAt, TreesStandForEither}
+use Rattle.bike_desk.specs.Desk.{DeskValue, desk_state, IsAt, KeepsDatabase, TreesStandForEither}
 use Rattle.bike_desk.specs.declared.fault.DeskFault.{DeskFault}
 use Rattle.bike_desk.specs.declared.fault.DeskFault.TheVariants.{NoMemory, StoreFailed, Stopped}
 use Rattle.bike_lines.specs.Answers.{IsReadAs, ChangesNothing, after_line}
-use Rattle.bike_lines.specs.Serving.{RepliesAt, GoesOn, KeepsDatabase}
+use Rattle.bike_lines.specs.Serving.{RepliesAt, GoesOn}
 
 pub read_as : (line : List ℕ) (o : Option Call) → IfSome o (λ r. IsLine line r.0 r.1 × IsRequest r.1 × (r.0 ≤ last_moment)) → ((t : ℕ) (q : Request) → t ≤ last_moment → IsRequest q → IsLine line t q → o ≡ Some (t, q)) → IsReadAs line o
 read_as line (Some c) found only = found

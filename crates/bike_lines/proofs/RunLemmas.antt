@@ -12,7 +12,7 @@ use Rattle.bike_commands.specs.Replies.{reply_text}
 use Rattle.bike_commands.specs.Requests.{IsLine, line_length}
 use Rattle.bike_requests.specs.Spelling.{SpellsRequest}
 use Rattle.bike_schema.specs.Stands.{AllLeft}
-use Rattle.bike_desk.specs.Desk.{DeskValue, desk_state, IsAt, TreesStandForEither}
+use Rattle.bike_desk.specs.Desk.{DeskValue, desk_state, IsAt, KeepsDatabase, TreesStandForEither}
 use Rattle.bike_desk.specs.declared.fault.DeskFault.{DeskFault}
 use Rattle.bike_desk.specs.declared.fault.DeskFault.TheVariants.{NoMemory, StoreFailed, Stopped}
 use Rattle.bike_stream.specs.Lines.{lines_of, first_line, IsFree}
@@ -25,7 +25,8 @@ use Rattle.bike_stream.proofs.LineLemmas.{lines_next}
 use Rattle.bike_lines.specs.declared.fault.LinesFault.{LinesFault}
 use Rattle.bike_lines.specs.declared.fault.LinesFault.TheVariants.{Read, TooManyReads, Write, Desk}
 use Rattle.bike_lines.specs.Faults.{read_fault}
-use Rattle.bike_lines.specs.Serving.{RepliesAt, GoesOn, KeepsDatabase, LeavesEither}
+use Rattle.bike_desk.specs.Runs.{LeavesEither}
+use Rattle.bike_lines.specs.Serving.{RepliesAt, GoesOn}
 use Rattle.bike_lines.specs.Answers.{IsReadAs, AreReadAs, ChangesNothing, after_line, after_lines, answer, answers}
 use Rattle.bike_lines.specs.declared.lines.TheConstants.{MOST_READS}
 use Rattle.bike_lines.specs.Runs.{AreLinesOf, AllChangeNothing, IsReadTo, IsReadWhole, TakesMostReads, desk_fault, ServesSome, Answered, AnswersAll, BreaksOff, WantsMemory, DoesNothing, AnswersInto, FailsAt, RanLines}

@@ -15,7 +15,7 @@ use Rattle.bike_lines.specs.declared.fault.LinesFault.{LinesFault}
 use Rattle.bike_lines.specs.declared.fault.LinesFault.TheVariants.{Read, TooManyReads, Write, Desk}
 use Rattle.bike_lines.specs.declared.lines.TheConstants.{MOST_READS}
 use Rattle.bike_lines.specs.Answers.{IsReadAs, AreReadAs, ChangesNothing, after_line, after_lines, answer, answers}
-use Rattle.bike_lines.specs.Serving.{LeavesEither}
+use Rattle.bike_desk.specs.Runs.{LeavesEither}
 
 -- ---- the bytes of an input, as far as they are known
 

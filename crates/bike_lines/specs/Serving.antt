@@ -6,16 +6,12 @@ use Rattle.sqlite_trees.specs.View.{doubt}
 use Rattle.bike_commands.specs.declared.reply.Reply.{Reply}
 use Rattle.bike_requests.specs.Spelling.{SpellsRequest}
 use Rattle.bike_operator.specs.Operator.{Operator}
-use Rattle.bike_operator.specs.Runs.{Call, step}
-use Rattle.bike_schema.specs.Stands.{AllLeft}
-use Rattle.bike_desk.specs.Desk.{DeskValue, desk_state, IsAt, TreesStandForEither}
+use Rattle.bike_operator.specs.Runs.{Call}
+use Rattle.bike_desk.specs.Desk.{DeskValue, desk_state, IsAt, KeepsDatabase}
+use Rattle.bike_desk.specs.Runs.{LeavesEither}
 use Rattle.bike_desk.specs.declared.fault.DeskFault.{DeskFault}
 use Rattle.bike_desk.specs.declared.fault.DeskFault.TheVariants.{NoMemory, StoreFailed, Stopped}
 use Rattle.bike_lines.specs.Answers.{IsReadAs, ChangesNothing, reply_to, after_line}
-
--- what a crash may leave stands for the operator before or after the request
-abbrev pub LeavesEither : {S : Type 0} → Ghosts S → DeskValue S → Operator → Call → Type 0
-LeavesEither g desk s c = AllLeft (desk_state g desk) (TreesStandForEither s (step s c.0 c.1).1)
 
 module _ {S : Type 0} (g : Ghosts S) (old new : DeskValue S) where
   -- on a clean disk: the desk at an operator gives its reply to what the line is read as, or fails at the request of it
@@ -33,14 +29,10 @@ module _ {S : Type 0} (g : Ghosts S) (old new : DeskValue S) where
   GoesOn (Err StoreFailed) = IsTrue new.is_stopped
   GoesOn (Err Stopped) = ⊥
 
-  -- the database is as it was
-  abbrev pub KeepsDatabase : Type 0
-  KeepsDatabase = (desk_state g new).now ≡ (desk_state g old).now
-
   -- A line is served.
   pub record RepliesTo (line : List ℕ) (result : Result Reply DeskFault) : Type 0 where
     pub clean : doubt (desk_state g old).is_clean ≤ doubt (desk_state g new).is_clean
     pub goes_on : old.is_stopped ≡ false → GoesOn result
     pub replied : HasCleanDisk (desk_state g new) → (s : Operator) → IsAt g old s → RepliesAt line s result
     pub rests : HasCleanDisk (desk_state g new) → (s : Operator) → IsAt g old s → ChangesNothing s line
-        → result ≢ Err StoreFailed → KeepsDatabase
+        → result ≢ Err StoreFailed → KeepsDatabase g old new

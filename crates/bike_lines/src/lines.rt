@@ -4,9 +4,9 @@ ghost use Rattle.std.specs.Prelude.{◌≡◌, ◌≢◌, ◌≤◌, ◌++◌, �
 ghost use Rattle.std.specs.Io.KnownBytes.{Keeps};
 ghost use Rattle.sqlite_trees.specs.View.{doubt};
 ghost use Rattle.bike_commands.specs.Replies.{reply_text};
-ghost use Rattle.bike_desk.specs.Desk.{desk_state, OfOperator};
+ghost use Rattle.bike_desk.specs.Desk.{desk_state, KeepsDatabase, OfOperator};
 ghost use Rattle.bike_desk.specs.Runs.{StopsBy};
-ghost use Rattle.bike_lines.specs.Serving.{KeepsDatabase, RepliesTo};
+ghost use Rattle.bike_lines.specs.Serving.{RepliesTo};
 ghost use Rattle.bike_lines.specs.Runs.{AllChangeNothing, desk_fault, RanLines, ServesSome};
 
 use crate::fault::LinesFault;

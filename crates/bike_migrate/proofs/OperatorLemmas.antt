@@ -1,4 +1,4 @@
--- The tables at an earlier version are an operator's where, raised, they are his and no station has too many docks.
+-- The tables at an earlier version are an operator's where, raised, they are its own and no station has too many docks.
 use Rattle.std.proofs.Common.{◌≡◌, ◌≤◌, ℕ, pos, true, List, [], ◌∷◌, map, Option, Some, None, refl, sym, ap, subst, ◌∙◌}
 use Rattle.std.specs.Prelude.{option_map, IfSome}
 use Rattle.std.specs.FinMap as fin
@@ -40,7 +40,7 @@ few_docks : (docks : ℕ) → docks ≤ MOST_DOCKS_BEFORE → (id : List ℕ) (x
 few_docks docks few id x s is = le-leb x.row.docks MOST_DOCKS_BEFORE (subst (λ n. n ≤ MOST_DOCKS_BEFORE) (sym is) few)
 
 module _ (s : Operator) (m : Listed) where
-  -- his rows keep the bound
+  -- its rows keep the bound
   pub bound_kept : HasFewDocks s → (name : TableName) (key : Row) → KeepsBound (tables_for s m) name key
   bound_kept few Stations key = by (row_under (tables_for s m) Stations key) refl
     where
@@ -53,7 +53,7 @@ module _ (s : Operator) (m : Listed) where
           subst (λ r. has_few r ≡ true) (sym it.2) (few_docks it.0.1.row.docks (few it.0.0 it.0.1 got) it.0.0 it.0.1 s refl)
   bound_kept few name key = tt
 
-  -- and where they do, he has few docks
+  -- and where they do, it has few docks
   module _ (found : (id : List ℕ) → row_with 1 (Text id ∷ []) (tables_for s m).stations ≡ option_map (λ x. station_row id x (pos (docks_available s id x.row.docks)) (docks_broken s id x.row.docks)) (fin.get s.stations id)) where
     pub few_of : ((key : Row) → KeepsBound (tables_for s m) Stations key) → HasFewDocks s
     few_of bound id x there =
@@ -81,11 +81,11 @@ lowered_for e db s m it are = ap (with_rows Meta (tables_at e db).meta) are ∙ 
 -- ---- the operator
 
 module _ (e : Earlier) (old new : Database) (raised : IsRaised e old new) where
-  -- for whom the database stood, it stands
+  -- for which the database stood, it stands
   pub stores_raised : (s : Operator) → StoresAt e old s → Stores new s
   stores_raised s it = record { has = raised.has; sound = it.sound; listed = it.listed; listing = it.listing; tables = raised.tables ∙ raised_for e old s it.listed it.tables }
 
-  -- for whom it stands, it stood
+  -- for which it stands, it stood
   pub stored_before : IsEarlier e old → (s : Operator) → Stores new s → ((key : Row) → KeepsBound (tables_raised e old) Stations key) → StoresAt e old s
   stored_before was s it bound =
       let are : tables_raised e old ≡ tables_for s it.listed = sym raised.tables ∙ it.tables in

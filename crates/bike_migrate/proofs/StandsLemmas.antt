@@ -1,4 +1,4 @@
--- For whom trees stand, the database stands whose trees they are; and what it is found to be.
+-- For which trees stand, the database stands whose trees they are; and what it is found to be.
 use Rattle.std.proofs.Common.{◌≡◌, inl, inr, ℕ, pos, List, [], ◌∷◌, Option, Some, None, codes, refl, sym, ap, subst, ◌∙◌}
 use Rattle.sqlite_value.specs.declared.value.Value.TheVariants.{Int}
 use Rattle.sqlite_value.specs.Order.{Row}

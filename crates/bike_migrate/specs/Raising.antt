@@ -224,7 +224,7 @@ module _ {S : Type 0} where
   abbrev pub Leaves : Ghosts S → (Trees → Type 0) → Held S → Type 0
   Leaves g P c = HasCleanDisk (state g c) → AllLeft (state g c) P
 
-  -- WHAT A RAISE OWES: the connection to a database that stands, at the newest version, for the operator for whom it stood at its own, or a fault
+  -- WHAT A RAISE OWES: the connection to a database that stands, at the newest version, for the operator for which it stood at its own, or a fault
   -- that hands the connection back
   pub record IsRaise (g : Ghosts S) (old : Held S) (result : Result (Held S) (RaiseFault S)) : Type 0 where
     pub clean : MatchResult result (λ c. doubt (state g old).is_clean ≤ doubt (state g c).is_clean)

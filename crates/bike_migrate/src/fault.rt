@@ -41,9 +41,9 @@ pub enum RaiseCause {
     Unsound(UnsoundRow),
     /// The database is of this later version of the schema. It is as it was.
     Newer(u64),
-    /// Memory was refused. What is stored stands for the operator for whom it stood.
+    /// Memory was refused. What is stored stands for the operator for which it stood.
     NoMemory,
-    /// The store failed, or failed to undo what was begun before memory was refused. What is stored stands for the operator for whom
+    /// The store failed, or failed to undo what was begun before memory was refused. What is stored stands for the operator for which
     /// it stood.
     StoreFailed,
 }

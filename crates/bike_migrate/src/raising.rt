@@ -189,7 +189,7 @@ fn raise_any<S: Alter, P: Watch>(
 }
 
 /// Raises the database of a connection outside a transaction to the newest version, in one transaction. Tables that stand for an
-/// operator at an earlier version stand for him at the newest then; where a row is no operator's the first such is told, and the database is
+/// operator at an earlier version stand for it at the newest then; where a row is no operator's the first such is told, and the database is
 /// as it was. A database of the newest version is audited, and handed back as it is; one with none of the product's tables is handed back
 /// as it is, too. Tables of other names stay. A fault tells what the database is, or that memory or the store failed, and hands the
 /// connection back outside a transaction. After a failed store this is so where the disk is clean: where something else wrote the file

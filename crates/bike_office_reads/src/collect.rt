@@ -57,9 +57,13 @@ fn read_next<S: Alter, R: ReadRow>(
     rows: &mut Rows<'_, S>,
 ) -> Result<Option<R>, StatementFault>
     ensures same_reference { rows.new.conn.ghost_name ≡ rows.old.conn.ghost_name }
-    ensures next { HasCleanDisk (state S.Store rows.new.conn.now) → IfOk result (λ x. (left : _) → IsWalking S.Store rows.old.conn.now left → ReadsNext S.Store R.reads rows.new.conn.now left x) }
-    ensures same { HasCleanDisk (state S.Store rows.new.conn.now) → OnOk result (IsUnchanged (state S.Store rows.old.conn.now) (state S.Store rows.new.conn.now)) }
-    ensures failed { HasCleanDisk (state S.Store rows.new.conn.now) → OnErr result (IsLeft (state S.Store rows.old.conn.now) (state S.Store rows.new.conn.now)) }
+    ensures next { HasCleanDisk (state S.Store rows.new.conn.now)
+        → IfOk result (λ x. (left : _) → IsWalking S.Store rows.old.conn.now left
+        → ReadsNext S.Store R.reads rows.new.conn.now left x) }
+    ensures same { HasCleanDisk (state S.Store rows.new.conn.now)
+        → OnOk result (IsUnchanged (state S.Store rows.old.conn.now) (state S.Store rows.new.conn.now)) }
+    ensures failed { HasCleanDisk (state S.Store rows.new.conn.now)
+        → OnErr result (IsLeft (state S.Store rows.old.conn.now) (state S.Store rows.new.conn.now)) }
     ensures mode { rows.old.conn.now.in_transaction ≡ false → rows.new.conn.now.in_transaction ≡ false }
     ensures survives { Survives (state S.Store rows.old.conn.now) (state S.Store rows.new.conn.now) (λ _. ⊥) }
 {

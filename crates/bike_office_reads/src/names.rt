@@ -112,7 +112,8 @@ pub fn select_names<S: Alter>(
     last: &str,
 ) -> Result<Vec<NameRow>, StatementFault>
     ensures { Answers S.Store conn.old conn.new result
-        (λ s m rows. rows.items ≡ map owned_name (filter (is_name_within kind first.now last.now) (rows_of s m MoreNames))) }
+        (λ s m rows. rows.items
+        ≡ map owned_name (filter (is_name_within kind first.now last.now) (rows_of s m MoreNames))) }
 {
     let mut rows = begin_names(conn, kind, first, last)?;
     collect_rows(alloc, &mut rows)

@@ -41,7 +41,8 @@ fn find_newest_row<S: Alter>(
 
 /// The number of the rental that stands in a row of `rentals`, where it is open.
 fn read_open_number(row: &Row) -> Result<Option<RentalNumber>, StatementFault>
-    ensures { IfOk result (λ x. (number : _) (r : _) (refunded : _) → row.now ≡ rental_row number r refunded → x ≡ number_if_open (number, r)) }
+    ensures { IfOk result (λ x. (number : _) (r : _) (refunded : _) → row.now ≡ rental_row number r refunded
+        → x ≡ number_if_open (number, r)) }
 {
     let finish = optional_moment_at(row, rentals::FINISH)?;
     if finish.is_some() {
@@ -100,7 +101,8 @@ pub(crate) fn select_open<S: Alter>(conn: &mut Connection<S>) -> Result<Vec<Row>
 
 /// The number and the rider that stand in a row of `rentals`.
 fn read_ride(row: &Row) -> Result<Ride, StatementFault>
-    ensures { IfOk result (λ x. (number : _) (r : _) (refunded : _) → row.now ≡ rental_row number r refunded → x ≡ ride_of (number, r)) }
+    ensures { IfOk result (λ x. (number : _) (r : _) (refunded : _) → row.now ≡ rental_row number r refunded
+        → x ≡ ride_of (number, r)) }
 {
     let number = number_at(row, rentals::RENTAL)?;
     let rider = number_at(row, rentals::RIDER)?;

@@ -150,7 +150,8 @@ pub fn find_open_rental<S: Alter>(
     rider: RiderNumber,
     newest_tells: bool,
 ) -> Result<Option<RentalNumber>, StatementFault>
-    ensures { Answers S.Store conn.old conn.new result (λ s m x. (IsTrue newest_tells → NewestTells s) → x ≡ open_number s rider) }
+    ensures { Answers S.Store conn.old conn.new result
+        (λ s m x. (IsTrue newest_tells → NewestTells s) → x ≡ open_number s rider) }
 {
     if newest_tells {
         return find_newest_open(conn, rider);
@@ -165,7 +166,8 @@ pub fn is_riding<S: Alter>(
     rider: RiderNumber,
     newest_tells: bool,
 ) -> Result<bool, StatementFault>
-    ensures { Answers S.Store conn.old conn.new result (λ s m x. (IsTrue newest_tells → NewestTells s) → x ≡ rides s rider) }
+    ensures { Answers S.Store conn.old conn.new result
+        (λ s m x. (IsTrue newest_tells → NewestTells s) → x ≡ rides s rider) }
 {
     let rental = find_open_rental(conn, rider, newest_tells)?;
     Ok(rental.is_some())

@@ -88,7 +88,7 @@ pub record Operator : Type 0 where
   -- the greatest moment of an accepted request, in seconds
   pub now : ℕ
 
--- the operator of whom nothing was asked yet
+-- the operator of which nothing was asked yet
 abbrev pub no_operator : Operator
 no_operator = record {
   system = None;

@@ -55,7 +55,8 @@ fn is_refundable(entries: u32, row: &RentalView, closing: &Closing) -> bool
 
 /// Whether the fare of an open rental can be booked now.
 fn is_charge_bounded(view: &View, now: Moment) -> bool
-    ensures { IsTrue result ↔ IfSome view.now.rental (λ r. IfNone r.rental.closing (IsChargeable view.now.entries now r)) }
+    ensures { IsTrue result
+        ↔ IfSome view.now.rental (λ r. IfNone r.rental.closing (IsChargeable view.now.entries now r)) }
 {
     match &view.rental {
         Some(row) => row.rental.closing.is_some() || is_chargeable(view.entries, now, row),
@@ -65,7 +66,8 @@ fn is_charge_bounded(view: &View, now: Moment) -> bool
 
 /// Whether refunds of a closed rental can be booked.
 fn is_refund_bounded(view: &View) -> bool
-    ensures { IsTrue result ↔ IfSome view.now.rental (λ r. IfSome r.rental.closing (λ c. IsRefundable view.now.entries r c.fare)) }
+    ensures { IsTrue result
+        ↔ IfSome view.now.rental (λ r. IfSome r.rental.closing (λ c. IsRefundable view.now.entries r c.fare)) }
 {
     let Some(row) = &view.rental else {
         return true;

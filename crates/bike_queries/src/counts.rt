@@ -71,7 +71,8 @@ impl Model for CountRow {
 
     ghost coded = { coded_list the_row.coded };
 
-    ghost view = { λ r. Text r.station_id.bytes ∷ Text r.type_id.bytes ∷ number_value r.available ∷ number_value r.disabled ∷ [] };
+    ghost view = { λ r. Text r.station_id.bytes ∷ Text r.type_id.bytes ∷ number_value r.available
+        ∷ number_value r.disabled ∷ [] };
 }
 
 impl ReadRow for CountRow {
@@ -109,7 +110,8 @@ fn begin_counts<'a, S: Alter>(
     last: &str,
 ) -> Result<Rows<'a, S>, Error>
     ensures* lends { sem 𝓛 (LendsWhere S.row S.Store IsOurs conn.entry result) }
-    ensures walks { WalksWhere S.Store IsOurs conn.entry result (λ db. rows_within (Text first.now) (Text last.now) (tables_of db).counts) }
+    ensures walks { WalksWhere S.Store IsOurs conn.entry result
+        (λ db. rows_within (Text first.now) (Text last.now) (tables_of db).counts) }
 {
     conn.query(
         "SELECT * FROM counts WHERE station_id >= ?1 AND station_id <= ?2 ORDER BY station_id, type_id",
@@ -222,7 +224,8 @@ pub(crate) fn tally_rows(
     room: Vec<TypeCount>,
 ) -> Result<Tally, StatementFault>
     requires { room.items ≡ [] }
-    ensures { IfOk result (λ x. (s : _) (station : _) → AreCountRows s station counts.now → IsTally s station type_ids.now x) }
+    ensures { IfOk result (λ x. (s : _) (station : _) → AreCountRows s station counts.now
+        → IsTally s station type_ids.now x) }
 {
     let mut tally = Tally {
         available: 0,

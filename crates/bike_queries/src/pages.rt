@@ -90,7 +90,8 @@ pub(crate) fn read_page<R: OwnerReader>(
     reader: &R,
 ) -> Result<VecDeque<R::Item>, StatementFault>
     ensures { AreApart id_of stations.items → IfOk result
-        (λ page. AllZip (λ station x. R.reads reader.now station (own_rows (id_of station) (map R.Own.as_row rows.now)) x) stations.items page.items) }
+        (λ page. AllZip (λ station x. R.reads reader.now station
+        (own_rows (id_of station) (map R.Own.as_row rows.now)) x) stations.items page.items) }
 {
     let mut page = VecDeque::new(alloc);
     let mut rest = rows;

@@ -42,7 +42,8 @@ pub fn find_rider_info<S: Alter>(
     rider: RiderNumber,
     newest_tells: bool,
 ) -> Result<Option<RiderInfo>, StatementFault>
-    ensures { Answers S.Store conn.old conn.new result (λ s m x. (IsTrue newest_tells → NewestTells s) → x ≡ rider_info_at s rider) }
+    ensures { Answers S.Store conn.old conn.new result
+        (λ s m x. (IsTrue newest_tells → NewestTells s) → x ≡ rider_info_at s rider) }
 {
     match find_rider(conn, rider)? {
         Some(view) => {

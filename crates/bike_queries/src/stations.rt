@@ -84,7 +84,8 @@ fn begin_stations<'a, S: Alter>(
     start: &str,
 ) -> Result<Rows<'a, S>, Error>
     ensures* lends { sem 𝓛 (LendsWhere S.row S.Store IsOurs conn.entry result) }
-    ensures walks { WalksWhere S.Store IsOurs conn.entry result (λ db. take STATIONS_A_PAGE (filter (begins_from start.now) (tables_of db).stations)) }
+    ensures walks { WalksWhere S.Store IsOurs conn.entry result
+        (λ db. take STATIONS_A_PAGE (filter (begins_from start.now) (tables_of db).stations)) }
 {
     conn.query(
         "SELECT * FROM stations_3 WHERE station_id >= ?1 ORDER BY station_id LIMIT 64",

@@ -1,4 +1,4 @@
--- The operator is what is read off his tables.
+-- The operator is what is read off its tables.
 use Rattle.std.proofs.Common.{◌≡◌, ℕ, ◌+◌, pos, List, [], true, Option, Some, None, is_some, refl, sym, ap, ◌∙◌, subst, arith, Bool}
 use Rattle.std.specs.Prelude.{option_map, unwrap_or}
 use Rattle.std.specs.List.{filter_map, cons_option}

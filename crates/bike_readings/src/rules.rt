@@ -16,7 +16,7 @@ pub fn verdict_law()
     ensures one { OneVerdict }
 {}
 
-/// The same of the tables in a database: it stands for an operator exactly where the verdict is that all is good.
+/// The verdict over the tables in a database: it stands for an operator exactly where the verdict is that all is good.
 pub fn stored_law()
     ensures in_order { StoredInOrder }
     ensures sound { StoredGood }

@@ -30,7 +30,8 @@ enum NextRowid {
 fn begin_pass<'a, S: Alter>(conn: &'a mut Connection<S>, sql: &str) -> Result<Rows<'a, S>, Error>
     ensures* lends { sem 𝓛 (LendsWhere S.row S.Store (λ db. AsksRowids db sql.now) conn.entry result) }
     ensures same_reference { IfOk result (λ rows. rows.conn.ghost_name ≡ conn.entry.ghost_name) }
-    ensures begun { IfOk result (λ rows. HasCleanDisk (state S.Store rows.conn.now) → AsksRowids (state S.Store conn.old).now sql.now
+    ensures begun { IfOk result (λ rows. HasCleanDisk (state S.Store rows.conn.now)
+        → AsksRowids (state S.Store conn.old).now sql.now
         → BeginsPass S.Store sql.now conn.old rows.conn.now) }
     ensures quiet { IfOk result (λ rows. IsQuiet S.Store (λ db. AsksRowids db sql.now) conn.old rows.conn.now) }
 {

@@ -68,7 +68,8 @@ pub(crate) fn has_table(
     schema: &Schema,
     table: TableName,
 ) -> Result<bool, StatementFault>
-    ensures there { IfOk result (λ there. IsTrue there ↔ HasWanted schema.now (table_of (layout_of (table_named table)) 0)) }
+    ensures there { IfOk result
+        (λ there. IsTrue there ↔ HasWanted schema.now (table_of (layout_of (table_named table)) 0)) }
     ensures memory { IfErr result (λ fault. fault ≡ NoMemory) }
 {
     let wanted = table.defined(alloc)?;

@@ -51,7 +51,8 @@ pub fn table_stands<S: Alter>(
     conn: &mut Connection<S>,
     table: TableName,
 ) -> Result<bool, StatementFault>
-    ensures { ReadsAny S.Store conn.old conn.new result (λ db stands. IsTrue stands ↔ TableStands (table_named table) db) }
+    ensures { ReadsAny S.Store conn.old conn.new result
+        (λ db stands. IsTrue stands ↔ TableStands (table_named table) db) }
 {
     check_open(conn)?;
     if !has_table(alloc, conn.schema(), table)? {

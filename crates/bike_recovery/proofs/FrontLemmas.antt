@@ -21,11 +21,11 @@ sound_of : (db : Database) (s : Operator) → IsOf db s → IsSound s
 sound_of db s (inl none) = subst IsSound (sym none.1) none_sound
 sound_of db s (inr stores) = stores.sound
 
--- an operator for whom a desk stands is sound
+-- an operator for which a desk stands is sound
 pub sound_at : {S : Type 0} (g : Ghosts S) (d : DeskValue S) (s : Operator) → IsAt g d s → IsSound s
 sound_at g d s at = sound_of _ s at.keeps.now.is
 
--- a database with no table is the operator's of whom nothing was asked, and nobody else's
+-- a database with no table is the operator's of which nothing was asked, and nobody else's
 pub nobody : (db : Database) (s : Operator) → db.schema ≡ record { tables = []; indexes = []; views = [] } → IsOf db s → s ≡ no_operator
 nobody db s empty (inl none) = none.1
 nobody db s empty (inr h) =

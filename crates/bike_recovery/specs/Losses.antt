@@ -23,6 +23,6 @@ abbrev pub IsOnlyWant : {S : Type 0} → Ghosts S → Lost S → Type 0
 IsOnlyWant g (Shut shut) = IsShutOnlyFor g shut
 IsOnlyWant g (Refused e) = HasCleanDisk (state g (handed e)) → IsWant e
 
--- the trees stand for an operator, whoever he is
+-- the trees stand for some operator
 abbrev pub StandForSome : Trees → Type 0
 StandForSome trees = (s : Operator) × TreesStandFor s trees

@@ -31,7 +31,7 @@ pub record ReadsOf {S : Type 0} (g : Ghosts S) (d : DeskValue S) (s : Operator)
   pub unstopped : OnOk reading.place (reading.status ≢ Err (Desk Stopped))
   pub left : AllLeft (desk_state g d) (TreesStandFor s)
 
--- THE PROMISE: what is read is of the operator after such a front, and he is sound: no dock and no rental holds two bicycles.
+-- THE PROMISE: what is read is of the operator after such a front, and it is sound: no dock and no rental holds two bicycles.
 abbrev pub ReadsFront : {S : Type 0} → Ghosts S → DeskValue S → Operator → List Call → ℕ → ℕ → ℕ
     → Option (List ℕ) → Option (List ℕ) → Reading → Type 0
 ReadsFront g d s calls k bike moment before written reading =

@@ -138,7 +138,7 @@ pub fn run_crash_and_read<S: Alter + Reopen + Drop, W: Write>(
     }
 }
 
-/// The same from nothing, over a database in memory: nothing has to be supposed of a disk, so that the promise's premises can be
+/// `run_crash_and_read` from nothing, over a database in memory: nothing has to be supposed of a disk, so that the promise's premises can be
 /// met together. None where memory is refused before the first request.
 pub fn run_in_memory<W: Write>(
     alloc: Global,

@@ -74,7 +74,7 @@ fn raise_again<S: Alter + Reopen + Drop>(
 /// Raises what an earlier program left, crashes at whatever the raise came to, raises what the crash leaves, takes it into service and
 /// reads it: where the bicycle is, and the feed `station_status` for a moment.
 ///
-/// What is read is that of the operator for whom the database stood, at whichever version that was. It is refused for memory or
+/// What is read is that of the operator for which the database stood, at whichever version that was. It is refused for memory or
 /// storage alone.
 pub fn raise_crash_and_read<S: Alter + Reopen + Drop, W: Write>(
     alloc: Global,

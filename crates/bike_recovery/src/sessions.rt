@@ -97,7 +97,7 @@ pub fn serve_sessions<S: Alter + Reopen + Drop>(
     Ok(SessionsServed { told, end: Ok(now) })
 }
 
-/// The same from nothing, over a database in memory, as `run_in_memory` is to `run_crash_and_read`: with no premise. None where memory is
+/// `serve_sessions` from nothing, over a database in memory, as `run_in_memory` is to `run_crash_and_read`: with no premise. None where memory is
 /// refused before the first request.
 pub fn serve_sessions_in_memory(
     alloc: Global,

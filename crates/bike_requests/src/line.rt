@@ -75,7 +75,8 @@ fn read_request(alloc: Global, mut fields: Fields) -> Result<Option<(Moment, Req
 /// line stands without its LF.
 pub fn read_line(alloc: Global, line: &[u8]) -> Result<Option<(Moment, Request)>, AllocError>
     ensures found { IfOk result (λ o. IfSome o (λ r. IsLine line.now r.0 r.1 × IsRequest r.1 × (r.0 ≤ last_moment))) }
-    ensures only { IfOk result (λ o. (t : ℕ) (q : Request) → t ≤ last_moment → IsRequest q → IsLine line.now t q → o ≡ Some (t, q)) }
+    ensures only { IfOk result (λ o. (t : ℕ) (q : Request) → t ≤ last_moment → IsRequest q → IsLine line.now t q
+        → o ≡ Some (t, q)) }
     ensures spared { IfErr result (λ _. SpellsRequest line.now) }
 {
     if line.len() > LINE_LENGTH {

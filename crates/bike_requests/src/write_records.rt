@@ -16,7 +16,9 @@ use std::alloc::AllocError;
 /// The system's opening hours, contact and time zone.
 #[tactic(auto, unfolding(bike_texts::specs::Fields::fields_text))]
 fn put_service(out: &mut String, system: &System) -> Result<(), AllocError>
-    ensures { OnOk result (string_bytes out.new ≡ string_bytes out.old ++ fields_text (Ascii system.now.opening_hours ∷ Ascii system.now.feed_contact_email ∷ Ascii system.now.timezone ∷ [])) }
+    ensures { OnOk result (string_bytes out.new ≡ string_bytes out.old
+        ++ fields_text (Ascii system.now.opening_hours ∷ Ascii system.now.feed_contact_email
+        ∷ Ascii system.now.timezone ∷ [])) }
 {
     put_escaped(out, system.opening_hours().as_str())?;
     put_escaped(out, system.feed_contact_email().as_str())?;
@@ -26,7 +28,9 @@ fn put_service(out: &mut String, system: &System) -> Result<(), AllocError>
 /// The system's currency, URL and time to live.
 #[tactic(auto, unfolding(bike_texts::specs::Fields::fields_text))]
 fn put_publication(out: &mut String, system: &System) -> Result<(), AllocError>
-    ensures { OnOk result (string_bytes out.new ≡ string_bytes out.old ++ fields_text (Currency system.now.currency ∷ Ascii system.now.base_url ∷ Number 0 LONGEST_TIME_TO_LIVE system.now.ttl ∷ [])) }
+    ensures { OnOk result (string_bytes out.new ≡ string_bytes out.old
+        ++ fields_text (Currency system.now.currency ∷ Ascii system.now.base_url
+        ∷ Number 0 LONGEST_TIME_TO_LIVE system.now.ttl ∷ [])) }
 {
     put_text(out, system.currency().as_str())?;
     put_escaped(out, system.base_url().as_str())?;
@@ -35,7 +39,8 @@ fn put_publication(out: &mut String, system: &System) -> Result<(), AllocError>
 
 #[tactic(auto, unfolding(bike_texts::specs::Fields::fields_text))]
 pub fn put_system(out: &mut String, system: &System) -> Result<(), AllocError>
-    ensures { OnOk result (string_bytes out.new ≡ string_bytes out.old ++ fields_text (fields_of (SetSystem system.now))) }
+    ensures { OnOk result (string_bytes out.new ≡ string_bytes out.old
+        ++ fields_text (fields_of (SetSystem system.now))) }
 {
     put_ident(out, system.system_id())?;
     put_text(out, system.language().as_str())?;
@@ -58,7 +63,8 @@ pub fn put_plan(out: &mut String, plan: &Plan) -> Result<(), AllocError>
 
 #[tactic(auto, unfolding(bike_texts::specs::Fields::fields_text))]
 pub fn put_type(out: &mut String, vehicle_type: &VehicleType) -> Result<(), AllocError>
-    ensures { OnOk result (string_bytes out.new ≡ string_bytes out.old ++ fields_text (fields_of (AddType vehicle_type.now))) }
+    ensures { OnOk result (string_bytes out.new ≡ string_bytes out.old
+        ++ fields_text (fields_of (AddType vehicle_type.now))) }
 {
     put_ident(out, vehicle_type.type_id())?;
     put_escaped(out, vehicle_type.name().as_str())?;
@@ -70,7 +76,8 @@ pub fn put_type(out: &mut String, vehicle_type: &VehicleType) -> Result<(), Allo
 
 #[tactic(auto, unfolding(bike_texts::specs::Fields::fields_text))]
 pub fn put_station(out: &mut String, station: &Station) -> Result<(), AllocError>
-    ensures { OnOk result (string_bytes out.new ≡ string_bytes out.old ++ fields_text (fields_of (AddStation station.now))) }
+    ensures { OnOk result (string_bytes out.new ≡ string_bytes out.old
+        ++ fields_text (fields_of (AddStation station.now))) }
 {
     put_ident(out, station.station_id())?;
     put_escaped(out, station.name().as_str())?;
@@ -81,7 +88,8 @@ pub fn put_station(out: &mut String, station: &Station) -> Result<(), AllocError
 
 #[tactic(auto, unfolding(bike_texts::specs::Fields::fields_text))]
 pub fn put_region(out: &mut String, region: &Region) -> Result<(), AllocError>
-    ensures { OnOk result (string_bytes out.new ≡ string_bytes out.old ++ fields_text (fields_of (AddRegion region.now))) }
+    ensures { OnOk result (string_bytes out.new ≡ string_bytes out.old
+        ++ fields_text (fields_of (AddRegion region.now))) }
 {
     put_ident(out, region.region_id())?;
     put_escaped(out, region.name().as_str())
@@ -95,7 +103,8 @@ pub fn put_name(
     language: &Language,
     name: &Name,
 ) -> Result<(), AllocError>
-    ensures { OnOk result (string_bytes out.new ≡ string_bytes out.old ++ fields_text (fields_of (AddName kind id.now language.now name.now))) }
+    ensures { OnOk result (string_bytes out.new ≡ string_bytes out.old
+        ++ fields_text (fields_of (AddName kind id.now language.now name.now))) }
 {
     put_text(out, kind.as_str())?;
     put_ident(out, id)?;
@@ -105,7 +114,8 @@ pub fn put_name(
 
 #[tactic(auto, unfolding(bike_texts::specs::Fields::fields_text))]
 pub fn put_settings(out: &mut String, settings: &Settings) -> Result<(), AllocError>
-    ensures { OnOk result (string_bytes out.new ≡ string_bytes out.old ++ fields_text (fields_of (ChangeSystem settings.now))) }
+    ensures { OnOk result (string_bytes out.new ≡ string_bytes out.old
+        ++ fields_text (fields_of (ChangeSystem settings.now))) }
 {
     put_escaped(out, settings.name().as_str())?;
     put_escaped(out, settings.opening_hours().as_str())?;
@@ -121,7 +131,8 @@ pub fn put_position(
     station: &Ident,
     position: &Position,
 ) -> Result<(), AllocError>
-    ensures { OnOk result (string_bytes out.new ≡ string_bytes out.old ++ fields_text (fields_of (MoveStation station.now position.now))) }
+    ensures { OnOk result (string_bytes out.new ≡ string_bytes out.old
+        ++ fields_text (fields_of (MoveStation station.now position.now))) }
 {
     put_ident(out, station)?;
     put_degrees(out, &position.lat())?;

@@ -72,7 +72,8 @@ fn put_flags(
     renting: bool,
     returning: bool,
 ) -> Result<(), AllocError>
-    ensures { OnOk result (string_bytes out.new ≡ string_bytes out.old ++ fields_text (fields_of (SetStation station.now installed renting returning))) }
+    ensures { OnOk result (string_bytes out.new ≡ string_bytes out.old
+        ++ fields_text (fields_of (SetStation station.now installed renting returning))) }
 {
     put_ident(out, station)?;
     put_choice(out, "true", "false", installed)?;
@@ -89,7 +90,8 @@ fn put_order(
     type_id: &Ident,
     count: &OrderQuantity,
 ) -> Result<(), AllocError>
-    ensures { OnOk result (string_bytes out.new ≡ string_bytes out.old ++ fields_text (fields_of (OpenOrder truck.now from_end.now to_end.now type_id.now count.now))) }
+    ensures { OnOk result (string_bytes out.new ≡ string_bytes out.old
+        ++ fields_text (fields_of (OpenOrder truck.now from_end.now to_end.now type_id.now count.now))) }
 {
     put_number(out, truck)?;
     put_end(out, from_end)?;
@@ -107,7 +109,8 @@ fn put_unloading(
     side: Side,
     dock: &UnloadDock,
 ) -> Result<(), AllocError>
-    ensures { OnOk result (string_bytes out.new ≡ string_bytes out.old ++ fields_text (fields_of (Unload truck.now order.now bike.now side dock.now))) }
+    ensures { OnOk result (string_bytes out.new ≡ string_bytes out.old
+        ++ fields_text (fields_of (Unload truck.now order.now bike.now side dock.now))) }
 {
     put_number(out, truck)?;
     put_number(out, order)?;
@@ -124,8 +127,10 @@ fn put_at_dock<K>(
     station: &Ident,
     dock: &DockNumber,
 ) -> Result<(), AllocError>
-    ensures start { OnOk result (string_bytes out.new ≡ string_bytes out.old ++ fields_text (fields_of (Start number.now station.now dock.now))) }
-    ensures end { OnOk result (string_bytes out.new ≡ string_bytes out.old ++ fields_text (fields_of (End number.now station.now dock.now))) }
+    ensures start { OnOk result (string_bytes out.new ≡ string_bytes out.old
+        ++ fields_text (fields_of (Start number.now station.now dock.now))) }
+    ensures end { OnOk result (string_bytes out.new ≡ string_bytes out.old
+        ++ fields_text (fields_of (End number.now station.now dock.now))) }
 {
     put_number(out, number)?;
     put_ident(out, station)?;
@@ -139,7 +144,8 @@ fn put_mark(
     dock: &DockNumber,
     broken: bool,
 ) -> Result<(), AllocError>
-    ensures { OnOk result (string_bytes out.new ≡ string_bytes out.old ++ fields_text (fields_of (MarkDock station.now dock.now broken))) }
+    ensures { OnOk result (string_bytes out.new ≡ string_bytes out.old
+        ++ fields_text (fields_of (MarkDock station.now dock.now broken))) }
 {
     put_ident(out, station)?;
     put_number(out, dock)?;
@@ -153,7 +159,8 @@ fn put_loading(
     order: &OrderNumber,
     bike: &BicycleNumber,
 ) -> Result<(), AllocError>
-    ensures { OnOk result (string_bytes out.new ≡ string_bytes out.old ++ fields_text (fields_of (Load truck.now order.now bike.now))) }
+    ensures { OnOk result (string_bytes out.new ≡ string_bytes out.old
+        ++ fields_text (fields_of (Load truck.now order.now bike.now))) }
 {
     put_number(out, truck)?;
     put_number(out, order)?;

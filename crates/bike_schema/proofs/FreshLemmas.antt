@@ -122,7 +122,7 @@ inserts = row_put (table_key Meta) (λ s tree. (refl, refl, refl, λ base. refl)
 pub adds_meta : Does IsOurs (λ db. WasFree first_write (tables_of db)) (Puts (first_write ∷ [])) insert_text first_row
 adds_meta = adds_row Meta inserts
 
--- ---- the tables of the operator of whom nothing was asked
+-- ---- the tables of the operator of which nothing was asked
 
 none_in : {K X : Type 0} (R : K → K → Ordering) → fin.entries (fin.empty {X = X} {R = R}) ≡ []
 none_in {K} {X} R = no_list _ (sym (fin.len-entries (fin.empty {X = X} {R = R})) ∙ fin.len-empty R X)

@@ -36,14 +36,14 @@ index_texts = map (λ text. text.now) INDEXES
 abbrev pub first_write : RowWrite
 first_write = Add Meta (meta_row NEWEST 0 (pos 0) (pos 0))
 
--- The tables are there, and are those of the operator of whom nothing was asked. Every other table stays.
+-- The tables are there, and are those of the operator of which nothing was asked. Every other table stays.
 pub record IsFresh (old new : Database) : Type 0 where
   pub sound : IsDatabase new
   pub has : HasTables new
   pub tables : tables_of new ≡ tables_for no_operator none_listed
   pub others : OthersStay old new
 
--- The same within a transaction.
+-- A transaction that made tables goes on.
 pub record Creates (old new : State) : Type 0 where
   pub continues : Continues old new
   pub fresh : IsFresh old.now new.now

@@ -29,7 +29,7 @@ pub record Makes (writes : List RowWrite) (old new : Database) : Type 0 where
 abbrev pub Continues : State → State → Type 0
 Continues old new = Shows old new new.now old.committed true
 
--- The same within a transaction.
+-- A transaction that wrote rows goes on.
 pub record Puts (writes : List RowWrite) (old new : State) : Type 0 where
   pub continues : Continues old new
   pub makes : Makes writes old.now new.now

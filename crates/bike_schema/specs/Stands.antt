@@ -17,7 +17,7 @@ pub record Stores (db : Database) (s : Operator) : Type 0 where
   pub listing : IsListing s listed
   pub tables : tables_of db ≡ tables_for s listed
 
--- none of the tables and the operator of whom nothing was asked, or the tables of the operator
+-- none of the tables and the operator of which nothing was asked, or the tables of the operator
 abbrev pub IsOf : Database → Operator → Type 0
 IsOf db s = (HasNone db.schema × (s ≡ no_operator)) ⊎ Stores db s
 

@@ -86,7 +86,7 @@ module _ {S : Type 0} (g : Ghosts S) (desk : DeskValue S) (s : Operator) (coming
 
   told : (response : Response) → TellsFor g desk s coming.moment (Some coming.input) response
       → ((next : Operator) × IsResponse s coming response next × IsAt g desk next) ⊎ ((response ≡ unavailable) × Halts)
-  told response (inl it) = inl (s, inr (it.0, refl), it.1)
+  told response (inl it) = inl (s, inr (it.0, refl), it.2)
   told response (inr it) = elim (tells_any g desk s it.answers.asked it.told) [
     | inl same ↦ inl (it.next, inl (subst (λ (r : Response). Answers (Some coming.input) s coming.moment r it.next) (sym same.0) it.answers), same.1)
     | inr none ↦ elim (undone it.response it.next it.answers none.1) [

@@ -61,7 +61,7 @@ module _ {S : Type 0} (g : Ghosts S) (desk : DeskValue S) where
       undone s once.0 once.1 once.3 (subst (IsUndone g desk s) (leads ∙ once.2) it.1)
 
   told_for : (s : Operator) (t : ℕ) (input : Option (List ℕ)) (sent : Response) → TellsFor g desk s t input sent → ServesRequests g desk s
-  told_for s t input sent (inl it) = served s [] tt it.1
+  told_for s t input sent (inl it) = served s [] tt it.2
   told_for s t input sent (inr it) =
       told s t it.response sent it.answers.asked it.next it.answers.leads it.answers.good (tells_any g desk s it.answers.asked it.told)
 

@@ -20,7 +20,7 @@ use Rattle.bike_server.specs.Visits.{Coming, Leaving, Visits, let_go}
 abbrev pub BeginsWith : List ℕ → List ℕ → Type 0
 BeginsWith bytes front = (rest : List ℕ) × (bytes ≡ front ++ rest)
 
--- the response to what comes, and the operator after it; or that there is no answer now, and the operator as he was
+-- the response to what comes, and the operator after it; or that there is no answer now, and the operator as it was
 abbrev pub IsResponse : Operator → Coming → Response → Operator → Type 0
 IsResponse s coming response next =
     Answers (Some coming.input) s coming.moment response next ⊎ ((response ≡ unavailable) × (next ≡ s))

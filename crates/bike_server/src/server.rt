@@ -96,7 +96,7 @@ fn serve_arrival<S: Alter, A: Arrivals>(
 /// ends early where accepting fails (`AcceptFailed`) and where the desk is stopped (`StoreFailed`); a connection that fails ends
 /// nothing.
 ///
-/// Whatever clients send and whatever becomes of the connections, a desk at an operator is at him after some list of good requests; or it
+/// Whatever clients send and whatever becomes of the connections, a desk at an operator is at it after some list of good requests; or it
 /// is stopped, and all that a crash may leave stands for the operator after such a list or after one request more. Where it is known
 /// what comes (`Played`), each connection is answered once, in their order, as the operator after those before it answers; what wasn't
 /// sent whole is told to `finish` as a failure.
@@ -221,7 +221,7 @@ fn ended(served: Result<(), ServerFault>) -> Result<u64, Fault>
 /// one ended that: a port that can't be bound is `BindFailed`. Where the connection can't be taken into service, the fault tells why,
 /// and nothing is written or listened to.
 ///
-/// Where the database stood for an operator, all that a crash may then leave stands for him after some list of good requests.
+/// Where the database stood for an operator, all that a crash may then leave stands for it after some list of good requests.
 pub fn listen<S: Alter, W: Write>(
     rt: &HostRuntime,
     port: u16,

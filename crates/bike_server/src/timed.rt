@@ -54,7 +54,7 @@ impl<'a> TimedStream<'a> {
         (reader, writer)
     }
 
-    /// The same connection for so long from now on, and no longer than before; none where the clock fails.
+    /// This connection for so long from now on, and no longer than before; none where the clock fails.
     pub(crate) fn for_at_most(self, patience: Duration) -> Option<TimedStream<'a>> {
         let Bounded { stream, end } = self.open?;
         let soon = moment_after(self.rt, patience)?;

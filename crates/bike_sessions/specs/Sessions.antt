@@ -40,7 +40,7 @@ history (x ∷ xs) = take x.acting x.calls ++ history xs
 abbrev pub after_sessions : Operator → List Session → Operator
 after_sessions s xs = after s (history xs)
 
--- what was answered, session by session: each is served by the operator whom those before it leave
+-- what was answered, session by session: each is served by the operator which those before it leave
 abbrev pub answers_given : Operator → List Session → List (List Reply)
 answers_given s [] = []
 answers_given s (x ∷ xs) = take x.answered (replies s x.calls) ∷ answers_given (after s (take x.acting x.calls)) xs

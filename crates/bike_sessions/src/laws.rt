@@ -26,7 +26,8 @@ pub fn without_retries_law()
 /// The law of answers: what was answered in a session are the replies to its first requests in the history of all sessions.
 pub fn answers_law()
     ensures { (s : Operator) (xs ys : List Session) (x : Session) → IsSession x
-        → take x.answered (replies (after_sessions s xs) x.calls) ≡ take x.answered (drop (length (history xs)) (replies s (history (xs ++ x ∷ ys)))) }
+        → take x.answered (replies (after_sessions s xs) x.calls)
+        ≡ take x.answered (drop (length (history xs)) (replies s (history (xs ++ x ∷ ys)))) }
 {}
 
 /// The law of soundness: the sessions of a sound operator leave a sound one.

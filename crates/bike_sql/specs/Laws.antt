@@ -35,7 +35,7 @@ SelectLaw =
     (s : Schema) (ats : List ℕ) (ts : List Table) → HaveTables s ats ts → (text : List ℕ) (q : Query) (names : List Name) → IsDraft (draft_of (of_tables ts) text) q names → accepts_program s [] q [] ≡ true
     → Reads s text (Select (record { lets = []; body = q }) names)
 
--- So are SELECTs joined by UNION and its like, over the same computed tables.
+-- SELECTs joined by UNION and its like are the same query, over the same computed tables.
 abbrev pub UnionLaw : Type 0
 UnionLaw =
     (s : Schema) (ats : List ℕ) (ts : List Table) → HaveTables s ats ts → (text : List ℕ) (lets : List Let) (q : Query) (names : List Name) → IsUnion (union_of (of_tables ts) text) lets q names

@@ -7,17 +7,17 @@ pub fn select_law()
     ensures { SelectLaw }
 {}
 
-/// So are SELECTs joined by UNION, UNION ALL, EXCEPT or INTERSECT.
+/// SELECTs joined by UNION, UNION ALL, EXCEPT or INTERSECT are the same query there.
 pub fn union_law()
     ensures { UnionLaw }
 {}
 
-/// An UPDATE or a DELETE makes the same change.
+/// An UPDATE or a DELETE makes the same change there.
 pub fn change_law()
     ensures { ChangeLaw }
 {}
 
-/// An INSERT writes the same rows.
+/// An INSERT writes the same rows there.
 pub fn insert_law()
     ensures { InsertLaw }
 {}

@@ -140,7 +140,8 @@ fn keep_bounds(line: &Row) -> bool
 
 /// The dock that the columns of a place name first.
 fn dock_named(line: &Row) -> Option<DockNumber>
-    ensures { result ≡ dock_named (column line.now 6) (column line.now 7) (column line.now 8) (column line.now 9) (column line.now 10) }
+    ensures { result ≡ dock_named (column line.now 6) (column line.now 7) (column line.now 8)
+        (column line.now 9) (column line.now 10) }
 {
     if !has_ident(line, PLACE) || !keep_bounds(line) {
         return None;

@@ -27,7 +27,8 @@ impl Model for Fare {
 impl Fare {
     /// The fare of so many hundredths, where they are 0 to `GREATEST_FARE`.
     pub fn new(hundredths: i64) -> Option<Fare>
-        ensures { result ≡ (if int_le (pos 0) hundredths && int_le hundredths GREATEST_FARE then Some hundredths else None) }
+        ensures { result
+            ≡ (if int_le (pos 0) hundredths && int_le hundredths GREATEST_FARE then Some hundredths else None) }
     {
         if hundredths < 0 || hundredths > GREATEST_FARE {
             return None;

@@ -247,7 +247,8 @@ impl<'a> Fields<'a> {
 
     /// The next part as an identifier, or `*` for none.
     pub fn ident_or_none(&mut self) -> Option<Option<&'a str>>
-        ensures read { Takes (λ name. option_map (λ id. id.now) name) result (field_at ident_or_none_of self.old) self.new }
+        ensures read { Takes (λ name. option_map (λ id. id.now) name) result
+            (field_at ident_or_none_of self.old) self.new }
         ensures good { IfSome result (λ name. IfSome name (λ id. is_ident id.now ≡ true)) }
     {
         let text = self.part()?;

@@ -17,7 +17,7 @@ use sqlite::{Alter, Connection};
 /// What is known of the operator before a request is read.
 #[derive(Clone, Copy)]
 pub struct Known {
-    /// His figures.
+    /// Its figures.
     pub figures: Figures,
     /// Whether each open rental is known to be its rider's newest.
     pub newest_tells: bool,

@@ -73,7 +73,8 @@ pub(crate) fn set_docks_reported<S: Alter>(
     broken: u32,
     reported: Moment,
 ) -> Result<(), StatementFault>
-    ensures { Writes S.Store tx.old.conn tx.new.conn result (write_of (row.SetDocksReported station.entry free broken reported)) }
+    ensures { Writes S.Store tx.old.conn tx.new.conn result
+        (write_of (row.SetDocksReported station.entry free broken reported)) }
 {
     run(
         tx,

@@ -1,4 +1,4 @@
-use Rattle.std.proofs.Common.{◌∙◌, IfSome, Option, Result, sym, subst}
+use Rattle.std.proofs.Common.{◌∙◌, IfSome, Option, Result, Err, ap, sym, subst}
 use Rattle.bike_incoming.specs.declared.asked.Asked.{Asked}
 use Rattle.bike_incoming.specs.Received.{Received}
 use Rattle.bike_http.specs.Telling.{Serves, Rests, Refuses}
@@ -29,7 +29,7 @@ pub returns-in-Err-NoMemory-clause-served : goal.returns-in-Err-NoMemory-clause-
 returns-in-Err-NoMemory-clause-served g c clean s at =
     let d = c.args.desk.now in
     subst (λ (r : Result Served ServeFault). Serves g.S.Store d s c.args.moment (g.R.Read.remaining c.args.reader.now) (g.W.Write.contents c.args.writer.now) (g.W.Write.contents c.send.new.writer) r)
-    (sym c.ended-in-Err-NoMemory.ensures) (refuses g.S.Store d s c.args.moment _ _ _ c.send.result at c.send.ensures)
+    (sym c.ended-in-Err-NoMemory.ensures) (refuses g.S.Store d s c.args.moment _ _ _ c.send.result (c.in-Err-NoMemory.ensures.memory (ap Err c.in-Err-NoMemory.field-0-is)) at c.send.ensures)
 
 pub returns-in-Err-NoMemory-clause-done : goal.returns-in-Err-NoMemory-clause-done
 returns-in-Err-NoMemory-clause-done g c clean s at is =
@@ -49,7 +49,7 @@ returns-in-Ok-Some-clause-refuses g c stopped =
 pub returns-in-Err-NoMemory-clause-refuses : goal.returns-in-Err-NoMemory-clause-refuses
 returns-in-Err-NoMemory-clause-refuses g c stopped =
     subst (λ (r : Result Served ServeFault). Refuses (g.R.Read.remaining c.args.reader.now) (g.W.Write.contents c.args.writer.now) (g.W.Write.contents c.send.new.writer) r)
-    (sym c.ended-in-Err-NoMemory.ensures) (stopped_unread _ _ _ c.send.result c.send.ensures)
+    (sym c.ended-in-Err-NoMemory.ensures) (stopped_unread _ _ _ c.send.result (c.in-Err-NoMemory.ensures.memory (ap Err c.in-Err-NoMemory.field-0-is)) c.send.ensures)
 
 pub returns-in-Ok-Some-clause-again : goal.returns-in-Ok-Some-clause-again
 returns-in-Ok-Some-clause-again g c clean s at first came =
@@ -62,7 +62,7 @@ pub returns-in-Err-NoMemory-clause-again : goal.returns-in-Err-NoMemory-clause-a
 returns-in-Err-NoMemory-clause-again g c clean s at first came =
     let d = c.args.desk.now in
     sends_again g.S.Store d s c.args.moment _ _ _ first came c.ended-in-Err-NoMemory.result (subst (λ (r : Result Served ServeFault). Serves g.S.Store d s c.args.moment (g.R.Read.remaining c.args.reader.now) (g.W.Write.contents c.args.writer.now) (g.W.Write.contents c.send.new.writer) r)
-    (sym c.ended-in-Err-NoMemory.ensures) (refuses g.S.Store d s c.args.moment _ _ _ c.send.result at c.send.ensures))
+    (sym c.ended-in-Err-NoMemory.ensures) (refuses g.S.Store d s c.args.moment _ _ _ c.send.result (c.in-Err-NoMemory.ensures.memory (ap Err c.in-Err-NoMemory.field-0-is)) at c.send.ensures))
 
 pub returns-in-Ok-Some-clause-tables : goal.returns-in-Ok-Some-clause-tables
 returns-in-Ok-Some-clause-tables g c clean s at =

@@ -1,4 +1,4 @@
-use Rattle.std.proofs.Common.{Err, inr, refl, ap, arith}
+use Rattle.std.proofs.Common.{Err, inr, refl, ap}
 use Rattle.bike_feeds.specs.DeskFault.{DeskFault}
 use Rattle.bike_http.proofs.Told.{act_undone, act_rests}
 use Rattle.bike_http.proofs.respond.act.Goals as goal
@@ -22,7 +22,7 @@ returns-in-Err-clause-rests g c clean s at leaves =
     (λ e. h.stops (ap (λ (x : DeskFault). Err x) e)) (λ e. h.stopped (ap (λ (x : DeskFault). Err x) e))
 
 pub returns-in-Ok-clause-good : goal.returns-in-Ok-clause-good
-returns-in-Ok-clause-good g c = record { moment = omega (arith, c.seconds.ensures.value, c.seconds.ensures.high); request = c.bounds.ensures }
+returns-in-Ok-clause-good g c = record { moment = c.bounds-2.ensures; request = c.bounds.ensures }
 
 pub returns-in-Err-clause-good : goal.returns-in-Err-clause-good
-returns-in-Err-clause-good g c = record { moment = omega (arith, c.seconds.ensures.value, c.seconds.ensures.high); request = c.bounds.ensures }
+returns-in-Err-clause-good g c = record { moment = c.bounds-2.ensures; request = c.bounds.ensures }

@@ -37,6 +37,20 @@ returns-in-Err g c =
       clean = h.desk.clean;
       sent = λ clean s at. responds g.S.Store c.write_feed.new.desk s s _ answer.Unavailable _ _ c.send-in-Err.result
           (inr (refl, feed_undone g.S.Store c.args.desk.now c.write_feed.new.desk s s c.in-Err.field-0 clean at h.desk)) c.send-in-Err.ensures;
+      rests = h.desk.rests;
       stays = λ is_stopped. (h.desk.stays is_stopped).1;
       refuses = λ is_stopped. c.send-in-Err.ensures;
     }
+
+pub returns-in-Ok-clause-rests : goal.returns-in-Ok-clause-rests
+returns-in-Ok-clause-rests g c = c.in-Ok.ensures.desk.rests
+
+pub returns-in-Err-Write-clause-rests : goal.returns-in-Err-Write-clause-rests
+returns-in-Err-Write-clause-rests g c clean s at on =
+    let early : HasCleanDisk (desk_state g.S.Store c.write_feed.new.desk) = omega (arith, clean, c.publish_counted.ensures.clean) in
+    let h = rw c.in-Err-Write.field-0-is at c.in-Err-Write.ensures in
+    let still = h.desk.write early s at refl in
+    c.publish_counted.ensures.rests clean s still on ∙ h.desk.rests early s at still.goes_on
+
+pub returns-in-Err-SystemMissing-clause-rests : goal.returns-in-Err-SystemMissing-clause-rests
+returns-in-Err-SystemMissing-clause-rests g c = c.in-Err-SystemMissing.ensures.desk.rests

@@ -1,4 +1,4 @@
-use Rattle.std.proofs.Common.{inl, inr, sym, ap, refl, arith}
+use Rattle.std.proofs.Common.{◌∙◌, inl, inr, sym, ap, refl, arith}
 use Rattle.sqlite.specs.State.{HasCleanDisk}
 use Rattle.bike_feeds.specs.Desk.{desk_state}
 use Rattle.bike_answers.specs.declared.answer.Answer.TheVariants as answer
@@ -26,6 +26,16 @@ returns-in-Err g c =
       clean = h.desk.clean;
       sent = λ clean s at. responds g.S.Store c.feed_length.new.desk s s _ answer.Unavailable _ _ c.send-in-Err.result
           (inr (refl, feed_undone g.S.Store c.args.desk.now c.feed_length.new.desk s s c.in-Err.field-0 clean at h.desk)) c.send-in-Err.ensures;
+      rests = h.desk.rests;
       stays = λ is_stopped. (h.desk.stays is_stopped).1;
       refuses = λ is_stopped. c.send-in-Err.ensures;
     }
+
+pub returns-in-Ok-clause-rests : goal.returns-in-Ok-clause-rests
+returns-in-Ok-clause-rests g c clean s at on =
+    let early : HasCleanDisk (desk_state g.S.Store c.feed_length.new.desk) = omega (arith, clean, c.publish_whole.ensures.clean) in
+    let h = c.in-Ok.ensures.desk in
+    c.publish_whole.ensures.rests clean s (h.same early s at) on ∙ h.rests early s at h.goes_on
+
+pub returns-in-Err-SystemMissing-clause-rests : goal.returns-in-Err-SystemMissing-clause-rests
+returns-in-Err-SystemMissing-clause-rests g c = c.in-Err-SystemMissing.ensures.desk.rests

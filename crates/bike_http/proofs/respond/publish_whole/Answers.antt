@@ -32,5 +32,15 @@ returns-in-Err g c =
       clean = h.desk.clean;
       sent = λ clean s at counted. cut_feed g.S.Store c.write_feed.new.desk s c.args.feed c.args.moment c.args.length _ counted _ _ head (h.front clean s at)
           (feed_undone g.S.Store c.args.desk.now c.write_feed.new.desk s s c.in-Err.field-0 clean at h.desk);
+      rests = h.desk.rests;
       stays = λ is_stopped. (h.desk.stays is_stopped).1;
     }
+
+pub returns-then-is_err-clause-rests : goal.returns-then-is_err-clause-rests
+returns-then-is_err-clause-rests g c clean s at on = refl
+
+pub returns-in-Ok-clause-rests : goal.returns-in-Ok-clause-rests
+returns-in-Ok-clause-rests g c = c.in-Ok.ensures.desk.rests
+
+pub returns-in-Err-Write-clause-rests : goal.returns-in-Err-Write-clause-rests
+returns-in-Err-Write-clause-rests g c = c.in-Err-Write.ensures.desk.rests

@@ -3,7 +3,7 @@ use Rattle.bike_incoming.specs.declared.asked.Asked.{Asked}
 use Rattle.bike_incoming.specs.declared.asked.Asked.TheVariants.{Apply, Show, Publish}
 use Rattle.bike_answers.specs.declared.answer.Answer.{Answer}
 use Rattle.bike_http.specs.Exchange.{IsGood}
-use Rattle.bike_http.specs.Telling.{LeavesOperator, RestsAfter, SendsAnswer, refusal_of}
+use Rattle.bike_http.specs.Telling.{RestsAfter, SendsAnswer, refusal_of}
 use Rattle.bike_http.proofs.Told.{responds, responds_so, rejects, responds_to}
 use Rattle.bike_http.proofs.respond.respond.Goals as goal
 
@@ -41,10 +41,14 @@ returns-in-Apply-clause-rests g c clean s at =
     subst (λ (a : Asked). RestsAfter g.S.Store c.args.desk.now c.act-answer.new.desk s c.args.moment a) (sym c.in-Apply.is) (c.act-answer.ensures.rests clean s at)
 
 pub returns-in-Show-clause-rests : goal.returns-in-Show-clause-rests
-returns-in-Show-clause-rests g c clean s at leaves on = absurd (subst (λ (a : Asked). LeavesOperator s c.args.moment a) c.in-Show.is leaves)
+returns-in-Show-clause-rests g c clean s at =
+    subst (λ (a : Asked). RestsAfter g.S.Store c.args.desk.now c.show-answer.new.desk s c.args.moment a) (sym c.in-Show.is)
+    (λ leaves on. c.show-answer.ensures.rests clean s at on)
 
 pub returns-in-Publish-clause-rests : goal.returns-in-Publish-clause-rests
-returns-in-Publish-clause-rests g c clean s at leaves on = absurd (subst (λ (a : Asked). LeavesOperator s c.args.moment a) c.in-Publish.is leaves)
+returns-in-Publish-clause-rests g c clean s at =
+    subst (λ (a : Asked). RestsAfter g.S.Store c.args.desk.now c.publish.new.desk s c.args.moment a) (sym c.in-Publish.is)
+    (λ leaves on. c.publish.ensures.rests clean s at on)
 
 pub returns-in-Reject-clause-good : goal.returns-in-Reject-clause-good
 returns-in-Reject-clause-good g c = subst (λ (a : Asked). IsGood c.args.moment a) (sym c.in-Reject.is) tt
