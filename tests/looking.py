@@ -91,7 +91,6 @@ def test_files_of_a_byte_or_none(program):
         removed(file)
         put({"": data}, file)
         assert program.run("lines", file.name, given=b"") == (0, b"", b"") and held(file), data
-        stays(program, file.name)
         removed(file)
 
 
