@@ -152,11 +152,12 @@ def lowered(file, version):
 def declared(name, columns):
     """The statement that makes a table of section 10 of docs/FORMATS.md with these columns, of which the first are its
     key."""
-    keys = audit.TABLES["stations_3" if name in OLD.values() else name]
-    optional = audit.MAY_BE_NULL.get("stations_3" if name in OLD.values() else name, ())
+    table = "stations_3" if name in OLD.values() else name
+    keys = audit.TABLES[table]
+    optional = audit.MAY_BE_NULL.get(table, ())
 
     def spelled(at, column):
-        text = audit.is_of_text(name, column)
+        text = audit.is_of_text(table, column)
         if at == 0 and keys == 1:
             return f'"{column}" TEXT PRIMARY KEY NOT NULL' if text else f'"{column}" INTEGER PRIMARY KEY'
         return f'"{column}" {"TEXT" if text else "INTEGER"}' + ("" if column in optional else " NOT NULL")
