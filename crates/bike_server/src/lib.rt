@@ -1,4 +1,5 @@
-//! HTTP over sockets: a database is taken into service, and each connection on a port of the loopback address has one request answered.
+//! HTTP over sockets: a database is taken into service, and each connection on a port of the loopback address has one request answered,
+//! in the order in which the requests are there.
 //!
 //! Serving itself knows no socket: it is generic over where connections come from, so that over memory its contract says what each
 //! of them is sent.
@@ -10,11 +11,10 @@ mod file;
 mod memory;
 mod server;
 mod sockets;
-mod timed;
 
 pub use arrivals::{AcceptFault, Arrival, Arrivals};
+pub use bike_connections::clock_moment;
 pub use fault::ServerFault;
 pub use file::listen_on_file;
 pub use memory::{Parting, Played, Visit};
 pub use server::{listen, serve_count};
-pub use sockets::clock_moment;

@@ -1,4 +1,4 @@
-//! HTTP/1.1 on the loopback address: one request a connection, one connection after the other.
+//! HTTP/1.1 on the loopback address: one request a connection, one request after the other.
 
 ghost use Rattle.std.specs.Prelude.{◌≡◌, ◌≤◌, ◌⊎◌, ℕ, List, [], Some, IfSome, IsSomeAnd, IfErr, false, IsTrue, Err};
 ghost use Rattle.sqlite.specs.State.{HasCleanDisk};
@@ -16,6 +16,7 @@ use crate::arrivals::{AcceptFault, Arrival, Arrivals};
 use crate::fault::ServerFault;
 use crate::sockets::Sockets;
 use bike_adoption::adopt;
+use bike_connections::{Connections, has_descriptors};
 use bike_console::Fault;
 use bike_fixed::Moment;
 use bike_heads::Routes;
@@ -24,8 +25,7 @@ use bike_json::TokenBuffer;
 use bike_stream::write_whole;
 use sqlite::{Alter, Connection};
 use std::alloc::Global;
-use std::io::{Read, Write};
-use std::net::TcpListener;
+use std::io::{ErrorKind, Read, Write};
 
 /// How an exchange ended whose last bytes weren't taken.
 fn cut_short(served: Result<Served, ServeFault>) -> Result<Served, ServeFault>
@@ -129,29 +129,26 @@ pub fn serve_count<S: Alter, A: Arrivals>(
     Ok(())
 }
 
-/// A listener on this port of 127.0.0.1; `BindFailed` where there can be none.
-fn bind(rt: &HostRuntime, port: u16) -> Result<TcpListener, ServerFault> {
-    let address = format!(in rt.alloc(); "127.0.0.1:{port}")?;
-    match TcpListener::bind(rt, address.as_str()) {
-        Ok(listener) => Ok(listener),
+/// So many connections on this port of 127.0.0.1; `BindFailed` where it can't be listened on, and `AcceptFailed` where the process may
+/// not have the descriptors that they take.
+fn bind(rt: &HostRuntime, port: u16, count: u64) -> Result<Connections, ServerFault> {
+    if !has_descriptors() {
+        return Err(ServerFault::AcceptFailed);
+    }
+    match Connections::bind(rt, port, count) {
+        Ok(connections) => Ok(connections),
+        Err(error) if error.kind() == ErrorKind::OutOfMemory => Err(ServerFault::OutOfMemory),
         Err(_) => Err(ServerFault::BindFailed),
     }
 }
 
-/// Whether a connection finds the descriptors that it takes: its own, and one more for its other way.
-fn has_descriptors(listener: &TcpListener) -> bool {
-    let first = listener.try_clone();
-    let second = listener.try_clone();
-    first.is_ok() && second.is_ok()
-}
-
-/// Tells the port; `BindFailed` where the listener has none, and `WriteFailed` where the output fails.
+/// Tells the port; `BindFailed` where there is none, and `WriteFailed` where the output fails.
 fn tell_port<W: Write>(
     rt: &HostRuntime,
-    listener: &TcpListener,
+    connections: &Connections,
     writer: &mut W,
 ) -> Result<(), ServerFault> {
-    let Ok(bound) = listener.local_addr() else {
+    let Ok(bound) = connections.local_addr() else {
         return Err(ServerFault::BindFailed);
     };
     let line = format!(in rt.alloc(); "listening {bound}\n")?;
@@ -161,8 +158,7 @@ fn tell_port<W: Write>(
     }
 }
 
-/// Listens on this port of 127.0.0.1 and tells it, and serves so many connections, or without end. `AcceptFailed` where the process may
-/// not have the descriptors that a connection takes: each would end without an answer.
+/// Listens on this port of 127.0.0.1 and tells it, and serves so many connections, or without end; then it sends the answers under way.
 fn listen_at<S: Alter, W: Write>(
     rt: &HostRuntime,
     desk: &mut Desk<S>,
@@ -174,17 +170,16 @@ fn listen_at<S: Alter, W: Write>(
     ensures clean { doubt (desk_state S.Store desk.old).is_clean ≤ doubt (desk_state S.Store desk.new).is_clean }
     ensures kept { OfOperator S.Store desk.old desk.new (λ s. ServesRequests S.Store desk.new s) }
 {
-    let listener = bind(rt, port)?;
-    if !has_descriptors(&listener) {
-        return Err(ServerFault::AcceptFailed);
-    }
-    tell_port(rt, &listener, writer)?;
     let count = match count {
         Some(count) => u64::from(count),
         None => u64::MAX,
     };
-    let mut sockets = Sockets::new(rt, &listener);
-    serve_count(rt.alloc(), desk, routes, &mut sockets, count)
+    let connections = bind(rt, port, count)?;
+    tell_port(rt, &connections, writer)?;
+    let mut sockets = Sockets::new(rt, connections);
+    let served = serve_count(rt.alloc(), desk, routes, &mut sockets, count);
+    sockets.close(served.is_ok());
+    served
 }
 
 /// Listens with all routes, and serves.

@@ -1,52 +1,33 @@
 //! Connections over sockets.
 
 use crate::arrivals::{AcceptFault, Arrival, Arrivals};
-use crate::timed::TimedStream;
-use bike_fixed::Moment;
+use bike_connections::{Answer, Connections};
 use bike_http::{ServeFault, Served};
-use std::io::Read;
-use std::net::TcpListener;
-use std::time::{Duration, SystemTime};
+use std::io;
+use std::io::{Cursor, Read};
+use std::time::Duration;
 
-/// How many seconds an exchange takes at most, from its acceptance to the last byte of its answer, whatever its client does.
-const PATIENCE: u64 = 10;
+/// For how many seconds the answers under way are still sent where the desk is stopped.
+const PATIENCE_STOPPED: u64 = 1;
 
-/// For how many milliseconds in all a client is waited for that may still send of a request which was answered before all of it was
-/// read.
-const LINGER: u64 = 200;
-
-/// In how many pieces that is read at most.
-const MOST_PIECES: u32 = 64;
-
-/// The clock's moment in whole seconds; none where the clock gives none, or one beyond the last that there is.
-pub fn clock_moment(rt: &HostRuntime) -> Option<Moment> {
-    let Ok(now) = SystemTime::now(rt) else {
-        return None;
-    };
-    let Ok(since) = now.duration_since(SystemTime::UNIX_EPOCH) else {
-        return None;
-    };
-    Moment::new(since.as_secs())
-}
+/// For how many seconds they are where all were served that were to be: the last may have been accepted just now.
+const PATIENCE_DONE: u64 = 10;
 
 /// Whether the answer may have come before the whole request was read.
 fn may_be_early(served: Result<Served, ServeFault>) -> bool {
     matches!(served, Ok(Served::Status(400 | 404 | 405 | 413)))
 }
 
-/// Reads what a client still sends. A connection that is closed while bytes of it are unread is reset, and with that the client may
-/// lose its answer (RFC 9112, section 9.6).
-fn drain(stream: TimedStream) {
-    stream.shut_writes();
-    let Some(mut reader) = stream.for_at_most(Duration::from_millis(LINGER)) else {
-        return;
-    };
-    let mut piece = [0; 4096];
-    for _ in 0..MOST_PIECES {
-        match reader.read(&mut piece) {
-            Ok(0) | Err(_) => return,
-            Ok(_) => {}
-        }
+/// The request of a connection, as it was gathered, and whose it is.
+#[derive(Drop)]
+pub(crate) struct Gathered {
+    key: usize,
+    bytes: Cursor<Vec<u8>>,
+}
+
+impl Read for Gathered {
+    fn read(&mut self, buf: &mut [u8]) -> io::Result<usize> {
+        self.bytes.read(buf)
     }
 }
 
@@ -54,49 +35,57 @@ fn drain(stream: TimedStream) {
 #[derive(Drop)]
 pub(crate) struct Sockets<'a> {
     rt: &'a HostRuntime,
-    listener: &'a TcpListener,
+    connections: Connections,
 }
 
 impl<'a> Sockets<'a> {
-    /// The connections of this listener.
-    pub(crate) fn new(rt: &'a HostRuntime, listener: &'a TcpListener) -> Sockets<'a> {
-        Sockets { rt, listener }
+    /// These connections.
+    pub(crate) fn new(rt: &'a HostRuntime, connections: Connections) -> Sockets<'a> {
+        Sockets { rt, connections }
+    }
+
+    /// Accepts no more, and sends the answers under way: for a second where serving ended early.
+    pub(crate) fn close(&mut self, is_done: bool) {
+        let seconds = if is_done {
+            PATIENCE_DONE
+        } else {
+            PATIENCE_STOPPED
+        };
+        let _ = self
+            .connections
+            .close(self.rt, Duration::from_secs(seconds));
     }
 }
 
 impl<'a> Arrivals for Sockets<'a> {
     ghost use Rattle.std.specs.Prelude.{None};
 
-    type Reader = TimedStream<'a>;
+    type Reader = Gathered;
 
-    type Writer = TimedStream<'a>;
+    type Writer = Answer;
 
     ghost known = { λ _. None };
 
-    fn accept(&mut self) -> Result<Option<Arrival<TimedStream<'a>, TimedStream<'a>>>, AcceptFault> {
-        let Ok((stream, _)) = self.listener.accept() else {
-            return Err(AcceptFault);
-        };
-        let Some(moment) = clock_moment(self.rt) else {
-            return Err(AcceptFault);
-        };
-        let patience = Duration::from_secs(PATIENCE);
-        let (reader, writer) = TimedStream::both_ways(self.rt, stream, patience);
-        Ok(Some(Arrival {
-            moment,
-            reader,
-            writer,
-        }))
+    fn accept(&mut self) -> Result<Option<Arrival<Gathered, Answer>>, AcceptFault> {
+        match self.connections.next(self.rt) {
+            Ok(Some(request)) => {
+                let reader = Gathered {
+                    key: request.key,
+                    bytes: Cursor::new(request.bytes),
+                };
+                Ok(Some(Arrival {
+                    moment: request.moment,
+                    reader,
+                    writer: request.answer,
+                }))
+            }
+            Ok(None) => Ok(None),
+            Err(_) => Err(AcceptFault),
+        }
     }
 
-    fn finish(
-        &mut self,
-        reader: TimedStream<'a>,
-        _writer: TimedStream<'a>,
-        served: Result<Served, ServeFault>,
-    ) {
-        if may_be_early(served) {
-            drain(reader);
-        }
+    fn finish(&mut self, reader: Gathered, writer: Answer, served: Result<Served, ServeFault>) {
+        self.connections
+            .finish(reader.key, writer, may_be_early(served));
     }
 }
