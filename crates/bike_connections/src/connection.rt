@@ -1,15 +1,15 @@
-//! One connection.
+//! What a connection is about.
 
 use crate::answer::Answer;
-use crate::gathering::{Gathering, PIECE};
-use crate::limits::MOST_CALLS;
-use bike_fixed::Moment;
+use crate::exchange::Exchange;
+use crate::gathering::Gathering;
+use crate::limits::{MOST_CALLS, PIECE};
+use crate::peer::Peer;
+use mio::Registry;
 use mio::net::TcpStream;
-use mio::{Interest, Registry, Token};
+use std::alloc::Global;
+use std::io;
 use std::io::{ErrorKind, Read};
-use std::net::Shutdown;
-use std::time::Instant;
-use std::{io, mem};
 
 /// In how many pieces is read at most what a client still sends once it is answered.
 const MOST_PIECES: u32 = 64;
@@ -21,136 +21,46 @@ pub(crate) enum Step {
     Waits,
     /// There may be more to do at once, but others come first.
     GoesOn,
-    /// Its request is there.
+    /// No more of its request is wanted.
     Settled,
     /// Its client took the answer.
     Sent,
     /// It has nothing to do.
     Rests,
-    /// It is over.
+    /// It failed, or is done.
     Over,
 }
 
 /// What a connection is about.
 #[derive(Drop)]
-pub(crate) enum State {
+enum State {
     /// Its request comes.
     Gathering(Gathering),
-    /// Its request is there, with these bytes.
-    Ready(Vec<u8>),
-    /// Its request was handed out.
-    Answering,
+    /// Its request is there.
+    Ready(Gathering),
+    /// It failed or was given up before its request was there.
+    Lost,
     /// Its answer goes out. It may have been made before all of the request was read.
     Sending { answer: Answer, is_early: bool },
     /// It was answered before all of its request was read, and what comes still is read in so many pieces.
     Lingering { pieces: u32 },
 }
 
-/// What the system tells of a socket.
-#[derive(Clone, Copy, PartialEq, Eq)]
-enum Watched {
-    Nothing,
-    Reads,
-    Writes,
-}
-
-/// A connection: when it was accepted, and when it is given up.
+/// A connection.
 #[derive(Drop)]
 pub(crate) struct Connection {
-    stream: TcpStream,
-    pub(crate) moment: Moment,
-    pub(crate) end: Instant,
-    watched: Watched,
+    pub(crate) peer: Peer,
+    state: State,
     /// Whether it goes on in the next turn without being told of.
     pub(crate) is_going: bool,
-    pub(crate) state: State,
 }
 
-impl Connection {
-    /// A connection that was accepted at this moment.
-    pub(crate) fn new(stream: TcpStream, moment: Moment, end: Instant, state: State) -> Connection {
-        Connection {
-            stream,
-            moment,
-            end,
-            watched: Watched::Nothing,
-            is_going: false,
-            state,
-        }
-    }
-
-    /// How many blocks its answer holds.
-    pub(crate) fn blocks(&self) -> usize {
-        match &self.state {
-            State::Sending { answer, .. } => answer.blocks(),
-            State::Gathering(_) | State::Ready(_) | State::Answering | State::Lingering { .. } => 0,
-        }
-    }
-
-    /// Whether it may be given up: its request isn't there, or is answered.
-    pub(crate) fn is_late(&self, now: Instant) -> bool {
-        self.end <= now
-    }
-
-    /// Reads or writes as far as its socket is ready.
-    pub(crate) fn step(&mut self) -> Step {
-        match &mut self.state {
-            State::Gathering(gathering) => gathering.gather(&self.stream),
-            State::Sending { answer, .. } => answer.send(&self.stream),
-            State::Lingering { pieces } => linger(&self.stream, pieces),
-            State::Ready(_) | State::Answering => Step::Rests,
-        }
-    }
-
-    /// Its request is there.
-    pub(crate) fn settle(&mut self) {
-        if let State::Gathering(gathering) = mem::replace(&mut self.state, State::Answering) {
-            self.state = State::Ready(gathering.into_bytes());
-        }
-    }
-
-    /// The bytes of its request, which is handed out; none where it isn't there.
-    pub(crate) fn take_bytes(&mut self) -> Option<Vec<u8>> {
-        match mem::replace(&mut self.state, State::Answering) {
-            State::Ready(bytes) => Some(bytes),
-            state => {
-                self.state = state;
-                None
-            }
-        }
-    }
-
-    /// Tells the client that nothing more is sent, and reads what it still sends. A connection that is closed while bytes of it are
-    /// unread is reset, and with that the client may lose its answer (RFC 9112, section 9.6).
-    pub(crate) fn shut(&mut self) {
-        let _ = self.stream.shutdown(Shutdown::Write);
-        self.state = State::Lingering {
-            pieces: MOST_PIECES,
-        };
-    }
-
-    /// Has the system tell when the socket is ready for what the connection waits for.
-    pub(crate) fn watch(&mut self, registry: &Registry, key: usize) -> io::Result<()> {
-        let (wanted, interest) = match &self.state {
-            State::Sending { .. } => (Watched::Writes, Interest::WRITABLE),
-            State::Gathering(_) | State::Ready(_) | State::Answering | State::Lingering { .. } => (
-                Watched::Reads,
-                Interest::READABLE,
-            ),
-        };
-        let before = self.watched;
-        self.watched = wanted;
-        if before == wanted {
-            return Ok(());
-        }
-        if before == Watched::Nothing {
-            return registry.register(&mut self.stream, Token(key), interest);
-        }
-        registry.reregister(&mut self.stream, Token(key), interest)
-    }
+/// Whether these bytes may ask for a feed, whose path has this part. No other answer is long.
+fn may_be_feed(bytes: &[u8]) -> bool {
+    bytes.windows(6).any(|part| part == b"/gbfs/".as_slice())
 }
 
-/// Reads what a client still sends, and lets it go.
+/// Reads what a client still sends, and drops it.
 fn linger(stream: &TcpStream, pieces: &mut u32) -> Step {
     let mut piece = [0; PIECE];
     for _ in 0..MOST_CALLS {
@@ -167,4 +77,122 @@ fn linger(stream: &TcpStream, pieces: &mut u32) -> Step {
         }
     }
     Step::GoesOn
+}
+
+impl Connection {
+    /// A connection of whose request this came.
+    pub(crate) fn gathering(peer: Peer, gathering: Gathering) -> Connection {
+        Connection {
+            peer,
+            state: State::Gathering(gathering),
+            is_going: false,
+        }
+    }
+
+    /// A connection that was answered. The answer may have been made before all of the request was read (`is_early`).
+    pub(crate) fn sending(peer: Peer, answer: Answer, is_early: bool) -> Connection {
+        Connection {
+            peer,
+            state: State::Sending { answer, is_early },
+            is_going: false,
+        }
+    }
+
+    /// How many blocks its answer holds.
+    pub(crate) fn blocks(&self) -> usize {
+        match &self.state {
+            State::Sending { answer, .. } => answer.blocks(),
+            State::Gathering(_) | State::Ready(_) | State::Lost | State::Lingering { .. } => 0,
+        }
+    }
+
+    /// Whether it is answered.
+    pub(crate) fn is_answered(&self) -> bool {
+        matches!(&self.state, State::Sending { .. } | State::Lingering { .. })
+    }
+
+    /// Whether its client may still send of a request which was answered before all of it was read.
+    pub(crate) fn is_early(&self) -> bool {
+        matches!(&self.state, State::Sending { is_early: true, .. })
+    }
+
+    /// Whether its request may ask for a feed.
+    pub(crate) fn may_be_feed(&self) -> bool {
+        match &self.state {
+            State::Ready(gathering) => may_be_feed(gathering.bytes.as_slice()),
+            State::Gathering(_) | State::Lost | State::Sending { .. } | State::Lingering { .. } => {
+                false
+            }
+        }
+    }
+
+    /// Reads or writes as far as its socket is ready.
+    pub(crate) fn step(&mut self) -> Step {
+        match &mut self.state {
+            State::Gathering(gathering) => gathering.gather(&self.peer.stream),
+            State::Sending { answer, .. } => answer.send(&self.peer.stream),
+            State::Lingering { pieces } => linger(&self.peer.stream, pieces),
+            State::Ready(_) | State::Lost => Step::Rests,
+        }
+    }
+
+    /// No more of its request is wanted.
+    pub(crate) fn settled(self) -> Connection {
+        let Connection {
+            peer,
+            state,
+            is_going,
+        } = self;
+        let state = match state {
+            State::Gathering(gathering) => State::Ready(gathering),
+            state => state,
+        };
+        Connection {
+            peer,
+            state,
+            is_going,
+        }
+    }
+
+    /// It failed, or was given up.
+    pub(crate) fn lose(&mut self) {
+        self.state = State::Lost;
+    }
+
+    /// The connection handed out, with its request or as one that is lost; as it was where its request is still to come.
+    pub(crate) fn into_exchange(self, alloc: Global) -> Result<Exchange, Connection> {
+        let Connection {
+            peer,
+            state,
+            is_going,
+        } = self;
+        match state {
+            State::Ready(gathering) => Ok(Exchange::new(peer, gathering.bytes, gathering.is_ended)),
+            State::Lost => Ok(Exchange::new(peer, Vec::new(alloc), false)),
+            state => Err(Connection {
+                peer,
+                state,
+                is_going,
+            }),
+        }
+    }
+
+    /// Tells the client that nothing more is sent, and reads what it still sends. A connection that is closed while bytes of it are
+    /// unread is reset, and with that the client may lose its answer (RFC 9112, section 9.6).
+    pub(crate) fn linger(&mut self) {
+        self.peer.shut_writes();
+        self.state = State::Lingering {
+            pieces: MOST_PIECES,
+        };
+    }
+
+    /// Has the system tell when the socket is ready for what the connection waits for.
+    pub(crate) fn watch(&mut self, registry: &Registry, key: usize) -> io::Result<()> {
+        match &self.state {
+            State::Sending { .. } => self.peer.watch_writes(registry, key),
+            State::Gathering(_) | State::Ready(_) | State::Lost | State::Lingering { .. } => {
+                self.peer.watch_reads(registry, key)
+            }
+        }
+    }
 }

@@ -2,26 +2,19 @@
 
 use crate::answer::Answer;
 use crate::clock::clock_moment;
-use crate::gathering::PIECE;
-use crate::limits::TURN;
+use crate::connection::Connection;
+use crate::exchange::Exchange;
+use crate::gathering::Gathering;
+use crate::limits::{PIECE, TURN};
 use crate::listener::{Accepted, LISTENER, Listener, read_alone};
 use crate::open::Open;
-use bike_fixed::Moment;
+use crate::peer::Peer;
 use mio::net::TcpStream;
 use mio::{Events, Poll};
 use std::io;
 use std::io::ErrorKind;
 use std::net::SocketAddr;
 use std::time::{Duration, Instant};
-
-/// A request that is there: whose it is, when its connection was accepted, its bytes, and what takes its answer.
-#[derive(Drop)]
-pub struct Request {
-    pub key: usize,
-    pub moment: Moment,
-    pub bytes: Vec<u8>,
-    pub answer: Answer,
-}
 
 /// The connections on a port of the loopback address.
 #[derive(Drop)]
@@ -32,10 +25,10 @@ pub struct Connections {
     open: Open,
     /// When this turn began.
     now: Instant,
-    /// How many requests are still handed out in this turn.
+    /// How many requests that are no feeds are still handed out in this turn.
     answers: usize,
-    /// Whether a feed that waited may be handed out in this turn.
-    may_wait: bool,
+    /// Whether a feed may be handed out in this turn.
+    may_publish: bool,
 }
 
 impl Connections {
@@ -54,7 +47,7 @@ impl Connections {
             open,
             now,
             answers: 0,
-            may_wait: false,
+            may_publish: false,
         })
     }
 
@@ -68,8 +61,15 @@ impl Connections {
         let Some(moment) = clock_moment(rt) else {
             return Err(ErrorKind::Other.into());
         };
-        self.open
-            .insert(self.poll.registry(), stream, moment, self.now, came)
+        let Some(peer) = Peer::new(stream, moment, self.now) else {
+            return Err(ErrorKind::Other.into());
+        };
+        let mut gathering = Gathering::new(rt.alloc());
+        if gathering.add(came).is_ok() {
+            let connection = Connection::gathering(peer, gathering);
+            self.open.insert(self.poll.registry(), connection, self.now);
+        }
+        Ok(())
     }
 
     /// Accepts those that wait, as far as there is room.
@@ -99,11 +99,7 @@ impl Connections {
         if stream.set_nonblocking(true).is_err() {
             return Ok(());
         }
-        self.take_in(rt, TcpStream::from_std(stream), &piece[..count])?;
-        if self.open.has_work() {
-            return Ok(());
-        }
-        self.listener.is_joined()
+        self.take_in(rt, TcpStream::from_std(stream), &piece[..count])
     }
 
     /// Waits until a socket is ready or somebody's time is over, and goes on with those whose socket is.
@@ -130,10 +126,11 @@ impl Connections {
     /// One turn: everybody goes on as far as that is possible now.
     fn turn(&mut self, rt: &HostRuntime) -> io::Result<()> {
         self.answers = TURN;
-        self.may_wait = true;
+        self.may_publish = true;
         if self.open.is_empty() {
             return self.accept_alone(rt);
         }
+        self.listener.stop_waiting()?;
         self.wait()?;
         self.now = Instant::now(rt)?;
         self.accept_some(rt)?;
@@ -142,28 +139,29 @@ impl Connections {
     }
 
     /// The next of those whose request is there in this turn.
-    fn next_in_turn(&mut self) -> Option<Request> {
+    fn next_in_turn(&mut self) -> Option<(Exchange, Answer)> {
         if self.answers > 0 {
             self.answers = self.answers.saturating_sub(1);
-            let request = self.open.next_ready();
-            if request.is_some() {
-                return request;
+            let next = self.open.next_ready();
+            if next.is_some() {
+                return next;
             }
         }
-        if !self.may_wait {
+        if !self.may_publish {
             return None;
         }
-        self.may_wait = false;
-        self.open.next_waiting()
+        self.may_publish = false;
+        self.open.next_feed()
     }
 
-    /// The next connection whose request is there, in the order in which they were; none once all are over that were to be accepted.
-    /// An error is a listener, a wait or a clock that fails.
-    pub fn next(&mut self, rt: &HostRuntime) -> io::Result<Option<Request>> {
+    /// The next connection whose request is there, in the order in which they were, but that one feed a turn comes behind the others;
+    /// and those that are lost. With it comes what takes its answer. None once all are over that were to be accepted. An error is a
+    /// listener, a wait or a clock that fails.
+    pub fn next(&mut self, rt: &HostRuntime) -> io::Result<Option<(Exchange, Answer)>> {
         for _ in 0..u64::MAX {
-            let request = self.next_in_turn();
-            if request.is_some() {
-                return Ok(request);
+            let next = self.next_in_turn();
+            if next.is_some() {
+                return Ok(next);
             }
             if self.listener.is_done() && self.open.is_empty() {
                 return Ok(None);
@@ -175,9 +173,9 @@ impl Connections {
 
     /// Takes a connection back with its answer, which goes out as its client takes it. It may have been made before all of the request
     /// was read (`is_early`): then what comes still is read for a moment.
-    pub fn finish(&mut self, key: usize, answer: Answer, is_early: bool) {
-        self.open
-            .finish(self.poll.registry(), key, answer, is_early, self.now);
+    pub fn finish(&mut self, exchange: Exchange, answer: Answer, is_early: bool) {
+        let connection = Connection::sending(exchange.peer, answer, is_early);
+        self.open.insert(self.poll.registry(), connection, self.now);
     }
 
     /// Accepts and reads no more, and sends the answers under way for so long at most.
@@ -186,11 +184,11 @@ impl Connections {
         let now = Instant::now(rt)?;
         self.open.close(now.checked_add(patience).unwrap_or(now));
         for _ in 0..u64::MAX {
+            self.now = Instant::now(rt)?;
+            self.open.give_up(self.now);
             if self.open.is_empty() {
                 return Ok(());
             }
-            self.now = Instant::now(rt)?;
-            self.open.give_up(self.now);
             self.wait()?;
         }
         Ok(())

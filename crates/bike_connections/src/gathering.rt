@@ -1,14 +1,11 @@
 //! The bytes of a request, as they come.
 
 use crate::connection::Step;
-use crate::limits::MOST_CALLS;
+use crate::limits::{MOST_CALLS, PIECE};
 use crate::settled::{bytes_wanted, is_settled};
 use mio::net::TcpStream;
 use std::alloc::{AllocError, Global};
 use std::io::{ErrorKind, Read};
-
-/// How many bytes are read at once.
-pub(crate) const PIECE: usize = 4096;
 
 /// How many bytes are gathered at most: those of the longest head and of the longest body.
 const MOST_BYTES: usize = 24_576;
@@ -16,9 +13,11 @@ const MOST_BYTES: usize = 24_576;
 /// What came of a request so far.
 #[derive(Drop)]
 pub(crate) struct Gathering {
-    bytes: Vec<u8>,
+    pub(crate) bytes: Vec<u8>,
     /// With fewer bytes than so many it can't be whole.
     wanted: usize,
+    /// Whether nothing more comes.
+    pub(crate) is_ended: bool,
 }
 
 impl Gathering {
@@ -27,20 +26,16 @@ impl Gathering {
         Gathering {
             bytes: Vec::new(alloc),
             wanted: 1,
+            is_ended: false,
         }
     }
 
-    /// The bytes that came.
-    pub(crate) fn into_bytes(self) -> Vec<u8> {
-        self.bytes
-    }
-
-    /// Adds bytes; true where no more are wanted. The room grows by what it has, and not beyond the most.
+    /// Adds bytes; true where no more are wanted. The room grows to twice what there is, and not beyond the most.
     pub(crate) fn add(&mut self, bytes: &[u8]) -> Result<bool, AllocError> {
         let length = self.bytes.len();
-        let room = MOST_BYTES.saturating_sub(length);
-        self.bytes
-            .reserve_exact(length.max(bytes.len()).min(room).max(bytes.len()))?;
+        let most = MOST_BYTES.saturating_sub(length);
+        let room = length.min(most).max(bytes.len());
+        self.bytes.reserve_exact(room)?;
         self.bytes.extend_from_slice(bytes)?;
         if self.bytes.len() < self.wanted {
             return Ok(false);
@@ -52,15 +47,17 @@ impl Gathering {
         Ok(self.bytes.len() >= MOST_BYTES)
     }
 
-    /// Reads what is there. The end of the input settles a request too, as far as it came.
+    /// Reads what is there, until nothing more is wanted. It is lost where a read fails or memory is refused.
     pub(crate) fn gather(&mut self, stream: &TcpStream) -> Step {
         let mut piece = [0; PIECE];
         for _ in 0..MOST_CALLS {
             let room = MOST_BYTES.saturating_sub(self.bytes.len()).min(PIECE);
             let mut input = stream;
             match input.read(&mut piece[..room]) {
-                Ok(0) if self.bytes.is_empty() => return Step::Over,
-                Ok(0) => return Step::Settled,
+                Ok(0) => {
+                    self.is_ended = true;
+                    return Step::Settled;
+                }
                 Ok(count) => match self.add(&piece[..count]) {
                     Ok(true) => return Step::Settled,
                     Ok(false) => {}

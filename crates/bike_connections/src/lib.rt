@@ -8,14 +8,17 @@ mod answer;
 mod clock;
 mod connection;
 mod connections;
+mod exchange;
 mod gathering;
 mod limits;
 mod listener;
 mod open;
+mod peer;
 mod settled;
 
 pub use answer::Answer;
 pub use clock::clock_moment;
-pub use connections::{Connections, Request};
+pub use connections::Connections;
+pub use exchange::Exchange;
 pub use limits::has_descriptors;
 pub use settled::is_settled;

@@ -14,6 +14,9 @@ pub(crate) const PATIENCE: u64 = 10;
 /// How many events, connections and answers one turn takes at most, before it is the others' turn.
 pub(crate) const TURN: usize = 64;
 
+/// How many bytes are read at once.
+pub(crate) const PIECE: usize = 4096;
+
 /// How many reads or writes a connection has in one turn.
 pub(crate) const MOST_CALLS: u32 = 16;
 

@@ -117,9 +117,11 @@ impl Listener {
         Ok(stream)
     }
 
-    /// Others may come while the one that came alone is open.
-    pub(crate) fn is_joined(&mut self) -> io::Result<()> {
-        self.may_accept = true;
+    /// Has `accept` not wait, since one is open. Others may have come meanwhile.
+    pub(crate) fn stop_waiting(&mut self) -> io::Result<()> {
+        if self.waits {
+            self.may_accept = true;
+        }
         self.set_waits(false)
     }
 }

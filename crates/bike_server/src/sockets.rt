@@ -1,10 +1,8 @@
 //! Connections over sockets.
 
 use crate::arrivals::{AcceptFault, Arrival, Arrivals};
-use bike_connections::{Answer, Connections};
+use bike_connections::{Answer, Connections, Exchange};
 use bike_http::{ServeFault, Served};
-use std::io;
-use std::io::{Cursor, Read};
 use std::time::Duration;
 
 /// For how many seconds the answers under way are still sent where the desk is stopped.
@@ -16,19 +14,6 @@ const PATIENCE_DONE: u64 = 10;
 /// Whether the answer may have come before the whole request was read.
 fn may_be_early(served: Result<Served, ServeFault>) -> bool {
     matches!(served, Ok(Served::Status(400 | 404 | 405 | 413)))
-}
-
-/// The request of a connection, as it was gathered, and whose it is.
-#[derive(Drop)]
-pub(crate) struct Gathered {
-    key: usize,
-    bytes: Cursor<Vec<u8>>,
-}
-
-impl Read for Gathered {
-    fn read(&mut self, buf: &mut [u8]) -> io::Result<usize> {
-        self.bytes.read(buf)
-    }
 }
 
 /// The connections on a port, each accepted at the clock's moment and given up after ten seconds.
@@ -60,32 +45,26 @@ impl<'a> Sockets<'a> {
 impl<'a> Arrivals for Sockets<'a> {
     ghost use Rattle.std.specs.Prelude.{None};
 
-    type Reader = Gathered;
+    type Reader = Exchange;
 
     type Writer = Answer;
 
     ghost known = { λ _. None };
 
-    fn accept(&mut self) -> Result<Option<Arrival<Gathered, Answer>>, AcceptFault> {
+    fn accept(&mut self) -> Result<Option<Arrival<Exchange, Answer>>, AcceptFault> {
         match self.connections.next(self.rt) {
-            Ok(Some(request)) => {
-                let reader = Gathered {
-                    key: request.key,
-                    bytes: Cursor::new(request.bytes),
-                };
-                Ok(Some(Arrival {
-                    moment: request.moment,
-                    reader,
-                    writer: request.answer,
-                }))
-            }
+            Ok(Some((exchange, answer))) => Ok(Some(Arrival {
+                moment: exchange.moment(),
+                reader: exchange,
+                writer: answer,
+            })),
             Ok(None) => Ok(None),
             Err(_) => Err(AcceptFault),
         }
     }
 
-    fn finish(&mut self, reader: Gathered, writer: Answer, served: Result<Served, ServeFault>) {
+    fn finish(&mut self, reader: Exchange, writer: Answer, served: Result<Served, ServeFault>) {
         self.connections
-            .finish(reader.key, writer, may_be_early(served));
+            .finish(reader, writer, may_be_early(served));
     }
 }
