@@ -392,18 +392,27 @@ class Server:
         """What is told of a target, which is JSON."""
         return json.loads(body_of(self.ask(get(target))))
 
+    def descriptors(self):
+        """How many descriptors it has. Each connection that is open is one."""
+        return len(os.listdir(f"/proc/{self.child.pid}/fd"))
+
+    def memory(self):
+        """The bytes of memory that it has."""
+        status = Path(f"/proc/{self.child.pid}/status").read_text(encoding="ascii")
+        return 1024 * int(re.search(r"^VmRSS:\s*([0-9]+) kB$", status, re.M)[1])
+
 
 def rest(client):
     """Returns all bytes that still come."""
-    found = b""
+    found = bytearray()
     while True:
         try:
             piece = client.recv(65536)
         except ConnectionResetError:
             # A socket that is closed with bytes unread is reset behind its answer; that is an end too.
-            return found
+            return bytes(found)
         if not piece:
-            return found
+            return bytes(found)
         found += piece
 
 

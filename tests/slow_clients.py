@@ -1,106 +1,310 @@
-"""One exchange takes ten seconds at most, from its acceptance to its answer's last byte, whatever the client does: who
-comes next waits no longer for each client before it."""
+"""Each connection has ten seconds for its whole exchange, from its acceptance to the last byte of its answer. Whatever
+its client does meanwhile, silent, slow or one that reads nothing, the others are answered at once.
 
+At most 1,000 are open at once, and who comes then waits; so does who asks for a feed while the answers under way hold
+much memory.
+"""
+
+import contextlib
+import itertools
+import os
+import random
+import resource
+import signal
 import socket
-import threading
 import time
 
 from shared import (
-    DONE, START, Server, ask, at_once, city, error, get, get_feed, is_sound, office, post, put, rest, rows_of, taken,
+    DONE, EIO, FAULTS, START, UNAVAILABLE, Server, answer, ask, at_once, city, environment, error, feed, get, get_feed,
+    is_sound, nothing_is, office, post, put, quickly, request, rest, rows_of, taken, timeless, told,
 )
 
-PATIENCE = 10
-# What a busy machine may take for the rest, in seconds.
-SLACK = 3
+PATIENCE, MOST_OPEN, DESCRIPTORS = 10, 1000, 1016
+# What a busy machine may take, in seconds: for an answer, and beyond the patience until a connection is closed.
+SOON, SLACK = 1, 3
+# How long what is sent behind an early answer is still read.
+LINGER = 0.2
+# How much more memory many connections take, and so do all answers under way.
+MEMORY, ANSWERS = 30_000_000, 33_554_432
+# How many sockets the clients of all cases have together.
+SOCKETS = 4000
 STATIONS, TYPES = 5000, 32
 
-
-def drip(client, pieces, gap, over):
-    """Sends the pieces with so many seconds between them, until told that all is over."""
-    try:
-        for piece in pieces:
-            client.sendall(piece)
-            if over.wait(gap):
-                return
-    except OSError:
-        # The server gave the connection up.
-        return
+RIDE, STATUS = post("/riders/17/start", START), get_feed("station_status")
+EXPECTING = request("POST", "/office", "Expect: 100-continue", "Content-Length: 100")
+NOTHING_MORE = b"", 60
 
 
-def waits(program, file, *holders):
-    """Lets clients come one after the other, each of which holds the server as long as it can, and returns for how many
-    seconds one that asks at once waits behind them."""
-    over, threads, held = threading.Event(), [], []
-    with Server(program, file=file) as server:
-        try:
-            began = time.monotonic()
-            for pieces, gap, room in holders:
-                client = socket.socket()
-                if room:
-                    client.setsockopt(socket.SOL_SOCKET, socket.SO_RCVBUF, room)
-                client.connect(("127.0.0.1", server.port))
-                held.append(client)
-                threads.append(threading.Thread(target=drip, args=(client, pieces, gap, over)))
-                threads[-1].start()
-                time.sleep(0.2)
-            with socket.create_connection(
-                ("127.0.0.1", server.port), timeout=PATIENCE * (len(holders) + 1) + SLACK
-            ) as client:
-                client.sendall(get("/nowhere"))
-                found = rest(client)
-            assert found == error(404), found
-            return time.monotonic() - began
-        finally:
-            over.set()
-            for client in held:
-                client.close()
-            for thread in threads:
-                thread.join()
+# ---- Slow clients
 
 
-def bytes_of(text):
-    return [bytes([byte]) for byte in text]
+def slowly(seconds):
+    """A request, a byte each so many seconds."""
+    return ((bytes([byte]), seconds) for byte in RIDE)
 
 
-def head_without_end():
-    yield b"GET /riders/17 HTTP/1.1\r\n"
-    while True:
-        yield b"X: y\r\n"
+def without_end():
+    """A head, a field a second."""
+    return itertools.chain([(b"GET /riders/17 HTTP/1.1\r\n", 1)], itertools.repeat((b"X: y\r\n", 1)))
 
 
-def test_slow_clients(program):
-    city(program)
-    put(taken(program.folder, "city.db"), program.folder, "wide.db")
-    wide = [f"add-type\tt{at}\tT\tbicycle\thuman\t0\tbasic" for at in range(TYPES - 1)]
-    wide += [f"add-station\ts{at}\tS\t1.0\t2.0\t1" for at in range(STATIONS - 1)]
-    assert ask(program, wide, file="wide.db") == ["ok"] * len(wide)
-    asked = post("/riders/17/start", START)
-    cases = {
-        "a byte a second": ("city.db", (bytes_of(asked), 1, None)),
-        "a byte each nine seconds": ("city.db", (bytes_of(asked), 9, None)),
-        "a head that never ends": ("city.db", (head_without_end(), 1, None)),
-        "nothing at all": ("city.db", ([], 0, None)),
-        "an answer that nobody takes": ("wide.db", ([get_feed("station_status")], 0, 4096)),
-        "two in turn": ("city.db", (bytes_of(asked), 1, None), (head_without_end(), 1, None)),
-    }
+# What each sends, and for how many seconds it then sends nothing. None of them reads.
+UNREAD = "a feed that nobody reads"
+MANNERS = {
+    "silent": lambda: [],
+    "a byte a second": lambda: slowly(1),
+    "a byte each nine seconds": lambda: slowly(9),
+    "a head that never ends": without_end,
+    "stopped in the body": lambda: [(RIDE[:-5], 60)],
+    "waiting for 100 Continue": lambda: [(EXPECTING, 60)],
+    UNREAD: lambda: [(STATUS, 60)],
+}
 
-    def tried(name):
-        file, *holders = cases[name]
-        copy = f"{name.replace(' ', '_')}.db"
-        put(taken(program.folder, file), program.folder, copy)
-        try:
-            return waits(program, copy, *holders)
-        except AssertionError as fault:
-            return fault
 
-    # The servers share a city but write nothing of it: no request above is ever whole.
-    found = dict(zip(cases, at_once(tried, cases, len(cases))))
-    for name, (_, *holders) in cases.items():
-        took = found[name]
-        assert not isinstance(took, AssertionError), f"{name}: {took}"
-        assert PATIENCE * len(holders) - 1 < took < PATIENCE * len(holders) + SLACK, (
-            f"{name}: the next one waited {took:.1f} seconds"
+class Slow:
+    """A client that sends in some manner, and reads nothing."""
+
+    def __init__(self, server, manner):
+        self.socket, self.manner = server.connect(), manner
+        self.pieces, self.due = iter(MANNERS[manner]()), time.monotonic()
+
+    def go_on(self):
+        """Sends what is due. The server may have given it up."""
+        while self.due <= time.monotonic():
+            piece, pause = next(self.pieces, NOTHING_MORE)
+            with contextlib.suppress(OSError):
+                self.socket.sendall(piece)
+            self.due += pause
+
+    def judge(self, wanted):
+        """Holds what it was sent to what is wanted: nothing, or a front of the feed. Returns how much that was."""
+        found = rest(self.socket)
+        self.socket.close()
+        # The last moment may be cut.
+        front = timeless(found)[:-20]
+        assert not found or (self.manner == UNREAD and wanted.startswith(front) and len(found) < len(wanted)), (
+            f"{self.manner}: it was sent {told(found)}"
         )
+        return len(found)
+
+
+def waited(server, asked, wanted):
+    """How many seconds a request takes that is sent whole, and whose answer is as wanted."""
+    begun = time.monotonic()
+    found = timeless(server.ask(asked))
+    assert found == wanted, f"{told(asked)}: {told(found)}, not {told(wanted)}"
+    return time.monotonic() - begun
+
+
+def row(rider):
+    """The answer of the row of a rider without money."""
+    return answer(200, f'{{"rider":{rider},"state":"open","balance_cents":0,"rental":0}}')
+
+
+def until(holds, seconds, what):
+    """Waits until something holds, and returns for how many seconds."""
+    begun = time.monotonic()
+    while not holds():
+        took = time.monotonic() - begun
+        assert took < seconds, f"not after {took:.1f} seconds: {what}"
+        time.sleep(0.02)
+    return time.monotonic() - begun
+
+
+def begin(server, count, opened):
+    """Begins so many slow clients by `opened`, and waits until they are accepted."""
+    before = server.descriptors()
+    clients = [opened() for _ in range(count)]
+    until(lambda: server.descriptors() == before + count, SOON, f"{count} connections are accepted")
+    return clients
+
+
+# ---- The cases. Each has a server and a copy of a city to itself.
+
+
+class Case:
+    """The program, the file of a case, and the feeds' answers, which never change."""
+
+    def __init__(self, program, file, feeds):
+        self.program, self.file, self.feeds = program, file, feeds
+
+    def serve(self, count=None, **how):
+        return Server(self.program, count, self.file, seconds=PATIENCE + 2 * SLACK, **how)
+
+
+def others_are_answered(counts, case):
+    """So many clients in each manner are held, and given up after ten seconds. Meanwhile another client asks again and
+    again."""
+    whole, is_published = case.feeds[case.file.split("-")[0]], UNREAD not in counts
+    with case.serve() as server:
+        before, memory, begun = server.descriptors(), server.memory(), time.monotonic()
+        slow = [Slow(server, manner) for manner, count in counts.items() for _ in range(count)]
+        for number in itertools.count():
+            for it in slow:
+                it.go_on()
+            at, left = time.monotonic() - begun, server.descriptors() - before
+            if at > SOON and not left:
+                break
+            assert at < PATIENCE + SLACK, f"{left} are open after {at:.1f} seconds"
+            assert left == len(slow) or not SOON < at < PATIENCE - 1, f"{left} are open after {at:.1f} seconds"
+            more = server.memory() - memory
+            assert more < MEMORY + (0 if is_published else ANSWERS), f"it takes {more} bytes more"
+            asked = [(office(f"k{number}", f"add-rider\t{1000 + number}"), DONE)]
+            asked += [(get(f"/riders/{1000 + number}"), row(1000 + number))]
+            asked += [(STATUS, whole)] if is_published else []
+            for it in asked:
+                took = waited(server, *it)
+                assert took < SOON, f"{took:.1f} seconds for {told(it[0])}, {at:.1f} after the slow ones came"
+            time.sleep(0.1)
+        assert at > PATIENCE - 1, f"all were closed after {at:.1f} seconds"
+        sent = sum(it.judge(whole) for it in slow)
+        assert bool(sent) != is_published, f"{sent} bytes were sent"
+
+
+def no_more_than_a_thousand_are_open(case):
+    """Others wait, and are answered in full once those are given up. They have ten seconds from then on."""
+    with case.serve() as server:
+        pid = server.child.pid
+        resource.prlimit(pid, resource.RLIMIT_NOFILE, (DESCRIPTORS, DESCRIPTORS))
+        before, begun = server.descriptors(), time.monotonic()
+        silent = begin(server, MOST_OPEN, server.connect)
+        late = server.connect()
+        late.sendall(RIDE[:-1])
+        asked = [(office("k1", "add-rider\t1001"), DONE), (get("/riders/9"), error(404)), (STATUS, case.feeds["city"])]
+        took = at_once(lambda it: waited(server, *it), asked, len(asked))
+        assert PATIENCE - 1 < min(took) and max(took) < PATIENCE + SLACK, took
+        assert {rest(it) for it in silent} == {b""}
+        # The last has waited for longer than ten seconds by now.
+        time.sleep(max(0, begun + PATIENCE + 1.5 - time.monotonic()))
+        late.sendall(RIDE[-1:])
+        found = rest(late)
+        assert found == answer(200, '{"result":"ok","rental":1,"bike":7}'), found
+        # A connection may end a moment after its client.
+        until(lambda: server.descriptors() == before, SOON, "no connection is open")
+
+
+def feeds_wait_for_room(case):
+    """While answers that nobody reads hold much memory no feed is begun, and other answers are. It comes in full once
+    those are given up."""
+    with case.serve() as server:
+        begun = time.monotonic()
+        slow = begin(server, 20, lambda: Slow(server, UNREAD))
+        for it in slow:
+            it.go_on()
+        time.sleep(SLACK)
+
+        def beside(number):
+            return waited(server, office(f"k{number}", f"add-rider\t{1000 + number}"), DONE)
+
+        def published(_):
+            waited(server, STATUS, case.feeds["wide"])
+            return time.monotonic() - begun
+
+        took, *others = at_once(lambda it: it[0](it[1]), [(published, 0), *((beside, it) for it in range(9))], 10)
+        assert max(others) < SOON and PATIENCE - 1 < took < PATIENCE + SLACK, (took, others)
+        assert sum(bool(it.judge(case.feeds["wide"])) for it in slow) < len(slow)
+
+
+def a_count_that_ends(case):
+    """A silent client is one of those that are counted, and the server ends with it."""
+    begun = time.monotonic()
+    with case.serve(3) as server:
+        silent = server.connect()
+        assert waited(server, office("k1", "add-rider\t1001"), DONE) < SOON
+        assert waited(server, get("/riders/1001"), row(1001)) < SOON
+        assert server.end() == (0, b"", b"")
+        at = time.monotonic() - begun
+        assert PATIENCE - 1 < at < PATIENCE + SLACK and rest(silent) == b"", at
+        assert socket.socket().connect_ex(("127.0.0.1", server.port))
+
+
+def answers_under_way(case):
+    """Behind the last of those that were counted an answer is still sent, also to one that begins to read later. One
+    that nobody takes is given up."""
+    for is_read in True, False:
+        begun = time.monotonic()
+        with case.serve(2) as server:
+            slow = Slow(server, UNREAD)
+            slow.go_on()
+            assert waited(server, office(f"k{is_read}", f"add-rider\t{1001 + is_read}"), DONE) < SOON
+            if is_read:
+                time.sleep(1)
+                assert timeless(rest(slow.socket)) == case.feeds["wide"]
+            assert server.end() == (0, b"", b"")
+            at = time.monotonic() - begun
+        if not is_read:
+            assert PATIENCE - 1 < at < PATIENCE + SLACK and slow.judge(case.feeds["wide"]), at
+
+
+def wide_city(program):
+    """A city of which `station_status` has some 15 MB."""
+    put(taken(program.folder, "city.db"), program.folder, "wide.db")
+    commands = [f"add-type\tt{at}\tT\tbicycle\thuman\t0\tbasic" for at in range(TYPES - 1)]
+    commands += [f"add-station\ts{at}\tS\t1.0\t2.0\t1" for at in range(STATIONS - 1)]
+    assert ask(program, commands, file="wide.db") == ["ok"] * len(commands)
+
+
+@contextlib.contextmanager
+def with_sockets(count):
+    """Lets this process have so many descriptors; tells whether it may."""
+    soft, hard = resource.getrlimit(resource.RLIMIT_NOFILE)
+    may = hard == resource.RLIM_INFINITY or hard >= count
+    if may and soft < count:
+        resource.setrlimit(resource.RLIMIT_NOFILE, (count, hard))
+    try:
+        yield may
+    finally:
+        resource.setrlimit(resource.RLIMIT_NOFILE, (soft, hard))
+
+
+def cases():
+    """Each case by its name, with the city that it is of."""
+    found = {
+        f"{count} clients, {manner}": ("wide" if manner == UNREAD else "city", {manner: count})
+        for manner, count in itertools.product(MANNERS, (20, 100))
+    }
+    found["900 silent clients"] = "city", {"silent": 900}
+    found["320 slow clients"] = (
+        "wide", {"silent": 100, "a byte a second": 100, "stopped in the body": 100, UNREAD: 20}
+    )
+    found = {
+        name: (file, lambda case, counts=counts: others_are_answered(counts, case))
+        for name, (file, counts) in found.items()
+    }
+    found["1,000 silent clients"] = "city", no_more_than_a_thousand_are_open
+    found["feeds that wait"] = "wide", feeds_wait_for_room
+    found["a count that ends"] = "city", a_count_that_ends
+    found["answers under way at the end"] = "wide", answers_under_way
+    return found
+
+
+@quickly
+def test_slow_clients(program):
+    with with_sockets(SOCKETS) as may:
+        if not may:
+            print(f"slow_clients.test_slow_clients: not tried, {SOCKETS} sockets may not be open", flush=True)
+            return
+        city(program)
+        wide_city(program)
+        feeds = {it: timeless(answer(200, feed(program, "station_status", file=f"{it}.db"))) for it in ("city", "wide")}
+        assert len(feeds["wide"]) > 14_000_000, len(feeds["wide"])
+
+        def tried(numbered):
+            number, (name, (file, holds)) = numbered
+            copy = f"{file}-{number}.db"
+            put(taken(program.folder, f"{file}.db"), program.folder, copy)
+            try:
+                holds(Case(program, copy, feeds))
+                is_sound(program, copy)
+            except FAULTS as fault:
+                return f"{name}: {fault}"
+            return None
+
+        all_cases = cases()
+        nothing_is([it for it in at_once(tried, enumerate(all_cases.items()), len(all_cases)) if it])
+
+
+# ---- What takes no ten seconds
 
 
 def riders(program):
@@ -109,19 +313,128 @@ def riders(program):
 
 
 def test_more_clients_than_may_wait(program):
-    """More at once than the listen queue holds: some wait long, and some may be given up. What was answered stands."""
+    """Many come at once, and each has its answer."""
     city(program)
-    before = riders(program)
+    before, count = riders(program), 512
     with Server(program) as server:
+        found = at_once(lambda it: server.ask(office(f"m{it}", f"add-rider\t{9000 + it}")), range(count), count)
+    assert set(found) == {DONE}, set(found)
+    assert riders(program) == before + count
+    is_sound(program)
 
-        def asked(number):
-            try:
-                return server.ask(office(f"m{number}", f"add-rider\t{9000 + number}"))
-            except OSError:
+
+def test_clients_that_send_on(program):
+    """What is sent behind an early answer is read for a moment, and holds nobody."""
+    city(program)
+    early = {
+        request("POST", "/office", "Content-Length: 20000"): error(413),
+        request("POST", "/office", "Content-Length: x"): error(400),
+        request("POST", "/riders/17", "Content-Length: 2", body=b"{}"): error(405, "GET"),
+        request("POST", "/nowhere", "Content-Length: 2", body=b"{}"): error(404),
+    }
+    with Server(program) as server:
+        before, begun = server.descriptors(), time.monotonic()
+        clients = [(it, *pair) for pair in early.items() for it in begin(server, 10, server.connect)]
+        for client, asked, _ in clients:
+            client.sendall(asked)
+        left = len(clients)
+        while left:
+            for client, *_ in clients:
+                with contextlib.suppress(OSError):
+                    client.sendall(b"x" * 1000)
+            at, left = time.monotonic() - begun, server.descriptors() - before
+            assert at < LINGER + 2 * SOON, f"{left} are open after {at:.1f} seconds"
+            took = waited(server, get("/riders/9"), error(404)) + waited(server, STATUS, timeless(server.ask(STATUS)))
+            assert took < SOON, took
+            time.sleep(0.02)
+        for client, asked, wanted in clients:
+            found = rest(client)
+            assert found == wanted, (asked, found)
+
+
+def test_a_server_that_stands_still(program):
+    """It is stopped and goes on, as while deploy/backup copies its file. The connections that are open stay so."""
+    city(program)
+    with Server(program) as server:
+        held = begin(server, 5, server.connect)
+        for it in held:
+            it.sendall(RIDE[:-1])
+        for number in range(5):
+            os.kill(server.child.pid, signal.SIGSTOP)
+            with server.connect() as client:
+                client.sendall(office(f"k{number}", f"add-rider\t{1000 + number}"))
+                time.sleep(0.05)
+                os.kill(server.child.pid, signal.SIGCONT)
+                assert rest(client) == DONE, number
+        for it in held:
+            it.sendall(RIDE[-1:])
+        found = {rest(it) for it in held}
+        assert found == {answer(200, '{"result":"ok","rental":1,"bike":7}')}, found
+
+
+def test_a_clients_moment_is_its_acceptance(program):
+    """A request that becomes whole later has the moment at which it was accepted, and the city's time never goes
+    back."""
+    city(program)
+    with Server(program) as server:
+        first, second = (begin(server, 1, server.connect)[0] for _ in range(2))
+        at = int(time.time())
+        first.sendall(STATUS[:-1])
+        second.sendall(RIDE[:-1])
+        time.sleep(2.2)
+        first.sendall(STATUS[-1:])
+        found = rest(first)
+        moments = [time.strftime("%Y-%m-%dT%H:%M:%SZ", time.gmtime(it)).encode() for it in (at - 1, at)]
+        assert any(b'{"last_updated":"%s"' % it in found for it in moments), (moments, found[:200])
+        assert server.ask(office("k1", "mark-dock\ta1\t2\tworking")) == DONE
+        later = server.told("/gbfs/3.0/station_status.json")["data"]["stations"][0]["last_reported"]
+        assert later.encode() > moments[1], (later, moments)
+        second.sendall(RIDE[-1:])
+        found = rest(second)
+        assert found == answer(200, '{"result":"ok","rental":1,"bike":7}'), found
+        assert server.told("/rentals/1")["start"] == later, (server.told("/rentals/1"), later)
+
+
+@quickly
+def test_a_store_that_fails_beside_slow_clients(program):
+    """What was answered stands. The answers under way are sent for a second, and nobody is waited for."""
+    city(program)
+    wide_city(program)
+    whole = timeless(answer(200, feed(program, "station_status", file="wide.db")))
+    pick = random.Random("a store that fails")
+    parts = taken(program.folder, "wide.db")
+    for is_read in True, False:
+        # The first changes are made where the file is opened.
+        for first in itertools.count(1):
+            put(parts, program.folder, "wide.db")
+            env = environment(program.folder, "wide.db", FAIL_FROM=first, FAIL_WITH=EIO, ONLY_CHANGES=1)
+            server = Server(program, file="wide.db", env=env)
+            if server.first_line():
+                break
+            server.stop()
+        try:
+            slow = [Slow(server, it) for it in MANNERS for _ in range(5)]
+            for it in slow:
+                it.go_on()
+            time.sleep(SOON)
+            posts = [office(f"k{it}", f"add-rider\t{1000 + it}") for it in range(20)]
+            pick.shuffle(posts)
+
+            def asked(it):
+                with contextlib.suppress(ConnectionError):
+                    return server.ask(it)
                 return b""
 
-        told = at_once(asked, range(160), 160)
-    assert set(told) <= {DONE, b""}, set(told)
-    assert told.count(DONE) > 120, told.count(DONE)
-    assert before + told.count(DONE) <= riders(program) <= before + 160
-    is_sound(program)
+            begun = time.monotonic()
+            found = at_once(asked, posts, len(posts))
+            if is_read:
+                unread = [it for it in slow if it.manner == UNREAD]
+                assert timeless(rest(unread[0].socket)) == whole
+            ended = server.end()
+            at = time.monotonic() - begun
+            assert ended == (3, b"", b"store failed\n"), ended
+            assert at < 1 + SOON, at
+            assert set(found) <= {UNAVAILABLE, b""}, set(found)
+            assert riders_of(program, "wide.db") == 1
+        finally:
+            server.stop()
