@@ -319,8 +319,11 @@ def told(data, most=200):
 def line_of(child, seconds=SECONDS):
     """The next line of a program, or what there is of one where the program ended."""
     line, until = b"", time.monotonic() + seconds
+    # `select` takes no descriptor beyond 1,023.
+    waiting = select.poll()
+    waiting.register(child.stdout, select.POLLIN)
     while not line.endswith(b"\n"):
-        ready, _, _ = select.select([child.stdout], [], [], max(0, until - time.monotonic()))
+        ready = waiting.poll(1000 * max(0, until - time.monotonic()))
         assert ready, f"it said only {line!r} in {seconds} seconds"
         piece = os.read(child.stdout.fileno(), 1)
         if not piece:

@@ -170,9 +170,14 @@ def no_more_than_a_thousand_are_open(case):
         silent = begin(server, MOST_OPEN, server.connect)
         late = server.connect()
         late.sendall(RIDE[:-1])
+
+        def answered(asked):
+            waited(server, *asked)
+            return time.monotonic() - begun
+
         asked = [(office("k1", "add-rider\t1001"), DONE), (get("/riders/9"), error(404)), (STATUS, case.feeds["city"])]
-        took = at_once(lambda it: waited(server, *it), asked, len(asked))
-        assert PATIENCE - 1 < min(took) and max(took) < PATIENCE + SLACK, took
+        found = at_once(answered, asked, len(asked))
+        assert PATIENCE - 1 < min(found) and max(found) < PATIENCE + SLACK, found
         assert {rest(it) for it in silent} == {b""}
         # The last has waited for longer than ten seconds by now.
         time.sleep(max(0, begun + PATIENCE + 1.5 - time.monotonic()))
@@ -307,9 +312,9 @@ def test_slow_clients(program):
 # ---- What takes no ten seconds
 
 
-def riders(program):
+def riders(program, file="city.db"):
     """How many the city has."""
-    return rows_of("SELECT count(*) FROM riders", program.folder, "city.db")[0][0]
+    return rows_of("SELECT count(*) FROM riders", program.folder, file)[0][0]
 
 
 def test_more_clients_than_may_wait(program):
@@ -333,6 +338,7 @@ def test_clients_that_send_on(program):
         request("POST", "/nowhere", "Content-Length: 2", body=b"{}"): error(404),
     }
     with Server(program) as server:
+        status = timeless(server.ask(STATUS))
         before, begun = server.descriptors(), time.monotonic()
         clients = [(it, *pair) for pair in early.items() for it in begin(server, 10, server.connect)]
         for client, asked, _ in clients:
@@ -344,7 +350,7 @@ def test_clients_that_send_on(program):
                     client.sendall(b"x" * 1000)
             at, left = time.monotonic() - begun, server.descriptors() - before
             assert at < LINGER + 2 * SOON, f"{left} are open after {at:.1f} seconds"
-            took = waited(server, get("/riders/9"), error(404)) + waited(server, STATUS, timeless(server.ask(STATUS)))
+            took = waited(server, get("/riders/9"), error(404)) + waited(server, STATUS, status)
             assert took < SOON, took
             time.sleep(0.02)
         for client, asked, wanted in clients:
@@ -435,6 +441,6 @@ def test_a_store_that_fails_beside_slow_clients(program):
             assert ended == (3, b"", b"store failed\n"), ended
             assert at < 1 + SOON, at
             assert set(found) <= {UNAVAILABLE, b""}, set(found)
-            assert riders_of(program, "wide.db") == 1
+            assert riders(program, "wide.db") == 1
         finally:
             server.stop()
