@@ -5,12 +5,15 @@ After each kill SQLite's own integrity_check accepts the file, `check` says `sou
 some front of the list: every acknowledged request is in it, and at most one more. The list, sent again from its first
 request, has the answers of a run that nobody disturbed, and ends in the same city.
 
+Requests that come over many connections at once have no order: those that were acknowledged are in the file, and at
+most one more. There the program is also killed before a call that changes a file or sends an answer (stops/faults.c).
+
 A few kills stand in the gate. By hand, each of these from the environment:
 
     BIKESHARE_KILLS=1000 BIKESHARE_SEED=7 tests/run kill.
     BIKESHARE_KILLS=500 BIKESHARE_MORE=140 tests/run kill.
 
-BIKESHARE_KILLS is how many kills each of the two tests makes, BIKESHARE_SEED what they are drawn from; a failure tells
+BIKESHARE_KILLS is how many kills each of the tests makes, BIKESHARE_SEED what they are drawn from; a failure tells
 both. With BIKESHARE_MORE so many requests more stand in the list: behind 140 the log has been copied into the file
 once, and a third of the kills come about there.
 """
@@ -27,7 +30,10 @@ import threading
 import time
 from pathlib import Path
 
-from shared import Server, copied, is_sound, is_whole, line_of, office, post, removed
+from shared import (
+    DONE, READY, Server, at_once, copied, counted, environment, is_sound, is_whole, line_of, office, post, quickly, removed,
+    rows_of, told_with,
+)
 
 KILLS = int(os.environ.get("BIKESHARE_KILLS", "10"))
 SEED = int(os.environ.get("BIKESHARE_SEED", "1"))
@@ -364,3 +370,90 @@ def test_lines_killed_at_random_moments(program):
 
 def test_serving_killed_at_random_moments(program):
     kills(program, ByHttp)
+
+
+# ---- Many at once
+
+AT_ONCE = 50
+POSTS = {9000 + it: office(f"m{it}", f"add-rider\t{9000 + it}") for it in range(AT_ONCE)}
+
+
+def asked_at_once(server, *more):
+    """Sends all of POSTS at once, each over a connection of its own, while more is done, and returns the riders of
+    those that are acknowledged."""
+
+    def asked(request):
+        with contextlib.suppress(OSError):
+            return server.ask(request)
+        return b""
+
+    turns = [*more, *(lambda it=it: asked(it) for it in POSTS.values())]
+    found = at_once(lambda turn: turn(), turns, len(turns))[len(more) :]
+    assert all(DONE.startswith(it) for it in found), set(found)
+    return {rider for rider, it in zip(POSTS, found) if it == DONE}
+
+
+def riders(program, file):
+    """The riders of a file."""
+    return {rider for (rider,) in rows_of("SELECT rider FROM riders", program.folder, file)}
+
+
+def stands_amid_many(program, file, told):
+    """Those that were acknowledged stand, and at most one more. All are accepted when they are sent again."""
+    stands = riders(program, file)
+    assert told <= stands and len(stands - told) <= 1, f"told were {sorted(told)}, and {sorted(stands)} stand"
+    is_sound(program, file)
+    assert riders(program, file) == stands, "check changed the city"
+    with Server(program, file=file, seconds=SECONDS) as server:
+        again = asked_at_once(server)
+    assert again == riders(program, file) == set(POSTS), (again, riders(program, file))
+    is_sound(program, file)
+
+
+def test_serving_killed_amid_many_at_random_moments(program):
+    pick, counts = random.Random(f"{SEED} many"), set()
+    assert program.run("init", "whole.db") == READY
+    with Server(program, file="whole.db", seconds=SECONDS) as server:
+        began = time.monotonic()
+        assert asked_at_once(server) == set(POSTS)
+        lasted = time.monotonic() - began
+    for number in range(KILLS):
+        file, delay = f"many{number}.db", pick.random() * lasted
+        assert program.run("init", file) == READY
+        with Server(program, file=file, seconds=SECONDS) as server:
+            told = asked_at_once(server, lambda: (time.sleep(delay), server.child.kill()))
+            _, _, said = server.end()
+        with told_with(f"seed {SEED}, kill {number} after {delay:.4f} of {lasted:.4f} seconds"):
+            assert not said, f"it said {said!r}"
+            stands_amid_many(program, file, told)
+        counts.add(len(told))
+        removed(program.folder, file)
+    assert len(counts) > 1 or KILLS < 10, counts
+
+
+@quickly
+def test_serving_killed_amid_many_before_a_call(program):
+    """It is stopped before a call, or half of what that writes is written."""
+    pick = random.Random(f"{SEED} calls")
+
+    def served(file, **faults):
+        """Who is told, and how many calls were made."""
+        assert program.run("init", file) == READY
+        env = environment(program.folder, file, ONLY_CHANGES=1, ENDS=1, **faults)
+        server = Server(program, AT_ONCE, file, env, SECONDS)
+        try:
+            told = asked_at_once(server) if server.first_line() else set()
+            ended = server.end()
+        finally:
+            server.stop()
+        return told, counted(ended, program.folder, file)
+
+    told, whole = served("whole.db")
+    assert told == set(POSTS) and (whole.status, whole.said) == (0, b""), (told, whole)
+    for number in range(KILLS):
+        file, faults = f"call{number}.db", {pick.choice(["STOP_AT", "PART_AT"]): pick.randint(1, whole.calls)}
+        told, ran = served(file, **faults)
+        with told_with(f"seed {SEED}, kill {number}, {faults}, {ran.hit}"):
+            assert (ran.status, ran.said) == (-9, b"") or (ran.status == 0 and told == set(POSTS)), ran
+            stands_amid_many(program, file, told)
+        removed(program.folder, file)

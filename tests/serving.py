@@ -571,21 +571,27 @@ def test_clients_that_go_away(program):
         client = server.connect()
         client.sendall(asked)
         client.close()
+        # Who comes at the same time may be answered before.
+        time.sleep(0.1)
         found = server.ask(get("/riders/17"))
         assert found == answer(200, '{"rider":17,"state":"open","balance_cents":2500,"rental":1}'), found
 
 
-def test_one_connection_after_the_other(program):
+def test_an_exchange_beside_another(program):
+    """A request is answered when it is whole, whoever came first."""
     city(program)
-    with Server(program, 2) as server:
-        with server.connect() as first, server.connect() as second:
+    with Server(program, 3) as server:
+        with server.connect() as first, server.connect() as second, server.connect() as third:
             first.sendall(b"GET /riders/17 HTTP/1.1\r\n")
+            third.sendall(post("/riders/17/start", START)[:-1])
             second.sendall(get("/nowhere"))
-            ready, _, _ = select.select([first, second], [], [], 0.3)
-            assert not ready, "an answer came before the first request was whole"
-            first.sendall(b"\r\n")
-            assert rest(first) == NOT_RIDING
             assert rest(second) == error(404)
+            ready, _, _ = select.select([first, third], [], [], 0.3)
+            assert not ready, "an answer came before its request was whole"
+            third.sendall(b"}")
+            assert rest(third) == STARTED
+            first.sendall(b"\r\n")
+            assert rest(first) == answer(200, '{"rider":17,"state":"open","balance_cents":2500,"rental":1}')
 
 
 def test_a_client_needs_not_end_its_input(program):
@@ -705,11 +711,11 @@ def limited(count):
 
 
 def test_few_descriptors(program):
-    """Where a connection would find none it doesn't listen; where it listens it serves."""
+    """Where so many connections as may be open would not find theirs it doesn't listen; where it listens it serves."""
     city(program)
     ends = []
-    for count in range(4, 13):
-        # With fewer the system could not load the program.
+    for count in *range(4, 13), 64, 1000, 1015, 1016, 1017:
+        # With fewer than four the system could not load the program.
         with program.started("serve", "city.db", "--port", "0", "--count", "2", preexec_fn=limited(count)) as child:
             line = line_of(child)
             listens = re.fullmatch(rb"listening 127\.0\.0\.1:([0-9]+)\n", line)
@@ -723,10 +729,11 @@ def test_few_descriptors(program):
             out, said = child.communicate(timeout=SECONDS)
             ended = (child.returncode, out if listens else line + out, said)
             ended = "serves" if listens and ended == (0, b"", b"") else ended
-            assert ended in ("serves", STORE_FAILED, READ_FAILED), (count, ended)
+            assert ended in ("serves", STORE_FAILED, READ_FAILED) and (ended == "serves") == (count >= 1016), (
+                count, ended
+            )
             ends.append(ended)
-    assert READ_FAILED in ends and "serves" in ends, ends
-    assert ends == sorted(ends, key=[STORE_FAILED, READ_FAILED, "serves"].index), ends
+    assert READ_FAILED in ends and ends == sorted(ends, key=[STORE_FAILED, READ_FAILED, "serves"].index), ends
     is_sound(program)
 
 

@@ -176,8 +176,7 @@ BYTE_BY_BYTE = {"ONLY_ENDS": 1, "SHORT_FROM": 1}
 
 @quickly
 def test_reads_are_counted(program):
-    """An import ends after 1,000,000 reads, in a row without end too, and its rows stand; an exchange after 20,000,
-    without an answer, and the next one is served."""
+    """An import ends after 1,000,000 reads, in a row without end too, and its rows stand."""
     rows = [b"\n" * 60_000 + b"c%d,Canal,45,9.1,10\n" % number for number in range(1, 18)]
     for count, wanted in (15, (0, b"rows 15\n", b"")), (17, READ_FAILED):
         assert faulty(program, imports.IMPORT, b"".join([HEADER.encode(), *rows[:count]]), **BYTE_BY_BYTE) == wanted, (
@@ -188,13 +187,16 @@ def test_reads_are_counted(program):
     row = HEADER.encode() + b"c1,Canal,45,9.1,10\n"
     assert faulty(program, imports.IMPORT, row + b"x" * 1_000_000, **BYTE_BY_BYTE) == READ_FAILED
     assert [it[0] for it in imports.stations(program)] == ["c1"]
-    removed(program.folder, "city.db")
+
+
+@quickly
+def test_the_longest_request_comes_byte_by_byte(program):
+    """Its answer goes out so too."""
     city(program)
     head = b"POST /riders/17/start HTTP/1.1\r\nContent-Length: 16384\r\nX: \r\n\r\n"
-    body = START.encode() + b" " * (16384 - 36)
-    for size, found in (8192, b""), (3000, STARTED):
-        asked = head.replace(b"X: ", b"X: " + b"x" * (size - len(head))) + body
-        assert faulty_exchange(program, asked, **BYTE_BY_BYTE) == (0, found, b""), size
+    asked = head.replace(b"X: ", b"X: " + b"x" * (8192 - len(head))) + START.encode() + b" " * (16384 - 36)
+    assert len(asked) == 8192 + 16384
+    assert faulty_exchange(program, asked, **BYTE_BY_BYTE) == (0, STARTED, b"")
 
 
 # Texts, and how many lines each has. None of them spells a request.
