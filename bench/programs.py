@@ -211,15 +211,17 @@ class Lines:
 
 
 class Server:
-    """A program that runs by the words `serve FILE --port 0 --count N`."""
+    """A program that runs by the words `serve FILE --port 0`, with `--count N` where so many connections are to
+    come."""
 
     def __init__(self, program, file, count, client):
-        """Starts it for so many connections, and waits until it listens; `client` is the built client.c."""
+        """Starts it for so many connections, or without end, and waits until it listens; `client` is the built
+        client.c."""
         reading, writing = os.pipe()
         self.name, self.client, self.left, self.output = program.name, client, count, os.fdopen(reading, "rb")
-        self.process = Process(
-            [*program.words, "serve", file, "--port", "0", "--count", str(count)], subprocess.DEVNULL, writing
-        )
+        counted = ["--count", str(count)] if count else []
+        words = [*program.words, "serve", file, "--port", "0", *counted]
+        self.process = Process(words, subprocess.DEVNULL, writing)
         os.close(writing)
         told = self.output.readline().decode()
         if not told.startswith("listening 127.0.0.1:"):
@@ -233,14 +235,32 @@ class Server:
         told = subprocess.run(
             [self.client, self.port], input=b"\0".join(requests) + b"\0", capture_output=True, check=True
         ).stdout
-        self.left -= len(requests)
+        if self.left is not None:
+            self.left -= len(requests)
         rows = [it.split() for it in told.decode().splitlines()]
-        used = self.process.processor() - processor if self.left else None
+        used = self.process.processor() - processor if self.left != 0 else None
         return used, [(int(wall) / 1e9, int(status), int(length), hash_) for wall, status, length, hash_ in rows]
 
+    def at_once(self, clients, core, requests, milliseconds, count, **held):
+        """Has so many clients at once send requests for so long, beside others that are held; `clients` is the built
+        clients.c, which runs on other cores than the server. Returns, for each exchange, the first letter of the
+        request, the wall seconds, the status, and when it ended."""
+        words = [clients, self.port, str(milliseconds), str(count), *(f"{name}={it}" for name, it in held.items())]
+        others = set(range(os.cpu_count())) - {core} or {core}
+        told = subprocess.run(
+            [str(it) for it in words], input=b"\0".join(requests) + b"\0", stdout=subprocess.PIPE, check=True,
+            preexec_fn=lambda: os.sched_setaffinity(0, others),
+        ).stdout
+        rows = [it.split() for it in told.decode().splitlines()]
+        return [(letter, int(wall) / 1e9, int(status), int(at) / 1e9) for letter, wall, status, at in rows]
+
     def end(self):
-        """Sends what is left of the connections that were told, and returns what it took."""
-        self.ask([b"GET / HTTP/1.1\r\n\r\n"] * self.left)
+        """Sends what is left of the connections that were told, or kills it where none were, and returns what it
+        took."""
+        if self.left is None:
+            os.kill(self.process.number, signal.SIGKILL)
+        else:
+            self.ask([b"GET / HTTP/1.1\r\n\r\n"] * self.left)
         used = self.process.end()
         self.output.close()
         return used

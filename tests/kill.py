@@ -31,8 +31,8 @@ import time
 from pathlib import Path
 
 from shared import (
-    DONE, READY, Server, at_once, copied, counted, environment, is_sound, is_whole, line_of, office, post, quickly, removed,
-    rows_of, told_with,
+    DONE, READY, Server, at_once, copied, counted, environment, is_sound, is_whole, line_of, office, post, quickly,
+    removed, rows_of, told_with,
 )
 
 KILLS = int(os.environ.get("BIKESHARE_KILLS", "10"))
