@@ -1,14 +1,15 @@
 //! Answers that go out as their clients take them.
 
-ghost use Rattle.std.specs.Prelude.{◌≤◌, length, IfOk};
+ghost use Rattle.std.specs.Prelude.{◌≡◌, ◌≤◌, ◌++◌, [], length, take, map, vec_items, IfOk, OnErr};
+ghost use Rattle.bike_connections.specs.Answers.{bytes_in, BeginsWith, Sends};
 
 use crate::connection::Step;
 use crate::limits::MOST_CALLS;
-use mio::net::TcpStream;
 use std::alloc::{AllocError, Global};
 use std::collections::VecDeque;
-use std::io;
 use std::io::{ErrorKind, Write};
+use std::marker::Model;
+use std::{io, mem};
 
 /// How many bytes a block holds.
 pub(crate) const BLOCK: usize = 65_536;
@@ -16,25 +17,49 @@ pub(crate) const BLOCK: usize = 65_536;
 /// For how many bytes the memory is taken before the answer is made: more than any but a feed has.
 const SHORT: usize = 1024;
 
-/// An answer, in blocks that are freed one by one as they are taken.
+/// An answer, in blocks that are freed one by one as they are taken; seen as the bytes that aren't sent yet.
 #[derive(Drop)]
 pub struct Answer {
     alloc: Global,
-    blocks: VecDeque<Vec<u8>>,
+    full: VecDeque<Vec<u8>>,
+    last: Vec<u8>,
     /// How many bytes of the first block were taken.
     taken: usize,
     /// How many bytes more there may be.
     room: usize,
 }
 
+impl Model for Answer {
+    ghost use Rattle.std.specs.Prelude.{List, ℕ, ◌≤◌, length, map, vec_items};
+    ghost use Rattle.bike_connections.specs.Answers.{bytes_in, left_of};
+
+    ghost Value = { List ℕ };
+
+    ghost view = { λ a. left_of a.taken (map vec_items a.full.items) a.last.items };
+
+    ghost invariant = { λ a. a.taken ≤ length (bytes_in (map vec_items a.full.items) a.last.items) };
+}
+
+/// The first block.
+fn first_block<'a>(full: &'a VecDeque<Vec<u8>>, last: &'a Vec<u8>) -> &'a [u8]
+    ensures { BeginsWith (bytes_in (map vec_items full.now.items) last.now.items) result.now }
+{
+    match full.front() {
+        Some(block) => block.as_slice(),
+        None => last.as_slice(),
+    }
+}
+
 impl Answer {
     /// No byte yet, and so many at most. It takes the memory for the first 1,024.
-    pub(crate) fn new(alloc: Global, room: usize) -> Result<Answer, AllocError> {
-        let mut blocks = VecDeque::with_capacity(alloc, 1)?;
-        blocks.push_back(Vec::with_capacity(alloc, SHORT)?)?;
+    pub(crate) fn new(alloc: Global, room: usize) -> Result<Answer, AllocError>
+        ensures { IfOk result (λ answer. answer ≡ []) }
+    {
+        let last = Vec::with_capacity(alloc, SHORT)?;
         Ok(Answer {
             alloc,
-            blocks,
+            full: VecDeque::new(alloc),
+            last,
             taken: 0,
             room,
         })
@@ -42,47 +67,75 @@ impl Answer {
 
     /// How many blocks it holds.
     pub(crate) fn blocks(&self) -> usize {
-        self.blocks.len()
+        self.full.len().saturating_add(1)
     }
 
     /// Adds bytes to the last block, or to a new one where that is full; how many.
     fn add(&mut self, bytes: &[u8]) -> Result<usize, AllocError>
-        ensures { IfOk result (λ count. count ≤ length bytes.now) }
+        ensures count { IfOk result (λ count. count ≤ length bytes.now) }
+        ensures added { IfOk result (λ count. self.new ≡ self.old ++ take count bytes.now) }
+        ensures kept { OnErr result (self.new ≡ self.old) }
     {
-        if let Some(last) = self.blocks.back_mut() {
-            let free = BLOCK.saturating_sub(last.len());
-            if free > 0 {
-                let count = free.min(bytes.len());
-                last.extend_from_slice(&bytes[..count])?;
-                return Ok(count);
-            }
+        if self.last.len() < BLOCK {
+            let count = (BLOCK - self.last.len()).min(bytes.len());
+            self.last.extend_from_slice(&bytes[..count])?;
+            return Ok(count);
         }
-        let count = BLOCK.min(bytes.len());
+        self.full.reserve(1)?;
         let mut block = Vec::with_capacity(self.alloc, BLOCK)?;
+        let count = BLOCK.min(bytes.len());
         block.extend_from_slice(&bytes[..count])?;
-        self.blocks.push_back(block)?;
+        let full = mem::replace(&mut self.last, block);
+        self.full.push_back_reserved(full);
         Ok(count)
     }
 
-    /// Sends as much as the client takes now.
-    pub(crate) fn send(&mut self, stream: &TcpStream) -> Step {
-        for _ in 0..MOST_CALLS {
-            let Some(first) = self.blocks.front() else {
-                return Step::Sent;
+    /// Frees the first block where it is taken.
+    fn free(&mut self)
+        ensures { self.new ≡ self.old }
+    {
+        let Some(first) = self.full.front() else {
+            return;
+        };
+        let length = first.len();
+        if self.taken >= length {
+            self.taken -= length;
+            drop(self.full.pop_front());
+        }
+    }
+
+    /// Sends some bytes, by one write; none where there may be more to do.
+    fn send_some<W: Write>(&mut self, writer: &mut W) -> Option<Step>
+        ensures { Sends (W.contents writer.old) (W.contents writer.new) self.old self.new }
+    {
+        self.free();
+        let block = first_block(&self.full, &self.last);
+        let start = self.taken.min(block.len());
+        if start == block.len() {
+            return if self.full.is_empty() {
+                Some(Step::Sent)
+            } else {
+                None
             };
-            let length = first.len();
-            let start = self.taken.min(length);
-            if start == length {
-                self.blocks.pop_front();
-                self.taken = 0;
-                continue;
+        }
+        match writer.write(&block[start..]) {
+            Ok(0) => Some(Step::Over),
+            Ok(count) => {
+                self.taken = start + count;
+                None
             }
-            let mut output = stream;
-            match output.write(&first.as_slice()[start..]) {
-                Ok(0) => return Step::Over,
-                Ok(count) => self.taken = start.saturating_add(count),
-                Err(error) if error.kind() == ErrorKind::WouldBlock => return Step::Waits,
-                Err(_) => return Step::Over,
+            Err(error) if error.kind() == ErrorKind::WouldBlock => Some(Step::Waits),
+            Err(_) => Some(Step::Over),
+        }
+    }
+
+    /// Sends as much as the client takes now, in at most 16 writes: what is sent and what is left is what there was.
+    pub fn send<W: Write>(&mut self, writer: &mut W) -> Step
+        ensures { Sends (W.contents writer.old) (W.contents writer.new) self.old self.new }
+    {
+        for _turn in 0..MOST_CALLS {
+            if let Some(step) = self.send_some(writer) {
+                return step;
             }
         }
         Step::GoesOn
@@ -90,17 +143,18 @@ impl Answer {
 }
 
 impl Write for Answer {
+    ghost use Rattle.std.specs.Prelude.{Some};
+
+    ghost contents = { λ answer. Some answer };
+
     fn write(&mut self, buf: &[u8]) -> io::Result<usize> {
         let some = buf.len().min(self.room);
-        if some == 0 {
-            return Ok(0);
-        }
         match self.add(&buf[..some]) {
             Ok(count) => {
                 self.room = self.room.saturating_sub(count);
                 Ok(count)
             }
-            Err(_) => Err(ErrorKind::OutOfMemory.into()),
+            Err(AllocError) => Err(ErrorKind::OutOfMemory.into()),
         }
     }
 

@@ -16,7 +16,7 @@ const MOST_PIECES: u32 = 64;
 
 /// How far a connection got.
 #[derive(Clone, Copy, PartialEq, Eq)]
-pub(crate) enum Step {
+pub enum Step {
     /// It waits for its socket.
     Waits,
     /// There may be more to do at once, but others come first.
@@ -129,8 +129,14 @@ impl Connection {
     /// Reads or writes as far as its socket is ready.
     pub(crate) fn step(&mut self) -> Step {
         match &mut self.state {
-            State::Gathering(gathering) => gathering.gather(&self.peer.stream),
-            State::Sending { answer, .. } => answer.send(&self.peer.stream),
+            State::Gathering(gathering) => {
+                let mut input = &self.peer.stream;
+                gathering.gather(&mut input)
+            }
+            State::Sending { answer, .. } => {
+                let mut output = &self.peer.stream;
+                answer.send(&mut output)
+            },
             State::Lingering { pieces } => linger(&self.peer.stream, pieces),
             State::Ready(_) | State::Lost => Step::Rests,
         }

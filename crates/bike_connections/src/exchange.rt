@@ -3,15 +3,14 @@
 use crate::peer::Peer;
 use bike_fixed::Moment;
 use std::io;
-use std::io::{ErrorKind, Read};
+use std::io::{Cursor, ErrorKind, Read};
 
 /// A connection whose request is there, handed out to be answered, and a reader of its request: it gives the bytes that were gathered,
 /// and then the end of the input where that came. A read of anything else fails, and so does each of a connection that is lost.
 #[derive(Drop)]
 pub struct Exchange {
     pub(crate) peer: Peer,
-    bytes: Vec<u8>,
-    read: usize,
+    bytes: Cursor<Vec<u8>>,
     is_ended: bool,
 }
 
@@ -20,8 +19,7 @@ impl Exchange {
     pub(crate) fn new(peer: Peer, bytes: Vec<u8>, is_ended: bool) -> Exchange {
         Exchange {
             peer,
-            bytes,
-            read: 0,
+            bytes: Cursor::new(bytes),
             is_ended,
         }
     }
@@ -33,15 +31,16 @@ impl Exchange {
 }
 
 impl Read for Exchange {
+    ghost use Rattle.std.specs.Prelude.{Some, vec_items};
+    ghost use Rattle.std.specs.Io.Cursor.{cursor_remaining};
+
+    ghost remaining = { λ exchange. cursor_remaining (λ bytes. Some (vec_items bytes)) exchange.bytes };
+
     fn read(&mut self, buf: &mut [u8]) -> io::Result<usize> {
-        let start = self.read.min(self.bytes.len());
-        let rest = &self.bytes.as_slice()[start..];
-        if rest.is_empty() && !self.is_ended {
+        let is_read = self.bytes.position() >= self.bytes.get_ref().len() as u64;
+        if is_read && !self.is_ended {
             return Err(ErrorKind::WouldBlock.into());
         }
-        let count = rest.len().min(buf.len());
-        buf[..count].copy_from_slice(&rest[..count]);
-        self.read = start.saturating_add(count);
-        Ok(count)
+        self.bytes.read(buf)
     }
 }

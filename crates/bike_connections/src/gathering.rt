@@ -1,9 +1,12 @@
 //! The bytes of a request, as they come.
 
+ghost use Rattle.std.specs.Prelude.{◌≡◌, ◌++◌, true, Some, OnOk};
+ghost use Rattle.bike_incoming.specs.Received.{Grew};
+ghost use Rattle.bike_connections.specs.Settled.{IsSettled, IsThere};
+
 use crate::connection::Step;
 use crate::limits::{MOST_CALLS, PIECE};
 use crate::settled::{bytes_wanted, is_settled};
-use mio::net::TcpStream;
 use std::alloc::{AllocError, Global};
 use std::io::{ErrorKind, Read};
 
@@ -12,12 +15,10 @@ const MOST_BYTES: usize = 24_576;
 
 /// What came of a request so far.
 #[derive(Drop)]
-pub(crate) struct Gathering {
+pub struct Gathering {
     pub(crate) bytes: Vec<u8>,
-    /// With fewer bytes than so many it can't be whole.
+    /// With fewer bytes than so many it isn't settled.
     wanted: usize,
-    /// Whether no more is wanted.
-    is_settled: bool,
     /// Whether nothing more comes.
     pub(crate) is_ended: bool,
 }
@@ -28,53 +29,76 @@ impl Gathering {
         Gathering {
             bytes: Vec::new(alloc),
             wanted: 1,
-            is_settled: false,
             is_ended: false,
         }
     }
 
     /// Adds bytes that came. The room grows to twice what there is, and not beyond the most.
-    pub(crate) fn add(&mut self, bytes: &[u8]) -> Result<(), AllocError> {
+    pub(crate) fn add(&mut self, bytes: &[u8]) -> Result<(), AllocError>
+        ensures { OnOk result (self.new.bytes.items ≡ self.old.bytes.items ++ bytes.now) }
+    {
         let length = self.bytes.len();
         let most = MOST_BYTES.saturating_sub(length);
         let room = length.min(most).max(bytes.len());
         self.bytes.reserve_exact(room)?;
-        self.bytes.extend_from_slice(bytes)?;
+        self.bytes.extend_from_slice(bytes)
+    }
+
+    /// Whether no more is wanted.
+    fn is_settled(&mut self) -> bool
+        ensures settled { result ≡ true → IsSettled self.new.bytes.items }
+        ensures kept { self.new.bytes.items ≡ self.old.bytes.items }
+    {
         if self.bytes.len() < self.wanted {
-            return Ok(());
+            return false;
         }
-        self.is_settled = is_settled(self.bytes.as_slice()) || self.bytes.len() >= MOST_BYTES;
+        if is_settled(self.bytes.as_slice()) {
+            return true;
+        }
         self.wanted = bytes_wanted(self.bytes.as_slice());
-        Ok(())
+        false
     }
 
     /// Reads a piece of what is there; none where more may be there.
-    fn read_piece(&mut self, stream: &TcpStream) -> Option<Step> {
+    fn read_piece<R: Read>(&mut self, reader: &mut R) -> Option<Step>
+        ensures grew { (result ≡ Some Step.Over → ⊥) → Grew (R.remaining reader.old) (R.remaining reader.new) self.old.bytes.items self.new.bytes.items }
+        ensures settled { result ≡ Some Step.Settled → IsThere self.new.is_ended (R.remaining reader.new) self.new.bytes.items }
+    {
         let mut piece = [0; PIECE];
         let room = MOST_BYTES.saturating_sub(self.bytes.len()).min(PIECE);
-        let mut input = stream;
-        match input.read(&mut piece[..room]) {
+        if room == 0 {
+            return Some(Step::Settled);
+        }
+        match reader.read(&mut piece[..room]) {
             Ok(0) => {
                 self.is_ended = true;
                 Some(Step::Settled)
             }
-            Ok(count) => match self.add(&piece[..count]) {
-                Ok(()) if self.is_settled => Some(Step::Settled),
-                Ok(()) => None,
-                Err(AllocError) => Some(Step::Over),
-            },
+            Ok(count) => {
+                if self.add(&piece[..count]).is_err() {
+                    return Some(Step::Over);
+                }
+                if self.is_settled() {
+                    return Some(Step::Settled);
+                }
+                None
+            }
             Err(error) if error.kind() == ErrorKind::WouldBlock => Some(Step::Waits),
             Err(_) => Some(Step::Over),
         }
     }
 
-    /// Reads what is there, until no more is wanted. It is over where a read fails or memory is refused.
-    pub(crate) fn gather(&mut self, stream: &TcpStream) -> Step {
-        if self.is_settled {
+    /// Reads what is there, by at most 16 reads, until no more is wanted. It is over where a read fails or memory is refused. Else all
+    /// that was read stands behind what came before, and where it is settled the input is at its end, or what it asks for is known.
+    pub fn gather<R: Read>(&mut self, reader: &mut R) -> Step
+        ensures grew { (result ≡ Step.Over → ⊥) → Grew (R.remaining reader.old) (R.remaining reader.new) self.old.bytes.items self.new.bytes.items }
+        ensures settled { result ≡ Step.Settled → IsThere self.new.is_ended (R.remaining reader.new) self.new.bytes.items }
+    {
+        if self.is_settled() {
             return Step::Settled;
         }
-        for _ in 0..MOST_CALLS {
-            if let Some(step) = self.read_piece(stream) {
+        for _turn in 0..MOST_CALLS {
+            if let Some(step) = self.read_piece(reader) {
                 return step;
             }
         }

@@ -18,7 +18,9 @@ mod settled;
 
 pub use answer::Answer;
 pub use clock::clock_moment;
+pub use connection::Step;
 pub use connections::Connections;
 pub use exchange::Exchange;
+pub use gathering::Gathering;
 pub use limits::has_descriptors;
 pub use settled::is_settled;

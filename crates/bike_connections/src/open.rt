@@ -180,18 +180,27 @@ impl Open {
         }
     }
 
-    /// Hands a connection out, with room for so many blocks of an answer; none where its request isn't there, or where memory is
-    /// refused, which ends the connection.
-    fn hand_out(&mut self, key: usize, blocks: usize) -> Option<(Exchange, Answer)> {
+    /// Puts a connection back as it is.
+    fn put_back(&mut self, connection: Connection) {
+        self.held = self.held.saturating_add(connection.blocks());
+        let _ = self.connections.insert(connection);
+    }
+
+    /// Hands a connection out, with room for so many blocks of an answer; none where its request isn't there, or asks for another kind
+    /// of answer, or where memory is refused, which ends the connection.
+    fn hand_out(&mut self, key: usize, is_feed: bool, blocks: usize) -> Option<(Exchange, Answer)> {
         let connection = self.remove(key)?;
+        if connection.may_be_feed() != is_feed {
+            self.put_back(connection);
+            return None;
+        }
         match connection.into_exchange(self.alloc) {
             Ok(exchange) => match Answer::new(self.alloc, blocks.saturating_mul(BLOCK)) {
                 Ok(answer) => Some((exchange, answer)),
                 Err(AllocError) => None,
             },
             Err(connection) => {
-                self.held = self.held.saturating_add(connection.blocks());
-                let _ = self.connections.insert(connection);
+                self.put_back(connection);
                 None
             }
         }
@@ -201,7 +210,7 @@ impl Open {
     pub(crate) fn next_ready(&mut self) -> Option<(Exchange, Answer)> {
         for _ in 0..self.ready.len() {
             let key = self.ready.pop_front()?;
-            let next = self.hand_out(key, 1);
+            let next = self.hand_out(key, false, 1);
             if next.is_some() {
                 return next;
             }
@@ -217,7 +226,7 @@ impl Open {
         let blocks = MOST_BLOCKS.saturating_sub(self.held);
         for _ in 0..self.feeds.len() {
             let key = self.feeds.pop_front()?;
-            let next = self.hand_out(key, blocks);
+            let next = self.hand_out(key, true, blocks);
             if next.is_some() {
                 return next;
             }
@@ -241,8 +250,7 @@ impl Open {
         } else {
             self.soonest = sooner(self.soonest, connection.peer.end());
         }
-        self.held = self.held.saturating_add(connection.blocks());
-        let _ = self.connections.insert(connection);
+        self.put_back(connection);
     }
 
     /// Gives those up whose time is over.

@@ -27,6 +27,7 @@ pub(crate) fn bytes_wanted(bytes: &[u8]) -> usize {
             BodyLength::Of(size) => head.length.saturating_add(size),
             BodyLength::Malformed | BodyLength::TooLong => 0,
         },
-        HeadReading::Incomplete | HeadReading::Unreadable => 0,
+        HeadReading::Incomplete => bytes.len().saturating_add(1),
+        HeadReading::Unreadable => 0,
     }
 }
