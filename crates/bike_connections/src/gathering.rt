@@ -61,8 +61,10 @@ impl Gathering {
 
     /// Reads a piece of what is there; none where more may be there.
     fn read_piece<R: Read>(&mut self, reader: &mut R) -> Option<Step>
-        ensures grew { (result ≡ Some Step.Over → ⊥) → Grew (R.remaining reader.old) (R.remaining reader.new) self.old.bytes.items self.new.bytes.items }
-        ensures settled { result ≡ Some Step.Settled → IsThere self.new.is_ended (R.remaining reader.new) self.new.bytes.items }
+        ensures grew { (result ≡ Some Step.Over → ⊥) → Grew (R.remaining reader.old) (R.remaining reader.new)
+            self.old.bytes.items self.new.bytes.items }
+        ensures settled { result ≡ Some Step.Settled
+            → IsThere self.new.is_ended (R.remaining reader.new) self.new.bytes.items }
     {
         let mut piece = [0; PIECE];
         let room = MOST_BYTES.saturating_sub(self.bytes.len()).min(PIECE);
@@ -91,8 +93,10 @@ impl Gathering {
     /// Reads what is there, by at most 16 reads, until no more is wanted. It is over where a read fails or memory is refused. Else all
     /// that was read stands behind what came before, and where it is settled the input is at its end, or what it asks for is known.
     pub fn gather<R: Read>(&mut self, reader: &mut R) -> Step
-        ensures grew { (result ≡ Step.Over → ⊥) → Grew (R.remaining reader.old) (R.remaining reader.new) self.old.bytes.items self.new.bytes.items }
-        ensures settled { result ≡ Step.Settled → IsThere self.new.is_ended (R.remaining reader.new) self.new.bytes.items }
+        ensures grew { (result ≡ Step.Over → ⊥) → Grew (R.remaining reader.old) (R.remaining reader.new)
+            self.old.bytes.items self.new.bytes.items }
+        ensures settled { result ≡ Step.Settled
+            → IsThere self.new.is_ended (R.remaining reader.new) self.new.bytes.items }
     {
         if self.is_settled() {
             return Step::Settled;
