@@ -1,6 +1,6 @@
 //! Answers that go out as their clients take them.
 
-ghost use Rattle.std.specs.Prelude.{◌≡◌, ◌≤◌, ◌++◌, [], length, take, map, vec_items, IfOk, OnErr};
+ghost use Rattle.std.specs.Prelude.{◌≡◌, ◌≤◌, ◌++◌, [], length, take, map, vec_items, Some, IfOk, OnErr};
 ghost use Rattle.bike_connections.specs.Answers.{bytes_in, BeginsWith, Sends};
 
 use crate::connection::Step;
@@ -42,7 +42,8 @@ impl Model for Answer {
 
 /// The first block.
 fn first_block<'a>(full: &'a VecDeque<Vec<u8>>, last: &'a Vec<u8>) -> &'a [u8]
-    ensures { BeginsWith (bytes_in (map vec_items full.now.items) last.now.items) result.now }
+    ensures front { BeginsWith (bytes_in (map vec_items full.now.items) last.now.items) result.now }
+    ensures only { full.now.items ≡ [] → result.now ≡ last.now.items }
 {
     match full.front() {
         Some(block) => block.as_slice(),
@@ -106,7 +107,8 @@ impl Answer {
 
     /// Sends some bytes, by one write; none where there may be more to do.
     fn send_some<W: Write>(&mut self, writer: &mut W) -> Option<Step>
-        ensures { Sends (W.contents writer.old) (W.contents writer.new) self.old self.new }
+        ensures sends { Sends (W.contents writer.old) (W.contents writer.new) self.old self.new }
+        ensures all { result ≡ Some Step.Sent → self.new ≡ [] }
     {
         self.free();
         let block = first_block(&self.full, &self.last);
@@ -129,9 +131,11 @@ impl Answer {
         }
     }
 
-    /// Sends as much as the client takes now, in at most 16 writes: what is sent and what is left is what there was.
+    /// Sends as much as the client takes now, in at most 16 writes: what is sent and what is left is what there was. `Sent` says that
+    /// nothing is left.
     pub fn send<W: Write>(&mut self, writer: &mut W) -> Step
-        ensures { Sends (W.contents writer.old) (W.contents writer.new) self.old self.new }
+        ensures sends { Sends (W.contents writer.old) (W.contents writer.new) self.old self.new }
+        ensures all { result ≡ Step.Sent → self.new ≡ [] }
     {
         for _turn in 0..MOST_CALLS {
             if let Some(step) = self.send_some(writer) {

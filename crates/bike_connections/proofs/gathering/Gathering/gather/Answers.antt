@@ -1,3 +1,4 @@
+use Rattle.std.proofs.Common.{inl, inr}
 use Rattle.bike_incoming.proofs.Receiving.{grew_nothing, grew_then}
 use Rattle.bike_connections.proofs.gathering.Gathering.gather.Goals as goal
 
@@ -9,3 +10,6 @@ returns-in-Some-clause-grew g c over = grew_then c.loop-turn.invariant (c.in-Som
 
 pub loop-turn-preserved : goal.loop-turn-preserved
 loop-turn-preserved g c = grew_then c.loop-turn.invariant (c.in_default.ensures.grew (λ e. absurd cc))
+
+pub returns-then-is_settled-clause-settled : goal.returns-then-is_settled-clause-settled
+returns-then-is_settled-clause-settled g c holds = inr (inl (c.is_settled.ensures.settled c.if-is_settled.true))
