@@ -242,11 +242,12 @@ def answers_under_way(case):
 
 
 def wide_city(program):
-    """A city of which `station_status` has some 15 MB."""
+    """A city with as many types and stations as there may be, and the longest identifiers: `station_status` has some
+    15 MB."""
     put(taken(program.folder, "city.db"), program.folder, "wide.db")
-    commands = [f"add-type\tt{at}\tT\tbicycle\thuman\t0\tbasic" for at in range(TYPES - 1)]
-    commands += [f"add-station\ts{at}\tS\t1.0\t2.0\t1" for at in range(STATIONS - 1)]
-    assert ask(program, commands, file="wide.db") == ["ok"] * len(commands)
+    commands = [f"add-type\tt{at:035}\tT\tbicycle\thuman\t0\tbasic" for at in range(TYPES - 1)]
+    commands += [f"add-station\ts{at:035}\tS\t1.0\t2.0\t1" for at in range(STATIONS - 1)]
+    assert ask(program, commands, file="wide.db", key="w") == ["ok"] * len(commands)
 
 
 @contextlib.contextmanager
@@ -292,7 +293,7 @@ def test_slow_clients(program):
         city(program)
         wide_city(program)
         feeds = {it: timeless(answer(200, feed(program, "station_status", file=f"{it}.db"))) for it in ("city", "wide")}
-        assert len(feeds["wide"]) > 14_000_000, len(feeds["wide"])
+        assert len(feeds["wide"]) > 12_000_000, len(feeds["wide"])
 
         def tried(numbered):
             number, (name, (file, holds)) = numbered
