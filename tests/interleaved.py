@@ -5,6 +5,8 @@ Requests that change nothing of what the others are told are answered alike in a
 three starts at one dock, each last byte is sent when all that were whole before are answered, so that the order is
 known.
 
+Some clients end their input behind their last byte, which may be one in the midst of a request.
+
 Some draws stand in the gate. By hand, from the environment:
 
     BIKESHARE_DRAWS=5000 BIKESHARE_SEED=7 tests/run interleaved.
@@ -17,18 +19,20 @@ import json
 import os
 import random
 import shutil
+import socket
 import time
 from pathlib import Path
 
 from shared import (
-    FEEDS, Server, city, feed, get, get_feed, is_sound, office, post, request, rest, rows_of, timeless, told, told_with,
+    FEEDS, Server, city, feed, get, get_feed, is_sound, office, post, quickly, request, rest, rows_of, timeless, told,
+    told_with,
 )
 
 DRAWS = int(os.environ.get("BIKESHARE_DRAWS", "120"))
 SEED = int(os.environ.get("BIKESHARE_SEED", "1"))
-RIDERS, DOCKS = [17, 18, 19], [1, 2, 3, 4]
+RIDERS, DOCKS = [17, 18, 19], [1, 3]
 UNREADABLE = [
-    b"\r\n\r\n\r\n", b"GET  /riders/17 HTTP/1.1\r\n\r\n", b"GET /riders/17 HTTP/2.0\r\n\r\n", b"G(T / HTTP/1.1\r\n\r\n",
+    b"GET  /riders/17 HTTP/1.1\r\n\r\n", b"GET /riders/17 HTTP/2.0\r\n\r\n", b"G(T / HTTP/1.1\r\n\r\n",
     b"GET /riders/17 HTTP/1.1\r\nHost : a\r\n\r\n", b"GET /riders/17 HTTP/1.1\r\nX: a\0b\r\n\r\n",
     b"\x16\x03\x01\x02\x00\x01\x00\x01\xfc\x03\x03\r\n\r\n",
 ]
@@ -43,7 +47,7 @@ def unlike(pick, number):
         lambda: get(pick.choice(["/riders/17", "/bikes/7", "/orders/1", "/rentals/999999"])),
         lambda: get_feed(pick.choice(FEEDS)),
         lambda: pick.choice(UNREADABLE),
-        lambda: post(pick.choice(["/nowhere", "/riders/17", "/office/"]), "{}" + " " * pick.choice([0, 100, 5000])),
+        lambda: post(pick.choice(["/nowhere", "/riders/17", "/office/"]), "{}" + " " * pick.choice([0, 100, 500])),
         lambda: get("/office"),
         lambda: post("/office", pick.choice(["[]", "{}", '{"key":1}', '{"key":"k","command":"top-up\\t17"}'])),
         lambda: request("POST", "/office", "Content-Length: 20000"),
@@ -67,24 +71,33 @@ def alike(pick, number):
     ])()
 
 
+def cut(pick, asked, is_changing):
+    """A request, and whether its input ends behind it. It may be a front of one, but of none that would change what the
+    others are told."""
+    if pick.random() < 0.8:
+        return asked, pick.random() < 0.2
+    return asked if is_changing else asked[: pick.randrange(1, len(asked) + 1)], True
+
+
 class Draw:
     """Some requests, and the order in which their bytes are sent."""
 
     def __init__(self, pick, number):
         self.is_ordered = pick.random() < 0.5
         one = alike if self.is_ordered else unlike
-        self.asked = [one(pick, 10 * number + it) for it in range(pick.choice([2, 3]))]
-        self.bytes = [at for at, it in enumerate(self.asked) for _ in it]
+        count = pick.choice([2, 3])
+        self.asked = [cut(pick, one(pick, 10 * number + it), self.is_ordered) for it in range(count)]
+        self.bytes = [at for at, (it, _) in enumerate(self.asked) for _ in it]
         pick.shuffle(self.bytes)
         if pick.random() < 0.3:
             # All but the last bytes first.
-            lasts = list(range(len(self.asked)))
+            lasts = list(range(count))
             pick.shuffle(lasts)
             for at in lasts:
                 self.bytes.remove(at)
             self.bytes += lasts
         # Between two bytes, so that most are read alone, or many at once.
-        self.pause = pick.choice([0, 0, 0.0003]) if len(self.bytes) < 1000 else 0
+        self.pause = pick.choice([0, 0, 0, 0, 0.0003]) if len(self.bytes) < 1000 else 0
 
     def exchanged(self, server):
         """Sends them to a server: the answers, and the order in which the requests were whole."""
@@ -92,19 +105,24 @@ class Draw:
         with contextlib.ExitStack() as stack:
             clients = [stack.enter_context(server.connect()) for _ in self.asked]
             for at in self.bytes:
-                if sent[at] + 1 == len(self.asked[at]):
+                asked, is_ended = self.asked[at]
+                sent[at] += 1
+                is_last = sent[at] == len(asked)
+                if is_last:
                     for it in order if self.is_ordered else []:
                         found[it] = rest(clients[it]) if found[it] is None else found[it]
                     order.append(at)
                 # What comes behind the byte that tells that it can't be read may meet a closed connection.
-                with contextlib.suppress(ConnectionError):
-                    clients[at].sendall(self.asked[at][sent[at] : sent[at] + 1])
-                sent[at] += 1
+                with contextlib.suppress(OSError):
+                    clients[at].sendall(asked[sent[at] - 1 : sent[at]])
+                    if is_last and is_ended:
+                        clients[at].shutdown(socket.SHUT_WR)
                 if self.pause:
                     time.sleep(self.pause)
             return [rest(client) if it is None else it for client, it in zip(clients, found)], order
 
 
+@quickly
 def test_exchanges_byte_by_byte(program):
     """Both servers' cities are alike at the end, too."""
     riders = [it for rider in RIDERS[1:] for it in (f"add-rider\t{rider}", f"top-up\t{rider}\t1000000")]
@@ -116,7 +134,7 @@ def test_exchanges_byte_by_byte(program):
             draw = Draw(pick, number)
             found, order = draw.exchanged(server)
             for at in order:
-                wanted = timeless(alone.ask(draw.asked[at]))
+                wanted = timeless(alone.ask(*draw.asked[at]))
                 with told_with(f"seed {SEED}, draw {number}, the requests {draw.asked}, whole in the order {order}"):
                     assert timeless(found[at]) == wanted, f"{at} is answered by {told(found[at])}, not {told(wanted)}"
                 answered.add(wanted[9:12])
