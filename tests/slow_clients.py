@@ -8,20 +8,19 @@ much memory.
 import contextlib
 import itertools
 import os
-import random
 import resource
 import signal
 import socket
 import time
 
 from shared import (
-    DONE, EIO, FAULTS, START, UNAVAILABLE, Server, answer, ask, at_once, city, environment, error, feed, get, get_feed,
-    is_sound, nothing_is, office, post, put, quickly, request, rest, rows_of, taken, timeless, told,
+    DONE, EIO, FAULTS, START, STARTED, UNAVAILABLE, Server, answer, ask, at_once, city, environment, error, feed, get,
+    get_feed, is_sound, nothing_is, office, post, put, quickly, request, rest, rows_of, taken, told,
 )
 
 PATIENCE, MOST_OPEN, DESCRIPTORS = 10, 1000, 1016
 # What a busy machine may take, in seconds: for an answer, and beyond the patience until a connection is closed.
-SOON, SLACK = 1, 3
+SOON, SLACK = 2, 3
 # How long what is sent behind an early answer is still read.
 LINGER = 0.2
 # How much more memory many connections take, and so do all answers under way.
@@ -78,22 +77,27 @@ class Slow:
 
     def judge(self, wanted):
         """Holds what it was sent to what is wanted: nothing, or a front of the feed. Returns how much that was."""
-        found = rest(self.socket)
+        found = undated(rest(self.socket))
         self.socket.close()
-        # The last moment may be cut.
-        front = timeless(found)[:-20]
-        assert not found or (self.manner == UNREAD and wanted.startswith(front) and len(found) < len(wanted)), (
+        assert not found or (self.manner == UNREAD and wanted.startswith(found) and len(found) < len(wanted)), (
             f"{self.manner}: it was sent {told(found)}"
         )
         return len(found)
 
 
+def undated(found):
+    """The answer without the moment at which a feed was asked for. No station of these cities changes."""
+    head, name, behind = found.partition(b'"last_updated":"')
+    return head + name + behind[20:]
+
+
 def waited(server, asked, wanted):
     """How many seconds a request takes that is sent whole, and whose answer is as wanted."""
     begun = time.monotonic()
-    found = timeless(server.ask(asked))
-    assert found == wanted, f"{told(asked)}: {told(found)}, not {told(wanted)}"
-    return time.monotonic() - begun
+    found = server.ask(asked)
+    took = time.monotonic() - begun
+    assert undated(found) == wanted, f"{told(asked)}: {told(found)}, not {told(wanted)}"
+    return took
 
 
 def row(rider):
@@ -109,6 +113,11 @@ def until(holds, seconds, what):
         assert took < seconds, f"not after {took:.1f} seconds: {what}"
         time.sleep(0.02)
     return time.monotonic() - begun
+
+
+def riders(program, file="city.db"):
+    """How many the city has."""
+    return rows_of("SELECT count(*) FROM riders", program.folder, file)[0][0]
 
 
 def begin(server, count, opened):
@@ -183,7 +192,7 @@ def no_more_than_a_thousand_are_open(case):
         time.sleep(max(0, begun + PATIENCE + 1.5 - time.monotonic()))
         late.sendall(RIDE[-1:])
         found = rest(late)
-        assert found == answer(200, '{"result":"ok","rental":1,"bike":7}'), found
+        assert found == STARTED, found
         # A connection may end a moment after its client.
         until(lambda: server.descriptors() == before, SOON, "no connection is open")
 
@@ -234,16 +243,84 @@ def answers_under_way(case):
             assert waited(server, office(f"k{is_read}", f"add-rider\t{1001 + is_read}"), DONE) < SOON
             if is_read:
                 time.sleep(1)
-                assert timeless(rest(slow.socket)) == case.feeds["wide"]
+                assert undated(rest(slow.socket)) == case.feeds["wide"]
             assert server.end() == (0, b"", b"")
             at = time.monotonic() - begun
         if not is_read:
             assert PATIENCE - 1 < at < PATIENCE + SLACK and slow.judge(case.feeds["wide"]), at
 
 
+def moments_are_those_of_acceptance(case):
+    """A request that becomes whole later has the moment at which it was accepted, and the city's time never goes
+    back."""
+    with case.serve() as server:
+        first, second = begin(server, 2, server.connect)
+        at = int(time.time())
+        first.sendall(STATUS[:-1])
+        second.sendall(RIDE[:-1])
+        time.sleep(2.2)
+        first.sendall(STATUS[-1:])
+        found = rest(first)
+        moments = [time.strftime("%Y-%m-%dT%H:%M:%SZ", time.gmtime(it)).encode() for it in range(at - SOON, at + 1)]
+        assert any(b'{"last_updated":"%s"' % it in found for it in moments), (moments, found[:200])
+        assert server.ask(office("k1", "mark-dock\ta1\t2\tworking")) == DONE
+        later = server.told("/gbfs/3.0/station_status.json")["data"]["stations"][0]["last_reported"]
+        assert later.encode() > moments[-1], (later, moments)
+        second.sendall(RIDE[-1:])
+        found = rest(second)
+        assert found == STARTED, found
+        assert server.told("/rentals/1")["start"] == later, (server.told("/rentals/1"), later)
+
+
+def a_store_that_fails(case):
+    """What was answered stands. The answers under way are sent for a second, and nobody is waited for."""
+    program, parts = case.program, {it: taken(case.program.folder, f"{it}.db") for it in ("city", "wide")}
+
+    def failing(name, first):
+        """A server whose changes fail, from one of them on."""
+        put(parts[name], program.folder, case.file)
+        env = environment(program.folder, case.file, FAIL_FROM=first, FAIL_WITH=EIO, ONLY_CHANGES=1)
+        return Server(program, file=case.file, env=env)
+
+    # The first changes are made where a file is opened, and are alike for all.
+    for first in itertools.count(1):
+        server = failing("city", first)
+        is_open = server.first_line()
+        server.stop()
+        if is_open:
+            break
+    for is_read in True, False:
+        server = failing("wide", first)
+        assert server.first_line(), server.end()
+        try:
+            slow = [Slow(server, it) for it in MANNERS for _ in range(5)]
+            for it in slow:
+                it.go_on()
+            time.sleep(SOON)
+
+            def asked(number):
+                with contextlib.suppress(ConnectionError):
+                    return server.ask(office(f"k{number}", f"add-rider\t{1000 + number}"))
+                return b""
+
+            def taken_late(_):
+                return rest(next(it.socket for it in slow if it.manner == UNREAD)) if is_read else b""
+
+            begun = time.monotonic()
+            late, *found = at_once(lambda it: it[0](it[1]), [(taken_late, 0), *((asked, it) for it in range(20))], 21)
+            ended = server.end()
+            at = time.monotonic() - begun
+            assert ended == (3, b"", b"store failed\n") and at < 1 + SOON, (ended, at)
+            assert set(found) <= {UNAVAILABLE, b""} and UNAVAILABLE in found, set(found)
+            assert riders(program, case.file) == 1
+            assert not is_read or undated(late) == case.feeds["wide"], told(late)
+        finally:
+            server.stop()
+
+
 def wide_city(program):
     """A city with as many types and stations as there may be, and the longest identifiers: `station_status` has some
-    15 MB."""
+    12 MB."""
     put(taken(program.folder, "city.db"), program.folder, "wide.db")
     commands = [f"add-type\tt{at:035}\tT\tbicycle\thuman\t0\tbasic" for at in range(TYPES - 1)]
     commands += [f"add-station\ts{at:035}\tS\t1.0\t2.0\t1" for at in range(STATIONS - 1)]
@@ -281,6 +358,8 @@ def cases():
     found["feeds that wait"] = "wide", feeds_wait_for_room
     found["a count that ends"] = "city", a_count_that_ends
     found["answers under way at the end"] = "wide", answers_under_way
+    found["moments"] = "city", moments_are_those_of_acceptance
+    found["a store that fails"] = "wide", a_store_that_fails
     return found
 
 
@@ -292,7 +371,7 @@ def test_slow_clients(program):
             return
         city(program)
         wide_city(program)
-        feeds = {it: timeless(answer(200, feed(program, "station_status", file=f"{it}.db"))) for it in ("city", "wide")}
+        feeds = {it: undated(answer(200, feed(program, "station_status", file=f"{it}.db"))) for it in ("city", "wide")}
         assert len(feeds["wide"]) > 12_000_000, len(feeds["wide"])
 
         def tried(numbered):
@@ -311,11 +390,6 @@ def test_slow_clients(program):
 
 
 # ---- What takes no ten seconds
-
-
-def riders(program, file="city.db"):
-    """How many the city has."""
-    return rows_of("SELECT count(*) FROM riders", program.folder, file)[0][0]
 
 
 def test_more_clients_than_may_wait(program):
@@ -339,7 +413,7 @@ def test_clients_that_send_on(program):
         request("POST", "/nowhere", "Content-Length: 2", body=b"{}"): error(404),
     }
     with Server(program) as server:
-        status = timeless(server.ask(STATUS))
+        status = undated(server.ask(STATUS))
         before, begun = server.descriptors(), time.monotonic()
         clients = [(it, *pair) for pair in early.items() for it in begin(server, 10, server.connect)]
         for client, asked, _ in clients:
@@ -376,72 +450,4 @@ def test_a_server_that_stands_still(program):
         for it in held:
             it.sendall(RIDE[-1:])
         found = {rest(it) for it in held}
-        assert found == {answer(200, '{"result":"ok","rental":1,"bike":7}')}, found
-
-
-def test_a_clients_moment_is_its_acceptance(program):
-    """A request that becomes whole later has the moment at which it was accepted, and the city's time never goes
-    back."""
-    city(program)
-    with Server(program) as server:
-        first, second = (begin(server, 1, server.connect)[0] for _ in range(2))
-        at = int(time.time())
-        first.sendall(STATUS[:-1])
-        second.sendall(RIDE[:-1])
-        time.sleep(2.2)
-        first.sendall(STATUS[-1:])
-        found = rest(first)
-        moments = [time.strftime("%Y-%m-%dT%H:%M:%SZ", time.gmtime(it)).encode() for it in (at - 1, at)]
-        assert any(b'{"last_updated":"%s"' % it in found for it in moments), (moments, found[:200])
-        assert server.ask(office("k1", "mark-dock\ta1\t2\tworking")) == DONE
-        later = server.told("/gbfs/3.0/station_status.json")["data"]["stations"][0]["last_reported"]
-        assert later.encode() > moments[1], (later, moments)
-        second.sendall(RIDE[-1:])
-        found = rest(second)
-        assert found == answer(200, '{"result":"ok","rental":1,"bike":7}'), found
-        assert server.told("/rentals/1")["start"] == later, (server.told("/rentals/1"), later)
-
-
-@quickly
-def test_a_store_that_fails_beside_slow_clients(program):
-    """What was answered stands. The answers under way are sent for a second, and nobody is waited for."""
-    city(program)
-    wide_city(program)
-    whole = timeless(answer(200, feed(program, "station_status", file="wide.db")))
-    pick = random.Random("a store that fails")
-    parts = taken(program.folder, "wide.db")
-    for is_read in True, False:
-        # The first changes are made where the file is opened.
-        for first in itertools.count(1):
-            put(parts, program.folder, "wide.db")
-            env = environment(program.folder, "wide.db", FAIL_FROM=first, FAIL_WITH=EIO, ONLY_CHANGES=1)
-            server = Server(program, file="wide.db", env=env)
-            if server.first_line():
-                break
-            server.stop()
-        try:
-            slow = [Slow(server, it) for it in MANNERS for _ in range(5)]
-            for it in slow:
-                it.go_on()
-            time.sleep(SOON)
-            posts = [office(f"k{it}", f"add-rider\t{1000 + it}") for it in range(20)]
-            pick.shuffle(posts)
-
-            def asked(it):
-                with contextlib.suppress(ConnectionError):
-                    return server.ask(it)
-                return b""
-
-            begun = time.monotonic()
-            found = at_once(asked, posts, len(posts))
-            if is_read:
-                unread = [it for it in slow if it.manner == UNREAD]
-                assert timeless(rest(unread[0].socket)) == whole
-            ended = server.end()
-            at = time.monotonic() - begun
-            assert ended == (3, b"", b"store failed\n"), ended
-            assert at < 1 + SOON, at
-            assert set(found) <= {UNAVAILABLE, b""}, set(found)
-            assert riders(program, "wide.db") == 1
-        finally:
-            server.stop()
+        assert found == {STARTED}, found
