@@ -16,6 +16,11 @@ use std::io::ErrorKind;
 use std::net::SocketAddr;
 use std::time::{Duration, Instant};
 
+/// Whether a read that was to wait for a moment ended because nothing came in it.
+fn is_nothing_yet(error: &io::Error) -> bool {
+    matches!(error.kind(), ErrorKind::WouldBlock | ErrorKind::Interrupted)
+}
+
 /// The connections on a port of the loopback address.
 #[derive(Drop)]
 pub struct Connections {
@@ -94,7 +99,8 @@ impl Connections {
         let mut piece = [0; PIECE];
         let count = match read_alone(&stream, &mut piece) {
             Ok(count) => count,
-            Err(_) => 0,
+            Err(error) if is_nothing_yet(&error) => 0,
+            Err(_) => return Ok(()),
         };
         if stream.set_nonblocking(true).is_err() {
             return Ok(());
