@@ -120,11 +120,13 @@ def riders(program, file="city.db"):
     return rows_of("SELECT count(*) FROM riders", program.folder, file)[0][0]
 
 
-def begin(server, count, opened):
-    """Begins so many slow clients by `opened`, and waits until they are accepted."""
-    before = server.descriptors()
-    clients = [opened() for _ in range(count)]
-    until(lambda: server.descriptors() == before + count, SOON, f"{count} connections are accepted")
+def begin(server, opened):
+    """Begins a client by each of these, and waits until all are accepted."""
+    before, begun, clients = server.descriptors(), time.monotonic(), []
+    for it in opened:
+        clients.append(it())
+        assert time.monotonic() - begun < 2 * SLACK, f"{len(clients)} connections took long"
+    until(lambda: server.descriptors() == before + len(clients), SOON, f"{len(clients)} connections are accepted")
     return clients
 
 
@@ -147,15 +149,17 @@ def others_are_answered(counts, case):
     whole, is_published = case.feeds[case.file.split("-")[0]], UNREAD not in counts
     with case.serve() as server:
         before, memory, begun = server.descriptors(), server.memory(), time.monotonic()
-        slow = [Slow(server, manner) for manner, count in counts.items() for _ in range(count)]
+        manners = [manner for manner, count in counts.items() for _ in range(count)]
+        slow = begin(server, [lambda manner=manner: Slow(server, manner) for manner in manners])
         for number in itertools.count():
             for it in slow:
                 it.go_on()
             at, left = time.monotonic() - begun, server.descriptors() - before
-            if at > SOON and not left:
+            if not left:
                 break
-            assert at < PATIENCE + SLACK, f"{left} are open after {at:.1f} seconds"
-            assert left == len(slow) or not SOON < at < PATIENCE - 1, f"{left} are open after {at:.1f} seconds"
+            assert at < PATIENCE + SLACK and (left == len(slow) or at > PATIENCE - 1), (
+                f"{left} are open after {at:.1f} seconds"
+            )
             more = server.memory() - memory
             assert more < MEMORY + (0 if is_published else ANSWERS), f"it takes {more} bytes more"
             asked = [(office(f"k{number}", f"add-rider\t{1000 + number}"), DONE)]
@@ -176,7 +180,7 @@ def no_more_than_a_thousand_are_open(case):
         pid = server.child.pid
         resource.prlimit(pid, resource.RLIMIT_NOFILE, (DESCRIPTORS, DESCRIPTORS))
         before, begun = server.descriptors(), time.monotonic()
-        silent = begin(server, MOST_OPEN, server.connect)
+        silent = begin(server, [server.connect] * MOST_OPEN)
         late = server.connect()
         late.sendall(RIDE[:-1])
 
@@ -202,7 +206,7 @@ def feeds_wait_for_room(case):
     those are given up."""
     with case.serve() as server:
         begun = time.monotonic()
-        slow = begin(server, 20, lambda: Slow(server, UNREAD))
+        slow = begin(server, [lambda: Slow(server, UNREAD)] * 20)
         for it in slow:
             it.go_on()
         time.sleep(SLACK)
@@ -254,7 +258,7 @@ def moments_are_those_of_acceptance(case):
     """A request that becomes whole later has the moment at which it was accepted, and the city's time never goes
     back."""
     with case.serve() as server:
-        first, second = begin(server, 2, server.connect)
+        first, second = begin(server, [server.connect] * 2)
         at = int(time.time())
         first.sendall(STATUS[:-1])
         second.sendall(RIDE[:-1])
@@ -415,7 +419,7 @@ def test_clients_that_send_on(program):
     with Server(program) as server:
         status = undated(server.ask(STATUS))
         before, begun = server.descriptors(), time.monotonic()
-        clients = [(it, *pair) for pair in early.items() for it in begin(server, 10, server.connect)]
+        clients = [(it, *pair) for pair in early.items() for it in begin(server, [server.connect] * 10)]
         for client, asked, _ in clients:
             client.sendall(asked)
         left = len(clients)
@@ -437,7 +441,7 @@ def test_a_server_that_stands_still(program):
     """It is stopped and goes on, as while deploy/backup copies its file. The connections that are open stay so."""
     city(program)
     with Server(program) as server:
-        held = begin(server, 5, server.connect)
+        held = begin(server, [server.connect] * 5)
         for it in held:
             it.sendall(RIDE[:-1])
         for number in range(5):
