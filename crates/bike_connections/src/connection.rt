@@ -55,9 +55,16 @@ pub(crate) struct Connection {
     pub(crate) is_going: bool,
 }
 
-/// Whether these bytes may ask for a feed, whose path has this part. No other answer is long.
+/// Whether these bytes may ask for a feed: its path, which stands before the version, has this part. No other answer is long.
 fn may_be_feed(bytes: &[u8]) -> bool {
-    bytes.windows(6).any(|part| part == b"/gbfs/".as_slice())
+    let end = bytes
+        .windows(8)
+        .position(|part| part == b" HTTP/1.".as_slice());
+    let front = match end {
+        Some(end) => &bytes[..end.min(bytes.len())],
+        None => bytes,
+    };
+    front.windows(6).any(|part| part == b"/gbfs/".as_slice())
 }
 
 /// Reads what a client still sends, and drops it.

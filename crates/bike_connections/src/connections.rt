@@ -9,6 +9,7 @@ use crate::limits::{PIECE, TURN};
 use crate::listener::{Accepted, LISTENER, Listener, read_alone};
 use crate::open::Open;
 use crate::peer::Peer;
+use bike_fixed::Moment;
 use mio::net::TcpStream;
 use mio::{Events, Poll};
 use std::io;
@@ -34,6 +35,8 @@ pub struct Connections {
     answers: usize,
     /// Whether a feed may be handed out in this turn.
     may_publish: bool,
+    /// The moment of the last that was handed out. None has an earlier one than those before it: a feed would be older than what it tells.
+    latest: Option<Moment>,
 }
 
 impl Connections {
@@ -53,6 +56,7 @@ impl Connections {
             now,
             answers: 0,
             may_publish: false,
+            latest: None,
         })
     }
 
@@ -165,9 +169,12 @@ impl Connections {
     /// listener, a wait or a clock that fails.
     pub fn next(&mut self, rt: &HostRuntime) -> io::Result<Option<(Exchange, Answer)>> {
         for _ in 0..u64::MAX {
-            let next = self.next_in_turn();
-            if next.is_some() {
-                return Ok(next);
+            if let Some((mut exchange, answer)) = self.next_in_turn() {
+                if let Some(latest) = self.latest {
+                    exchange.come_after(latest);
+                }
+                self.latest = Some(exchange.moment());
+                return Ok(Some((exchange, answer)));
             }
             if self.listener.is_done() && self.open.is_empty() {
                 return Ok(None);

@@ -24,9 +24,14 @@ impl Exchange {
         }
     }
 
-    /// When the connection was accepted.
+    /// When the connection was accepted, or another that was handed out before, if that is later.
     pub fn moment(&self) -> Moment {
         self.peer.moment
+    }
+
+    /// Handed out behind one of this moment, it has no earlier one.
+    pub(crate) fn come_after(&mut self, latest: Moment) {
+        self.peer.moment = self.peer.moment.later(&latest);
     }
 }
 
