@@ -26,11 +26,12 @@ LINGER = 0.2
 # How much more memory many connections take, and so do all answers under way.
 MEMORY, ANSWERS = 30_000_000, 33_554_432
 # How many sockets the clients of all cases have together.
-SOCKETS = 4000
+SOCKETS = 5000
 STATIONS, TYPES = 5000, 32
 
 RIDE, STATUS = post("/riders/17/start", START), get_feed("station_status")
 EXPECTING = request("POST", "/office", "Expect: 100-continue", "Content-Length: 100")
+LONGEST = request("POST", "/office", "Content-Length: 16384", "X: " + "x" * 8139, body=b" " * 16384)
 NOTHING_MORE = b"", 60
 
 
@@ -56,6 +57,7 @@ MANNERS = {
     "a head that never ends": without_end,
     "stopped in the body": lambda: [(RIDE[:-5], 60)],
     "waiting for 100 Continue": lambda: [(EXPECTING, 60)],
+    "stopped in the longest request": lambda: [(LONGEST[:-1], 60)],
     UNREAD: lambda: [(STATUS, 60)],
 }
 
@@ -223,6 +225,28 @@ def feeds_wait_for_room(case):
         assert sum(bool(it.judge(case.feeds["wide"])) for it in slow) < len(slow)
 
 
+def clients_that_are_in_time(case):
+    """Those that take eight seconds to send a request, and one that takes as long to read a feed, are answered in
+    full."""
+    steps, whole = 80, case.feeds["wide"]
+    with case.serve() as server:
+        clients = begin(server, [server.connect] * 20)
+        posts = [office(f"k{it}", f"add-rider\t{1000 + it}") for it in range(len(clients))]
+        found = b""
+        with server.connect() as reader:
+            reader.sendall(STATUS)
+            for step in range(steps):
+                for client, asked in zip(clients, posts):
+                    at = len(asked) * step // steps
+                    client.sendall(asked[at : len(asked) * (step + 1) // steps])
+                found += reader.recv(len(whole) // steps // 2)
+                time.sleep(8 / steps)
+            found += rest(reader)
+        assert undated(found) == whole, told(found)
+        answers = {rest(it) for it in clients}
+        assert answers == {DONE}, answers
+
+
 def a_count_that_ends(case):
     """A silent client is one of those that are counted, and the server ends with it."""
     begun = time.monotonic()
@@ -350,7 +374,8 @@ def cases():
         f"{count} clients, {manner}": ("wide" if manner == UNREAD else "city", {manner: count})
         for manner, count in itertools.product(MANNERS, (20, 100))
     }
-    found["900 silent clients"] = "city", {"silent": 900}
+    for manner in "silent", "stopped in the longest request":
+        found[f"900 clients, {manner}"] = "city", {manner: 900}
     found["320 slow clients"] = (
         "wide", {"silent": 100, "a byte a second": 100, "stopped in the body": 100, UNREAD: 20}
     )
@@ -360,6 +385,7 @@ def cases():
     }
     found["1,000 silent clients"] = "city", no_more_than_a_thousand_are_open
     found["feeds that wait"] = "wide", feeds_wait_for_room
+    found["clients that are in time"] = "wide", clients_that_are_in_time
     found["a count that ends"] = "city", a_count_that_ends
     found["answers under way at the end"] = "wide", answers_under_way
     found["moments"] = "city", moments_are_those_of_acceptance
