@@ -7,6 +7,7 @@ much memory.
 
 import contextlib
 import itertools
+import json
 import os
 import resource
 import signal
@@ -14,8 +15,8 @@ import socket
 import time
 
 from shared import (
-    DONE, EIO, FAULTS, START, STARTED, UNAVAILABLE, Server, answer, ask, at_once, city, environment, error, feed, get,
-    get_feed, is_sound, nothing_is, office, post, put, quickly, request, rest, rows_of, taken, told,
+    DONE, EIO, FAULTS, START, STARTED, UNAVAILABLE, Server, answer, ask, at_once, body_of, city, environment, error,
+    feed, get, get_feed, is_sound, nothing_is, office, post, put, quickly, request, rest, rows_of, taken, told,
 )
 
 PATIENCE, MOST_OPEN, DESCRIPTORS = 10, 1000, 1016
@@ -122,6 +123,11 @@ def riders(program, file="city.db"):
     return rows_of("SELECT count(*) FROM riders", program.folder, file)[0][0]
 
 
+def clock():
+    """The moment, in UTC."""
+    return time.strftime("%Y-%m-%dT%H:%M:%SZ", time.gmtime())
+
+
 def begin(server, opened):
     """Begins a client by each of these, and waits until all are accepted."""
     before, begun, clients = server.descriptors(), time.monotonic(), []
@@ -226,23 +232,22 @@ def feeds_wait_for_room(case):
 
 
 def clients_that_are_in_time(case):
-    """Those that take eight seconds to send a request, and one that takes as long to read a feed, are answered in
+    """Those that take seven seconds to send a request, and one that takes as long to read a feed, are answered in
     full."""
-    steps, whole = 80, case.feeds["wide"]
-    with case.serve() as server:
-        clients = begin(server, [server.connect] * 20)
-        posts = [office(f"k{it}", f"add-rider\t{1000 + it}") for it in range(len(clients))]
-        found = b""
-        with server.connect() as reader:
-            reader.sendall(STATUS)
-            for step in range(steps):
-                for client, asked in zip(clients, posts):
-                    at = len(asked) * step // steps
-                    client.sendall(asked[at : len(asked) * (step + 1) // steps])
-                found += reader.recv(len(whole) // steps // 2)
-                time.sleep(8 / steps)
-            found += rest(reader)
-        assert undated(found) == whole, told(found)
+    steps, whole = 70, case.feeds["wide"]
+    with case.serve() as server, server.connect() as reader:
+        reader.sendall(STATUS)
+        posts = [office(f"k{it}", f"add-rider\t{1000 + it}") for it in range(20)]
+        clients = begin(server, [server.connect] * len(posts))
+        begun, found = time.monotonic(), bytearray()
+        for step in range(steps):
+            for client, asked in zip(clients, posts):
+                at = len(asked) * step // steps
+                client.sendall(asked[at : len(asked) * (step + 1) // steps])
+            found += reader.recv(len(whole) // steps // 2)
+            time.sleep(max(0, begun + (step + 1) / 10 - time.monotonic()))
+        found += rest(reader)
+        assert undated(bytes(found)) == whole, told(bytes(found))
         answers = {rest(it) for it in clients}
         assert answers == {DONE}, answers
 
@@ -278,26 +283,34 @@ def answers_under_way(case):
             assert PATIENCE - 1 < at < PATIENCE + SLACK and slow.judge(case.feeds["wide"]), at
 
 
+def told_at(found):
+    """The moment of a feed, and the one at which its first station changed."""
+    told_of = json.loads(body_of(found))
+    return told_of["last_updated"], told_of["data"]["stations"][0]["last_reported"]
+
+
 def moments_are_those_of_acceptance(case):
-    """A request that becomes whole later has the moment at which it was accepted, and the city's time never goes
-    back."""
+    """A request that becomes whole later has the moment at which it was accepted, or a later one of a request that was
+    answered before. So the city's time never goes back, and no feed is older than what it tells."""
     with case.serve() as server:
-        first, second = begin(server, [server.connect] * 2)
-        at = int(time.time())
+        first, second, third = begin(server, [server.connect] * 3)
+        at = clock()
         first.sendall(STATUS[:-1])
         second.sendall(RIDE[:-1])
+        third.sendall(STATUS[:-1])
         time.sleep(2.2)
         first.sendall(STATUS[-1:])
-        found = rest(first)
-        moments = [time.strftime("%Y-%m-%dT%H:%M:%SZ", time.gmtime(it)).encode() for it in range(at - SOON, at + 1)]
-        assert any(b'{"last_updated":"%s"' % it in found for it in moments), (moments, found[:200])
+        found, _ = told_at(rest(first))
+        assert found <= at, (found, at)
         assert server.ask(office("k1", "mark-dock\ta1\t2\tworking")) == DONE
-        later = server.told("/gbfs/3.0/station_status.json")["data"]["stations"][0]["last_reported"]
-        assert later.encode() > moments[-1], (later, moments)
+        third.sendall(STATUS[-1:])
+        found, changed = told_at(rest(third))
+        assert at < changed <= found <= clock(), (at, changed, found, clock())
         second.sendall(RIDE[-1:])
         found = rest(second)
         assert found == STARTED, found
-        assert server.told("/rentals/1")["start"] == later, (server.told("/rentals/1"), later)
+        start = server.told("/rentals/1")["start"]
+        assert changed <= start <= clock(), (changed, start, clock())
 
 
 def a_store_that_fails(case):
