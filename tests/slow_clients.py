@@ -235,10 +235,10 @@ def clients_that_are_in_time(case):
     """Those that take seven seconds to send a request, and one that takes as long to read a feed, are answered in
     full."""
     steps, whole = 70, case.feeds["wide"]
-    with case.serve() as server, server.connect() as reader:
-        reader.sendall(STATUS)
+    with case.serve() as server:
         posts = [office(f"k{it}", f"add-rider\t{1000 + it}") for it in range(20)]
-        clients = begin(server, [server.connect] * len(posts))
+        reader, *clients = begin(server, [server.connect] * (1 + len(posts)))
+        reader.sendall(STATUS)
         begun, found = time.monotonic(), bytearray()
         for step in range(steps):
             for client, asked in zip(clients, posts):
