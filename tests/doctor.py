@@ -22,7 +22,7 @@ from pathlib import Path
 
 from package import sections_of
 from shared import (
-    CITY, FEEDS, FOREIGN, HEADER, SOUND, STORE_FAILED, TOP, Program, Server, accepted, changed, loaded, put, ran,
+    CITY, FEEDS, FOREIGN, HEADER, SOUND, STORE_FAILED, TOP, Program, Server, accepted, changed, loaded, office, put, ran,
     removed, requests_of, rows_of, taken,
 )
 
@@ -337,6 +337,39 @@ def test_who_has_the_file_open(program):
     with open(file, "rb"):
         # A file that is only open, as an editor has it, keeps nobody away.
         is_alike(program, file, None)
+
+
+# What is done in a city's folder while the program serves city.db. It keeps what it has open.
+LOSSES = (
+    "rm city.db-wal", "rm city.db", "rm city.db city.db-wal", "mv city.db-wal old", "mv city.db old.db",
+    "rm city.db city.db-wal; touch city.db",
+)
+
+
+def test_what_only_a_process_still_has(program):
+    """FILE or its log is removed or renamed while it is served. Who follows the advice, of FILE and of the port, loses
+    no answered request; to end the process is proposed by neither."""
+    for number, loss in enumerate(LOSSES):
+        removed(program.folder, "city.db")
+        file, copy = city_file(program), Path(program.folder, f"copy{number}.db")
+        with Server(program, seconds=60) as server:
+            assert b" 200 " in server.ask(office("r1", "top-up\t17\t100"))
+            subprocess.run(["sh", "-c", loss], cwd=program.folder, check=True)
+            assert b" 200 " in server.ask(office("r2", "top-up\t17\t100"))
+            (found,), (at_port,) = looked_at(file), doctor.findings_of_port(server.port)
+            assert found.word == "removed" and f"process {server.child.pid} (" in found.text, (loss, found)
+            for it in found, at_port:
+                assert "Don't end it" in it.text and "End that one" not in it.text, (loss, it)
+            script = re.search("(kill -STOP .*?; bikeshare check COPY)[.]", found.text)[1]
+            assert script in at_port.text, at_port
+            script = script.replace("bikeshare", program.file).replace("COPY", str(copy))
+            assert subprocess.run(["sh", "-c", script], capture_output=True, check=True).stdout == b"sound\n", loss
+        removed(program.folder, "city.db")
+        for part in "", "-wal":
+            Path(f"{copy}{part}").rename(f"{file}{part}")
+        keys = rows_of("SELECT req_key FROM kept WHERE req_key LIKE 'r%' ORDER BY 1", program.folder, "city.db")
+        assert keys == [("r1",), ("r2",)], (loss, keys)
+        assert program.run("check", "city.db") == SOUND and not looked_at(file), loss
 
 
 def test_the_port(program):
