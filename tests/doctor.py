@@ -22,8 +22,8 @@ from pathlib import Path
 
 from package import sections_of
 from shared import (
-    CITY, FEEDS, FOREIGN, HEADER, SOUND, STORE_FAILED, TOP, Program, Server, accepted, changed, loaded, office, put, ran,
-    removed, requests_of, rows_of, taken,
+    CITY, FEEDS, FOREIGN, HEADER, SOUND, STORE_FAILED, TOP, Program, Server, accepted, changed, loaded, office, put,
+    ran, removed, requests_of, rows_of, taken,
 )
 
 SCRIPT = TOP / "deploy/bikeshare-doctor"
@@ -558,12 +558,17 @@ def set_at(feeds, path, value):
         feeds[last] = value
 
 
+def moment_in(seconds):
+    """The moment so many seconds from now."""
+    return time.strftime("%Y-%m-%dT%H:%M:%SZ", time.gmtime(time.time() + seconds))
+
+
 def planted():
     """Faults: where to set what in a healthy city's feeds, or to take it away; where it is found, and by which word."""
     station, status = ("station_information", "data", "stations", 0), ("station_status", "data", "stations", 0)
     kind, plan = ("vehicle_types", "data", "vehicle_types", 0), ("system_pricing_plans", "data", "plans", 0)
     segment, about, region = (*plan, "per_min_pricing", 0), ("system_information", "data"), ("gbfs", "data", "feeds", 5)
-    old, future = "2024-03-31T12:00:00Z", "2508-09-16T06:18:20Z"
+    old, future, soon = "2024-03-31T12:00:00Z", "2508-09-16T06:18:20Z", moment_in(50)
     return (
         (("station_status", "last_updated"), future, "station_status", "ahead of the clock"),
         ((*status, "last_reported"), future, "station_status", "ahead of the clock"),
@@ -592,6 +597,15 @@ def planted():
         ((*kind, "default_pricing_plan_id"), "gold", "vehicle_types", "missing"),
         ((*station, "region_id"), "south", "station_information", "missing"),
         ((*about, "languages"), ["en", "de"], "system_pricing_plans", "missing"),
+        (("system_regions", "last_updated"), old, "system_regions", "silent"),
+        (("station_status", "last_updated"), moment_in(-86_000), "station_status", "GBFS"),
+        ((*status, "last_reported"), soon, "station_status", "GBFS"),
+        ((*status, "num_docks_available"), None, "station_status", "GBFS"),
+        ((*status, "num_vehicles_available"), 7, "station_status", "GBFS"),
+        ((*status, "vehicle_types_available", 0, "count"), 7, "station_status", "GBFS"),
+        ((*station, "name", 0, "text"), " ", "station_information", "doubtful"),
+        ((*plan, "description", 0, "text"), "", "system_pricing_plans", "doubtful"),
+        ((*about, "opening_hours"), "always", "system_information, data.opening_hours", "doubtful"),
         (("system_regions", "data"), [], "system_regions, data", "GBFS"),
         (("system_regions",), "{", "system_regions", "not read"),
         ((*region, "url"), "HERE/nowhere.json", "system_regions", "not read"),
@@ -617,6 +631,11 @@ def test_feeds(program):
     found = found_in(feeds, ("station_information", "data", "stations"), twice)
     assert found == [("station_information", "GBFS"), ("station_status", "missing")], found
     assert found_in(feeds, ("gbfs",), None) == [("gbfs", "not read")]
+    at_sea = {**feeds["station_information"]["data"]["stations"][0], "lat": 0, "lon": 0.0}
+    found = found_in(feeds, ("station_information", "data", "stations", 0), at_sea)
+    assert found == [("station_information", "doubtful")], found
+    double = "HERE//gbfs/3.0/system_regions.json"
+    assert ("gbfs", "doubtful") in found_in(feeds, ("gbfs", "data", "feeds", 5, "url"), double)
     other = {"name": "system_alerts", "url": "HERE/gbfs/3.0/system_regions.json"}
     assert ("gbfs", "GBFS") in found_in(feeds, ("gbfs", "data", "feeds", 3), other)
 
@@ -638,7 +657,7 @@ def test_feeds_of_another_host(program):
         other.settimeout(0.2)
         address = f"http://127.0.0.1:{other.getsockname()[1]}/gbfs/3.0"
         data["gbfs"] = {"feeds": [{"name": name, "url": f"{address}/{name}.json"} for name in data]}
-        frame = {"last_updated": "2024-03-31T12:00:00Z", "ttl": 30, "version": "3.0"}
+        frame = {"last_updated": moment_in(0), "ttl": 30, "version": "3.0"}
         feeds = {name: {**frame, "data": it} for name, it in data.items()}
         with served(feeds) as here:
             assert told("feed", here, "--here") == (0, [])
