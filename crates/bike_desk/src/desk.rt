@@ -38,7 +38,11 @@ impl<S: Alter> Model for Desk<S> {
     ghost coded = { desk_code S.code };
 
     // An open transaction counts as a stop.
-    ghost view = { λ d. record { conn = d.conn; is_stopped = d.stopped || d.conn.in_transaction; remembered = record { newest_tells = knows_newest d.newest; figures = d.figures } } };
+    ghost view = { λ d. record {
+      conn = d.conn;
+      is_stopped = d.stopped || d.conn.in_transaction;
+      remembered = record { newest_tells = knows_newest d.newest; figures = d.figures };
+    } };
 }
 
 impl<S: Alter> Desk<S> {

@@ -93,7 +93,8 @@ fn has_no_stamps(stamps: &Stamps) -> bool
 
 /// No CHECK, REFERENCES or DEFAULT that is computed.
 fn is_bare(table: &Table) -> bool
-    ensures { IsTrue result ↔ ((table.now.checks ≡ []) × (table.now.references ≡ []) × (table.now.computed ≡ []) × (table.now.stamps ≡ record { places = []; terms = []; formats = [] })) }
+    ensures { IsTrue result ↔ ((table.now.checks ≡ []) × (table.now.references ≡ []) × (table.now.computed ≡ []) ×
+        (table.now.stamps ≡ record { places = []; terms = []; formats = [] })) }
 {
     has_no_terms(&table.checks)
         && table.references.is_empty()
