@@ -161,6 +161,46 @@ def test_the_newest_copies_are_kept(program):
     assert {it.name for it in kept.iterdir()} == {*others, *names, "city.failed"}
 
 
+def stands_in(folder, **scripts):
+    """Scripts in a folder that come before the programs of their names, and in place of the program one that finds each
+    file sound. Returns the environment in which they do."""
+    folder.mkdir()
+    for name, text in {"bikeshare": '[ "$1" != check ] || echo sound', **scripts}.items():
+        (folder / name).write_text(f"#!/bin/sh\n{text}\n")
+        (folder / name).chmod(0o755)
+    return {**os.environ, "BIKESHARE": str(folder / "bikeshare"), "PATH": f"{folder}:{os.environ['PATH']}"}
+
+
+def at_one_time(count, words, **how):
+    """Begins a script so often, and returns the status and the output of each."""
+    how = {"stdout": subprocess.PIPE, "stderr": subprocess.STDOUT, "text": True, **how}
+    begun = [subprocess.Popen(words, **how) for _ in range(count)]
+    said = [it.communicate(timeout=SECONDS)[0] for it in begun]
+    return [(it.returncode, line) for it, line in zip(begun, said)]
+
+
+def test_copies_of_one_second(program):
+    """Runs of deploy/keep-copies at one time, which all end in the same second, make a copy each; deploy/backup makes
+    one copy of a name and fails plainly for the others. The program isn't needed."""
+    here = Path(program.folder)
+    (here / "city.db").write_bytes(b"city" * 1000)
+    (here / "kept").mkdir()
+    # A copying that takes long enough for the others to come in its midst, and a clock that goes on at the fifth look.
+    cp, looks = shutil.which("cp"), here / "looks"
+    date = f"echo >>{looks}\nat=$(wc -l <{looks})\n[ $at -ge 5 ] || at=0\nprintf '20261127-0320%02d' $at"
+    env = stands_in(here / "scripts", cp=f'sleep 0.2\nexec {cp} "$@"', date=date)
+    found = at_one_time(3, [DEPLOY / "keep-copies", "city.db", "kept", "5"], cwd=here, env=env)
+    names = sorted(it.name for it in (here / "kept").iterdir())
+    assert sorted(found) == [(0, f"kept/{it}\n") for it in names] and len(names) == 3, (found, names)
+    assert names == [f"city-20261127-0320{it}.db" for it in ("00", "05", "06")], names
+    assert {it.read_bytes() for it in (here / "kept").iterdir()} == {b"city" * 1000}
+    found = at_one_time(3, [DEPLOY / "backup", "city.db", "copy.db"], cwd=here, env=env)
+    assert sorted(status for status, _ in found) == [0, 1, 1], found
+    for status, said in found:
+        assert said == "" if status == 0 else re.fullmatch("backup: .*copy.db.*\n", said), found
+    assert (here / "copy.db").read_bytes() == b"city" * 1000
+
+
 def test_a_first_city(program):
     """Each line of deploy/begin.txt is accepted, and is one that docs/OPERATING.md shows where it shows it."""
     text = (DEPLOY / "begin.txt").read_text(encoding="utf-8")
