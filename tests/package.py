@@ -11,6 +11,7 @@ import io
 import os
 import re
 import shlex
+import shutil
 import subprocess
 import tarfile
 from pathlib import Path
@@ -143,18 +144,52 @@ def has_good_paths(found):
 
 
 def has_good_copyright(text):
-    """Holds Debian's copyright file to LICENSE, and to the libraries of crates.txt: each is named, or its family is."""
+    """Holds Debian's copyright file to LICENSE, and each licence that it names to the text of one."""
     holder = re.search(r"^Copyright \(c\) (.+)$", (TOP / "LICENSE").read_text(), re.M)[1]
     licence = re.search(r"^Files: \*\nCopyright: (.+)\nLicense: Expat$", text, re.M)
     assert licence and licence[1] == holder == "2026 the bikeshare authors", (licence, holder)
     given = text.split("\nLicense: Expat\n Permission", 1)[1].split("\n\n", 1)[0].replace("\n .\n", "\n\n").split()
     assert given == (TOP / "LICENSE").read_text().split("Permission", 1)[1].split(), given
-    lines = [it.split() for it in (TOP / "crates.txt").read_text().splitlines() if not it.startswith("#")]
-    libraries = {it for line in lines for it in line[1:] if not it.startswith("bike_")}
-    named = set(re.findall(r"\w+", text.split("\nLicense: Expat\n", 2)[1]))
-    assert len(libraries) > 20 and {re.sub("^sqlite_.*", "sqlite", it) for it in libraries} <= named, libraries - named
     asked = re.findall(r"^License: (.+)$", text, re.M)
     assert {one for it in asked for one in it.split(" and ")} == {it for it in asked if " and " not in it}, asked
+
+
+def linked_libraries(kit):
+    """The libraries that the program links: those of crates.txt, and those on which these stand in the toolchain."""
+    lines = [it for it in (TOP / "crates.txt").read_text().splitlines() if it and it[0] != "#"]
+    on = {name: names.split() for name, names in (it.split(":", 1) for it in lines)}
+    found, left = set(), ["bikeshare"]
+    while left:
+        name = left.pop()
+        if name not in on:
+            text = (kit / f"rlibs/{name}.rlib/format").read_text() if kit else ""
+            on[name] = re.findall(r"^(?:carries|dep|needs|over) (\w+)", text, re.M)
+        left += [it for it in on[name] if it not in found]
+        found.update(on[name])
+    return {it for it in found if not it.startswith("bike_")}
+
+
+def test_licences(program):
+    """tools/debian/copyright names each library that the program links, with its licence or, where the toolchain has
+    none beside it, as one of the toolchain's own. The program isn't needed; without the toolchain the libraries are
+    those of crates.txt alone."""
+    text = (TOP / "tools/debian/copyright").read_text()
+    has_good_copyright(text)
+    told = text.split("each with its licence:\n", 1)[1].split("\n\n", 1)[0]
+    parts = [" ".join(it.split()).split(": ", 1) for it in re.split(r"^ \.\n", told, flags=re.M)[1:]]
+    named = {name: set(re.match("[^.;]*", it)[0].split(", ")) for name, it in parts}
+    with_licence = named["Expat"] | named["Apache-2.0"]
+    own = named["The toolchain's own, for which it names no licence"]
+    rt = shutil.which("rt")
+    kit = rt and Path(rt).resolve().parent.parent
+    libraries = linked_libraries(kit)
+    if not kit:
+        print("package.test_licences: no rt, so only the libraries of crates.txt were looked for", flush=True)
+        assert len(libraries) > 20 and libraries <= with_licence | own, libraries - with_licence - own
+        return
+    assert libraries == with_licence | own, libraries ^ (with_licence | own)
+    beside = {it for it in libraries if any((kit / "rattle" / it).glob("LICENSE*"))}
+    assert beside == with_licence and len(own) > 30, beside ^ with_licence
 
 
 def has_good_control(control, found):
