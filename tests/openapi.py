@@ -268,6 +268,9 @@ def test_the_gateways_answers(program):
         assert responses[name]["content"]["application/json"]["example"] == bodies[str(status)], name
     heads = {name: loaded(it["headers"]) for name, it in responses.items() if "headers" in it}
     assert "429 1;" in text and heads["TooMany"]["Retry-After"]["schema"]["enum"] == [1]
+    assert "503 5;" in text and heads["Unavailable"]["Retry-After"]["schema"]["enum"] == [5]
+    allowed = re.findall(r'"~\^405 \." "(.+)";', text)
+    assert heads["MethodNotAllowed"]["Allow"]["schema"]["enum"] == ["GET", "POST", *allowed] and allowed, allowed
     assert "401 Bearer;" in text and heads["Unauthorized"]["WWW-Authenticate"]["schema"]["enum"] == ["Bearer"]
     assert API["security"] == [{}, {"gateway": []}]
     assert API["components"]["securitySchemes"]["gateway"]["scheme"] == "bearer"
