@@ -1,15 +1,18 @@
 //! What a connection is about.
 
+ghost use Rattle.std.specs.Prelude.{◌≡◌, [], ◌∷◌, IsTrue, IfSome, IfOk, IfErr};
+ghost use Rattle.bike_connections.specs.Asking.{coming_of, ahead_as};
+ghost use Rattle.bike_connections.specs.Handed.{coming_from};
+
 use crate::answer::Answer;
 use crate::exchange::Exchange;
 use crate::gathering::Gathering;
 use crate::limits::{MOST_CALLS, PIECE};
 use crate::peer::Peer;
-use mio::Registry;
-use mio::net::TcpStream;
-use std::alloc::Global;
+use crate::socket::Socket;
 use std::io;
-use std::io::{ErrorKind, Read};
+use std::io::ErrorKind;
+use std::marker::Model;
 
 /// In how many pieces is read at most what a client still sends once it is answered.
 const MOST_PIECES: u32 = 64;
@@ -33,26 +36,34 @@ pub enum Step {
 
 /// What a connection is about.
 #[derive(Drop)]
-enum State {
+pub(crate) enum State {
     /// Its request comes.
     Gathering(Gathering),
     /// Its request is there.
     Ready(Gathering),
-    /// It failed or was given up before its request was there.
-    Lost,
     /// Its answer goes out. It may have been made before all of the request was read.
     Sending { answer: Answer, is_early: bool },
     /// It was answered before all of its request was read, and what comes still is read in so many pieces.
     Lingering { pieces: u32 },
 }
 
-/// A connection.
+/// A connection; seen as itself where it isn't answered yet, and else as nothing.
 #[derive(Drop)]
-pub(crate) struct Connection {
-    pub(crate) peer: Peer,
+pub(crate) struct Connection<S: Socket> {
+    pub(crate) peer: Peer<S>,
     state: State,
     /// Whether it goes on in the next turn without being told of.
     pub(crate) is_going: bool,
+}
+
+impl<S: Socket> Model for Connection<S> {
+    ghost use Rattle.std.specs.Prelude.{List};
+    ghost use Rattle.bike_connections.specs.Ahead.{Coming};
+    ghost use Rattle.bike_connections.specs.Asking.{ahead_as};
+
+    ghost Value = { List Coming };
+
+    ghost view = { λ c. ahead_as S.coming c.peer c.state };
 }
 
 /// Whether these bytes may ask for a feed: its path, which stands before the version, has this part. No other answer is long.
@@ -68,15 +79,14 @@ fn may_be_feed(bytes: &[u8]) -> bool {
 }
 
 /// Reads what a client still sends, and drops it.
-fn linger(stream: &TcpStream, pieces: &mut u32) -> Step {
+fn linger<S: Socket>(socket: &mut S, pieces: &mut u32) -> Step {
     let mut piece = [0; PIECE];
     for _ in 0..MOST_CALLS {
         if *pieces == 0 {
             return Step::Over;
         }
         *pieces = pieces.saturating_sub(1);
-        let mut input = stream;
-        match input.read(&mut piece) {
+        match socket.read(&mut piece) {
             Ok(0) => return Step::Over,
             Ok(_) => {}
             Err(error) if error.kind() == ErrorKind::WouldBlock => return Step::Waits,
@@ -86,9 +96,49 @@ fn linger(stream: &TcpStream, pieces: &mut u32) -> Step {
     Step::GoesOn
 }
 
-impl Connection {
+/// Reads what there is of a request.
+fn gather<S: Socket>(peer: Peer<S>, gathering: Gathering) -> (Peer<S>, State, Step)
+    ensures { IsTrue S.is_known → (result.2 ≡ Step.Over → ⊥)
+        → ahead_as S.coming result.0 result.1 ≡ coming_of S.coming peer gathering.bytes.items ∷ [] }
+{
+    let mut peer = peer;
+    let mut gathering = gathering;
+    let step = gathering.gather(&mut peer.socket);
+    if step == Step::Settled {
+        return (peer, State::Ready(gathering), step);
+    }
+    (peer, State::Gathering(gathering), step)
+}
+
+/// Reads or writes as far as a socket is ready.
+fn go_on<S: Socket>(peer: Peer<S>, state: State) -> (Peer<S>, State, Step)
+    ensures { IsTrue S.is_known → (result.2 ≡ Step.Over → ⊥)
+        → ahead_as S.coming result.0 result.1 ≡ ahead_as S.coming peer state }
+{
+    match state {
+        State::Gathering(gathering) => gather(peer, gathering),
+        State::Ready(gathering) => (peer, State::Ready(gathering), Step::Rests),
+        State::Sending {
+            mut answer,
+            is_early,
+        } => {
+            let mut peer = peer;
+            let step = answer.send(&mut peer.socket);
+            (peer, State::Sending { answer, is_early }, step)
+        }
+        State::Lingering { mut pieces } => {
+            let mut peer = peer;
+            let step = linger(&mut peer.socket, &mut pieces);
+            (peer, State::Lingering { pieces }, step)
+        }
+    }
+}
+
+impl<S: Socket> Connection<S> {
     /// A connection of whose request this came.
-    pub(crate) fn gathering(peer: Peer, gathering: Gathering) -> Connection {
+    pub(crate) fn gathering(peer: Peer<S>, gathering: Gathering) -> Connection<S>
+        ensures { result ≡ coming_of S.coming peer gathering.bytes.items ∷ [] }
+    {
         Connection {
             peer,
             state: State::Gathering(gathering),
@@ -97,7 +147,9 @@ impl Connection {
     }
 
     /// A connection that was answered. The answer may have been made before all of the request was read (`is_early`).
-    pub(crate) fn sending(peer: Peer, answer: Answer, is_early: bool) -> Connection {
+    pub(crate) fn sending(peer: Peer<S>, answer: Answer, is_early: bool) -> Connection<S>
+        ensures { result ≡ [] }
+    {
         Connection {
             peer,
             state: State::Sending { answer, is_early },
@@ -109,7 +161,7 @@ impl Connection {
     pub(crate) fn blocks(&self) -> usize {
         match &self.state {
             State::Sending { answer, .. } => answer.blocks(),
-            State::Gathering(_) | State::Ready(_) | State::Lost | State::Lingering { .. } => 0,
+            State::Gathering(_) | State::Ready(_) | State::Lingering { .. } => 0,
         }
     }
 
@@ -119,7 +171,9 @@ impl Connection {
     }
 
     /// Whether its client may still send of a request which was answered before all of it was read.
-    pub(crate) fn is_early(&self) -> bool {
+    pub(crate) fn is_early(&self) -> bool
+        ensures { IsTrue result → self.now ≡ [] }
+    {
         matches!(&self.state, State::Sending { is_early: true, .. })
     }
 
@@ -127,53 +181,36 @@ impl Connection {
     pub(crate) fn may_be_feed(&self) -> bool {
         match &self.state {
             State::Ready(gathering) => may_be_feed(gathering.bytes.as_slice()),
-            State::Gathering(_) | State::Lost | State::Sending { .. } | State::Lingering { .. } => {
-                false
-            }
+            State::Gathering(_) | State::Sending { .. } | State::Lingering { .. } => false,
         }
     }
 
-    /// Reads or writes as far as its socket is ready.
-    pub(crate) fn step(&mut self) -> Step {
-        match &mut self.state {
-            State::Gathering(gathering) => {
-                let mut input = &self.peer.stream;
-                gathering.gather(&mut input)
-            }
-            State::Sending { answer, .. } => {
-                let mut output = &self.peer.stream;
-                answer.send(&mut output)
-            },
-            State::Lingering { pieces } => linger(&self.peer.stream, pieces),
-            State::Ready(_) | State::Lost => Step::Rests,
-        }
-    }
-
-    /// No more of its request is wanted.
-    pub(crate) fn settled(self) -> Connection {
+    /// Reads or writes as far as its socket is ready; none where it is over.
+    pub(crate) fn step(self) -> Option<(Connection<S>, Step)>
+        ensures { IsTrue S.is_known → IfSome result (λ went. went.0 ≡ self) }
+    {
         let Connection {
             peer,
             state,
             is_going,
         } = self;
-        let state = match state {
-            State::Gathering(gathering) => State::Ready(gathering),
-            state => state,
-        };
-        Connection {
+        let (peer, state, step) = go_on(peer, state);
+        if step == Step::Over {
+            return None;
+        }
+        let connection = Connection {
             peer,
             state,
             is_going,
-        }
+        };
+        Some((connection, step))
     }
 
-    /// It failed, or was given up.
-    pub(crate) fn lose(&mut self) {
-        self.state = State::Lost;
-    }
-
-    /// The connection handed out, with its request or as one that is lost; as it was where its request is still to come.
-    pub(crate) fn into_exchange(self, alloc: Global) -> Result<Exchange, Connection> {
+    /// The connection handed out with its request; as it was where that is still to come.
+    pub(crate) fn into_exchange(self) -> Result<Exchange<S>, Connection<S>>
+        ensures handed { IfOk result (λ exchange. self ≡ coming_from S.coming exchange ∷ []) }
+        ensures kept { IfErr result (λ connection. connection ≡ self) }
+    {
         let Connection {
             peer,
             state,
@@ -181,7 +218,6 @@ impl Connection {
         } = self;
         match state {
             State::Ready(gathering) => Ok(Exchange::new(peer, gathering.bytes, gathering.is_ended)),
-            State::Lost => Ok(Exchange::new(peer, Vec::new(alloc), false)),
             state => Err(Connection {
                 peer,
                 state,
@@ -192,18 +228,22 @@ impl Connection {
 
     /// Tells the client that nothing more is sent, and reads what it still sends. A connection that is closed while bytes of it are
     /// unread is reset, and with that the client may lose its answer (RFC 9112, section 9.6).
-    pub(crate) fn linger(&mut self) {
-        self.peer.shut_writes();
+    pub(crate) fn linger(&mut self)
+        ensures { self.new ≡ [] }
+    {
+        self.peer.socket.shut_writes();
         self.state = State::Lingering {
             pieces: MOST_PIECES,
         };
     }
 
     /// Has the system tell when the socket is ready for what the connection waits for.
-    pub(crate) fn watch(&mut self, registry: &Registry, key: usize) -> io::Result<()> {
+    pub(crate) fn watch(&mut self, registry: &S::Registry, key: usize) -> io::Result<()>
+        ensures { self.new ≡ self.old }
+    {
         match &self.state {
             State::Sending { .. } => self.peer.watch_writes(registry, key),
-            State::Gathering(_) | State::Ready(_) | State::Lost | State::Lingering { .. } => {
+            State::Gathering(_) | State::Ready(_) | State::Lingering { .. } => {
                 self.peer.watch_reads(registry, key)
             }
         }

@@ -1,36 +1,32 @@
 //! Accepting, waiting, and whose turn it is.
 
+ghost use Rattle.std.specs.Prelude.{◌≡◌, ◌∷◌, ◌++◌, max, IsTrue, IfOk};
+ghost use Rattle.bike_connections.specs.Ahead.{Loses, Thins};
+ghost use Rattle.bike_connections.specs.Handed.{moment_of, unread, Gives, Hands};
+
 use crate::answer::Answer;
-use crate::clock::clock_moment;
 use crate::connection::Connection;
 use crate::exchange::Exchange;
 use crate::gathering::Gathering;
 use crate::limits::{PIECE, TURN};
-use crate::listener::{Accepted, LISTENER, Listener, read_alone};
+use crate::network::{Accepted, Network};
 use crate::open::Open;
 use crate::peer::Peer;
 use bike_fixed::Moment;
-use mio::net::TcpStream;
-use mio::{Events, Poll};
+use std::alloc::Global;
 use std::io;
 use std::io::ErrorKind;
-use std::net::SocketAddr;
-use std::time::{Duration, Instant};
+use std::marker::Model;
+use std::time::Duration;
 
-/// Whether a read that was to wait for a moment ended because nothing came in it.
-fn is_nothing_yet(error: &io::Error) -> bool {
-    matches!(error.kind(), ErrorKind::WouldBlock | ErrorKind::Interrupted)
-}
-
-/// The connections on a port of the loopback address.
+/// The connections of a network; seen as those that aren't answered yet, and the moment of the last that was handed out.
 #[derive(Drop)]
-pub struct Connections {
-    poll: Poll,
-    events: Events,
-    listener: Listener,
-    open: Open,
+pub struct Connections<N: Network> {
+    alloc: Global,
+    network: N,
+    connections: Open<N::Socket>,
     /// When this turn began.
-    now: Instant,
+    now: Duration,
     /// How many requests that are no feeds are still handed out in this turn.
     answers: usize,
     /// Whether a feed may be handed out in this turn.
@@ -39,170 +35,274 @@ pub struct Connections {
     latest: Option<Moment>,
 }
 
-impl Connections {
-    /// Listens on this port of 127.0.0.1, where 0 is a free one, for so many connections. Takes the memory for all that are open at
-    /// once.
-    pub fn bind(rt: &HostRuntime, port: u16, count: u64) -> io::Result<Connections> {
-        let poll = Poll::new(rt)?;
-        let events = Events::with_capacity(rt.alloc(), TURN)?;
-        let open = Open::new(rt.alloc())?;
-        let listener = Listener::bind(rt, poll.registry(), port, count)?;
-        let now = Instant::now(rt)?;
+impl<N: Network> Model for Connections<N> {
+    ghost use Rattle.std.specs.Prelude.{◌++◌};
+    ghost use Rattle.bike_connections.specs.Ahead.{Crowd, since_start};
+
+    ghost Value = { Crowd };
+
+    ghost view = { λ c. record { ahead = c.connections ++ N.ahead c.network; latest = since_start c.latest } };
+}
+
+impl<N: Network> Connections<N> {
+    /// None is open. Takes the memory for all that may be.
+    pub fn new(alloc: Global, network: N) -> io::Result<Connections<N>>
+        ensures { IfOk result (λ made. made ≡ record { ahead = N.ahead network; latest = 0 }) }
+    {
+        let connections = Open::new(alloc)?;
         Ok(Connections {
-            poll,
-            events,
-            listener,
-            open,
-            now,
+            alloc,
+            network,
+            connections,
+            now: Duration::ZERO,
             answers: 0,
             may_publish: false,
             latest: None,
         })
     }
 
-    /// The address that is listened on.
-    pub fn local_addr(&self) -> io::Result<SocketAddr> {
-        self.listener.local_addr()
+    /// Takes in a connection that was accepted at this moment, and of whose request this came.
+    fn take_in(&mut self, socket: N::Socket, moment: Moment, came: &[u8])
+        ensures ahead { IsTrue N.Socket.is_known
+            → Loses (record { moment = moment; input = came.now ++ N.Socket.coming socket } ∷ self.old.ahead) self.new.ahead }
+        ensures latest { self.new.latest ≡ self.old.latest }
+    {
+        let peer = Peer::new(socket, moment, self.now);
+        let mut gathering = Gathering::new(self.alloc);
+        let Ok(()) = gathering.add(came) else {
+            return;
+        };
+        let connection = Connection::gathering(peer, gathering);
+        self.connections
+            .insert(self.network.registry(), connection, self.now);
     }
 
-    /// Takes in a connection, accepted at the clock's moment; an error is a clock that fails.
-    fn take_in(&mut self, rt: &HostRuntime, stream: TcpStream, came: &[u8]) -> io::Result<()> {
-        let Some(moment) = clock_moment(rt) else {
-            return Err(ErrorKind::Other.into());
-        };
-        let Some(peer) = Peer::new(stream, moment, self.now) else {
-            return Err(ErrorKind::Other.into());
-        };
-        let mut gathering = Gathering::new(rt.alloc());
-        if gathering.add(came).is_ok() {
-            let connection = Connection::gathering(peer, gathering);
-            self.open.insert(self.poll.registry(), connection, self.now);
+    /// Accepts one that waits; whether there may be more.
+    fn accept_one(&mut self) -> io::Result<bool>
+        ensures { IsTrue N.Socket.is_known → Thins self.old self.new }
+    {
+        match self.network.accept()? {
+            Accepted::One(socket, moment) => {
+                self.take_in(socket, moment, &[]);
+                Ok(true)
+            }
+            Accepted::Lost => Ok(true),
+            Accepted::Nobody => Ok(false),
+        }
+    }
+
+    /// Accepts those that wait, as far as there is room.
+    fn accept_some(&mut self) -> io::Result<()>
+        ensures { IsTrue N.Socket.is_known → Thins self.old self.new }
+    {
+        for _turn in 0..TURN {
+            if !self.network.may_accept() || !self.connections.has_room() {
+                return Ok(());
+            }
+            if !self.accept_one()? {
+                return Ok(());
+            }
         }
         Ok(())
     }
 
-    /// Accepts those that wait, as far as there is room.
-    fn accept_some(&mut self, rt: &HostRuntime) -> io::Result<()> {
-        for _ in 0..TURN {
-            if !self.listener.may_accept() || !self.open.has_room() {
-                return Ok(());
-            }
-            match self.listener.accept()? {
-                Accepted::One(stream) => self.take_in(rt, stream, &[])?,
-                Accepted::Lost => {}
-                Accepted::Nobody => return Ok(()),
-            }
-        }
+    /// Reads the clock.
+    fn read_clock(&mut self) -> io::Result<()>
+        ensures { self.new ≡ self.old }
+    {
+        self.now = self.network.now()?;
         Ok(())
     }
 
     /// Where none is open: waits for one, and a moment for its request.
-    fn accept_alone(&mut self, rt: &HostRuntime) -> io::Result<()> {
-        let stream = self.listener.accept_alone()?;
-        self.now = Instant::now(rt)?;
+    fn accept_alone(&mut self) -> io::Result<()>
+        ensures { IsTrue N.Socket.is_known → Thins self.old self.new }
+    {
         let mut piece = [0; PIECE];
-        let count = match read_alone(&stream, &mut piece) {
-            Ok(count) => count,
-            Err(error) if is_nothing_yet(&error) => 0,
-            Err(_) => return Ok(()),
-        };
-        if stream.set_nonblocking(true).is_err() {
+        let accepted = self.network.accept_alone(&mut piece)?;
+        self.read_clock()?;
+        let Some((socket, moment, count)) = accepted else {
             return Ok(());
-        }
-        self.take_in(rt, TcpStream::from_std(stream), &piece[..count])
-    }
-
-    /// Waits until a socket is ready or somebody's time is over, and goes on with those whose socket is.
-    fn wait(&mut self) -> io::Result<()> {
-        let can_accept = self.listener.may_accept() && self.open.has_room();
-        let patience = if can_accept || self.open.has_work() {
-            Some(Duration::ZERO)
-        } else {
-            self.open.patience(self.now)
         };
-        self.poll.poll(&mut self.events, patience)?;
-        for event in self.events.iter() {
-            if event.token() == LISTENER {
-                self.listener.wake();
-            } else {
-                self.open
-                    .step(self.poll.registry(), event.token().0, self.now);
-            }
-        }
-        self.open.go_on(self.poll.registry(), self.now);
+        self.take_in(socket, moment, &piece[..count]);
         Ok(())
     }
 
-    /// One turn: everybody goes on as far as that is possible now.
-    fn turn(&mut self, rt: &HostRuntime) -> io::Result<()> {
+    /// Goes on with one whose socket is ready; whether there was one.
+    fn step_one(&mut self) -> bool
+        ensures { IsTrue N.Socket.is_known → Thins self.old self.new }
+    {
+        let Some(key) = self.network.next_ready() else {
+            return false;
+        };
+        self.connections
+            .step(self.network.registry(), key, self.now);
+        true
+    }
+
+    /// Goes on with those whose socket is ready.
+    fn step_ready(&mut self)
+        ensures { IsTrue N.Socket.is_known → Thins self.old self.new }
+    {
+        for _turn in 0..TURN {
+            if !self.step_one() {
+                return;
+            }
+        }
+    }
+
+    /// Goes on with those that were put off.
+    fn go_on(&mut self)
+        ensures { IsTrue N.Socket.is_known → Thins self.old self.new }
+    {
+        self.connections.go_on(self.network.registry(), self.now);
+    }
+
+    /// For how long is waited at most.
+    fn patience(&self) -> Option<Duration> {
+        let can_accept = self.network.may_accept() && self.connections.has_room();
+        if can_accept || self.connections.has_work() {
+            return Some(Duration::ZERO);
+        }
+        self.connections.patience(self.now)
+    }
+
+    /// Waits until a socket is ready or somebody's time is over.
+    fn wait(&mut self) -> io::Result<()>
+        ensures { self.new ≡ self.old }
+    {
+        let patience = self.patience();
+        self.network.wait(patience)
+    }
+
+    /// Goes on with those that can.
+    fn step_all(&mut self) -> io::Result<()>
+        ensures { IsTrue N.Socket.is_known → Thins self.old self.new }
+    {
+        self.wait()?;
+        self.step_ready();
+        self.go_on();
+        Ok(())
+    }
+
+    /// One turn where some are open: everybody goes on as far as that is possible now.
+    fn turn_of_many(&mut self) -> io::Result<()>
+        ensures { IsTrue N.Socket.is_known → Thins self.old self.new }
+    {
+        self.step_all()?;
+        self.read_clock()?;
+        self.accept_some()?;
+        self.connections.give_up(self.now);
+        Ok(())
+    }
+
+    /// One turn.
+    fn turn(&mut self) -> io::Result<()>
+        ensures { IsTrue N.Socket.is_known → Thins self.old self.new }
+    {
         self.answers = TURN;
         self.may_publish = true;
-        if self.open.is_empty() {
-            return self.accept_alone(rt);
+        if self.connections.is_empty() {
+            self.accept_alone()
+        } else {
+            self.turn_of_many()
         }
-        self.listener.stop_waiting()?;
-        self.wait()?;
-        self.now = Instant::now(rt)?;
-        self.accept_some(rt)?;
-        self.open.give_up(self.now);
-        Ok(())
     }
 
-    /// The next of those whose request is there in this turn.
-    fn next_in_turn(&mut self) -> Option<(Exchange, Answer)> {
-        if self.answers > 0 {
-            self.answers = self.answers.saturating_sub(1);
-            let next = self.open.next_ready();
-            if next.is_some() {
-                return next;
-            }
+    /// The next of those that ask for no feed, in this turn.
+    fn next_short(&mut self) -> Option<(Exchange<N::Socket>, Answer)>
+        ensures given { Gives N.Socket.coming self.old.ahead self.new.ahead result }
+        ensures latest { self.new.latest ≡ self.old.latest }
+    {
+        if self.answers == 0 {
+            return None;
         }
+        self.answers -= 1;
+        self.connections.next_ready()
+    }
+
+    /// The next of those that may ask for a feed, of which each turn has one.
+    fn next_long(&mut self) -> Option<(Exchange<N::Socket>, Answer)>
+        ensures given { Gives N.Socket.coming self.old.ahead self.new.ahead result }
+        ensures latest { self.new.latest ≡ self.old.latest }
+    {
         if !self.may_publish {
             return None;
         }
         self.may_publish = false;
-        self.open.next_feed()
+        self.connections.next_feed()
     }
 
-    /// The next connection whose request is there, in the order in which they were, but that one feed a turn comes behind the others;
-    /// and those that are lost. With it comes what takes its answer. None once all are over that were to be accepted. An error is a
-    /// listener, a wait or a clock that fails.
-    pub fn next(&mut self, rt: &HostRuntime) -> io::Result<Option<(Exchange, Answer)>> {
-        for _ in 0..u64::MAX {
-            if let Some((mut exchange, answer)) = self.next_in_turn() {
-                if let Some(latest) = self.latest {
-                    exchange.come_after(latest);
+    /// The next of those whose request is there in this turn.
+    fn next_in_turn(&mut self) -> Option<(Exchange<N::Socket>, Answer)>
+        ensures given { Gives N.Socket.coming self.old.ahead self.new.ahead result }
+        ensures latest { self.new.latest ≡ self.old.latest }
+    {
+        let next = self.next_short();
+        if next.is_some() {
+            return next;
+        }
+        self.next_long()
+    }
+
+    /// Has a connection that is handed out come no earlier than those before it.
+    fn come_last(&mut self, exchange: &mut Exchange<N::Socket>)
+        ensures moment { moment_of exchange.new ≡ max self.old.latest (moment_of exchange.old) }
+        ensures unread { unread N.Socket.coming exchange.new ≡ unread N.Socket.coming exchange.old }
+        ensures latest { self.new.latest ≡ moment_of exchange.new }
+        ensures ahead { self.new.ahead ≡ self.old.ahead }
+    {
+        if let Some(latest) = self.latest {
+            exchange.come_after(latest);
+        }
+        self.latest = Some(exchange.moment());
+    }
+
+    /// The next connection whose request is there, in the order in which they were, but that one feed a turn comes behind the others. With
+    /// it comes what takes its answer. None once all are over that were to be accepted. An error is a network that fails.
+    pub fn next(&mut self) -> io::Result<Option<(Exchange<N::Socket>, Answer)>>
+        ensures { IsTrue N.Socket.is_known → Hands N.Socket.coming self.old self.new result }
+    {
+        for _turn in 0..u64::MAX {
+            match self.next_in_turn() {
+                Some((mut exchange, answer)) => {
+                    self.come_last(&mut exchange);
+                    return Ok(Some((exchange, answer)));
                 }
-                self.latest = Some(exchange.moment());
-                return Ok(Some((exchange, answer)));
+                None => {}
             }
-            if self.listener.is_done() && self.open.is_empty() {
+            if self.network.is_done() && self.connections.is_empty() {
                 return Ok(None);
             }
-            self.turn(rt)?;
+            if let Err(error) = self.turn() {
+                return Err(error);
+            }
         }
-        Ok(None)
+        Err(ErrorKind::Other.into())
     }
 
     /// Takes a connection back with its answer, which goes out as its client takes it. It may have been made before all of the request
     /// was read (`is_early`): then what comes still is read for a moment.
-    pub fn finish(&mut self, exchange: Exchange, answer: Answer, is_early: bool) {
+    pub fn finish(&mut self, exchange: Exchange<N::Socket>, answer: Answer, is_early: bool)
+        ensures { IsTrue N.Socket.is_known → Thins self.old self.new }
+    {
         let connection = Connection::sending(exchange.peer, answer, is_early);
-        self.open.insert(self.poll.registry(), connection, self.now);
+        self.connections
+            .insert(self.network.registry(), connection, self.now);
     }
 
     /// Accepts and reads no more, and sends the answers under way for so long at most.
-    pub fn close(&mut self, rt: &HostRuntime, patience: Duration) -> io::Result<()> {
-        self.listener.close();
-        let now = Instant::now(rt)?;
-        self.open.close(now.checked_add(patience).unwrap_or(now));
-        for _ in 0..u64::MAX {
-            self.now = Instant::now(rt)?;
-            self.open.give_up(self.now);
-            if self.open.is_empty() {
+    pub fn close(&mut self, patience: Duration) -> io::Result<()> {
+        self.network.close();
+        let now = self.network.now()?;
+        self.connections.close(now.saturating_add(patience));
+        for _turn in 0..u64::MAX {
+            self.now = self.network.now()?;
+            self.connections.give_up(self.now);
+            if self.connections.is_empty() {
                 return Ok(());
             }
-            self.wait()?;
+            self.step_all()?;
         }
         Ok(())
     }

@@ -1,6 +1,6 @@
 //! The bytes of a request, as they come.
 
-ghost use Rattle.std.specs.Prelude.{◌≡◌, ◌++◌, true, Some, OnOk};
+ghost use Rattle.std.specs.Prelude.{◌≡◌, [], ◌++◌, true, Some, OnOk};
 ghost use Rattle.bike_incoming.specs.Received.{Grew};
 ghost use Rattle.bike_connections.specs.Settled.{IsSettled, IsThere};
 
@@ -25,7 +25,9 @@ pub struct Gathering {
 
 impl Gathering {
     /// Nothing came yet, and no memory is taken.
-    pub(crate) fn new(alloc: Global) -> Gathering {
+    pub(crate) fn new(alloc: Global) -> Gathering
+        ensures { result.bytes.items ≡ [] }
+    {
         Gathering {
             bytes: Vec::new(alloc),
             wanted: 1,

@@ -1,14 +1,19 @@
 //! The connections that are open.
 
+ghost use Rattle.std.specs.Prelude.{◌≡◌, [], ◌++◌, IsTrue, IfOk, IfSome, IfNone};
+ghost use Rattle.bike_connections.specs.Ahead.{Loses};
+ghost use Rattle.bike_connections.specs.Handed.{Gives};
+
 use crate::answer::{Answer, BLOCK};
 use crate::connection::{Connection, Step};
 use crate::exchange::Exchange;
 use crate::limits::MOST_OPEN;
-use mio::Registry;
+use crate::socket::Socket;
 use slab::Slab;
 use std::alloc::{AllocError, Global};
 use std::collections::VecDeque;
-use std::time::{Duration, Instant};
+use std::marker::Model;
+use std::time::Duration;
 
 /// How many blocks the answers under way have together at most: 32 MB.
 const MOST_BLOCKS: usize = 512;
@@ -20,12 +25,13 @@ const FEED_BLOCKS: usize = 256;
 /// read.
 const LINGER: u64 = 200;
 
-/// The connections that are open, by their keys. A key in a queue is a hint: the connection may have ended, and another have its key.
+/// The connections that are open, by their keys; seen as those that aren't answered yet. A key in a queue is a hint: the connection may
+/// have ended, and another have its key.
 #[derive(Drop)]
-pub(crate) struct Open {
+pub(crate) struct Open<S: Socket> {
     alloc: Global,
-    connections: Slab<Connection>,
-    /// Those whose request is there and asks for no feed, in the order in which it was, and those that are lost.
+    connections: Slab<Connection<S>>,
+    /// Those whose request is there and asks for no feed, in the order in which it was.
     ready: VecDeque<usize>,
     /// Those whose request is there and may ask for a feed.
     feeds: VecDeque<usize>,
@@ -34,20 +40,31 @@ pub(crate) struct Open {
     /// How many blocks the answers under way hold.
     held: usize,
     /// Before this moment none is given up.
-    soonest: Option<Instant>,
+    soonest: Option<Duration>,
+}
+
+impl<S: Socket> Model for Open<S> {
+    ghost use Rattle.std.specs.Prelude.{List};
+    ghost use Rattle.bike_connections.specs.Ahead.{Coming, ahead_in};
+
+    ghost Value = { List Coming };
+
+    ghost view = { λ o. ahead_in (λ ahead. ahead) o.connections.slots };
 }
 
 /// The sooner of two moments.
-fn sooner(soonest: Option<Instant>, end: Instant) -> Option<Instant> {
+fn sooner(soonest: Option<Duration>, end: Duration) -> Option<Duration> {
     match soonest {
         Some(other) if other < end => Some(other),
         _ => Some(end),
     }
 }
 
-impl Open {
+impl<S: Socket> Open<S> {
     /// None is open. Takes the memory for all that may be.
-    pub(crate) fn new(alloc: Global) -> Result<Open, AllocError> {
+    pub(crate) fn new(alloc: Global) -> Result<Open<S>, AllocError>
+        ensures { IfOk result (λ none. none ≡ []) }
+    {
         Ok(Open {
             alloc,
             connections: Slab::with_capacity(alloc, MOST_OPEN)?,
@@ -60,7 +77,9 @@ impl Open {
     }
 
     /// Whether none is open.
-    pub(crate) fn is_empty(&self) -> bool {
+    pub(crate) fn is_empty(&self) -> bool
+        ensures { IsTrue result → self.now ≡ [] }
+    {
         self.connections.is_empty()
     }
 
@@ -82,24 +101,23 @@ impl Open {
     }
 
     /// For how long there is nothing to do unless a socket gets ready; none where that is for ever.
-    pub(crate) fn patience(&self, now: Instant) -> Option<Duration> {
+    pub(crate) fn patience(&self, now: Duration) -> Option<Duration> {
         let soonest = self.soonest?;
-        Some(
-            soonest
-                .checked_duration_since(now)
-                .unwrap_or(Duration::ZERO),
-        )
+        Some(soonest.saturating_sub(now))
     }
 
     /// Puts a connection where it has its next turn; false where it is over, or has no room there.
     fn is_kept(
         &mut self,
-        registry: &Registry,
+        registry: &S::Registry,
         key: usize,
-        connection: &mut Connection,
+        connection: &mut Connection<S>,
         step: Step,
-        now: Instant,
-    ) -> bool {
+        now: Duration,
+    ) -> bool
+        ensures same { connection.new ≡ connection.old }
+        ensures kept { self.new ≡ self.old }
+    {
         match step {
             Step::Waits => connection.watch(registry, key).is_ok(),
             Step::Rests => true,
@@ -120,81 +138,102 @@ impl Open {
             Step::Sent => connection.is_early()
                 && {
                     connection.linger();
-                    if let Some(end) = now.checked_add(Duration::from_millis(LINGER)) {
-                        connection.peer.end_by(end);
-                    }
+                    connection
+                        .peer
+                        .end_by(now.saturating_add(Duration::from_millis(LINGER)));
                     connection.is_going = true;
                     self.going.push_back(key).is_ok()
                 },
-            Step::Over => !connection.is_answered()
-                && {
-                    connection.lose();
-                    self.ready.push_back(key).is_ok()
-                },
+            Step::Over => false,
         }
     }
 
     /// Goes on with a connection as far as its socket is ready, and keeps it where it isn't over.
-    pub(crate) fn insert(&mut self, registry: &Registry, mut connection: Connection, now: Instant) {
-        let key = self.connections.vacant_key();
-        let step = connection.step();
-        let mut connection = if step == Step::Settled {
-            connection.settled()
-        } else {
-            connection
-        };
-        if !self.is_kept(registry, key, &mut connection, step, now) {
+    pub(crate) fn insert(
+        &mut self,
+        registry: &S::Registry,
+        connection: Connection<S>,
+        now: Duration,
+    )
+        ensures { IsTrue S.is_known → Loses (connection ++ self.old) self.new }
+    {
+        let Some((mut connection, step)) = connection.step() else {
             return;
+        };
+        let key = self.connections.vacant_key();
+        if self.is_kept(registry, key, &mut connection, step, now) {
+            self.soonest = sooner(self.soonest, connection.peer.end());
+            self.put_back(connection);
         }
-        self.soonest = sooner(self.soonest, connection.peer.end());
+    }
+
+    /// Takes a connection out.
+    fn remove(&mut self, key: usize) -> Option<Connection<S>>
+        ensures taken { IfSome result (λ connection. Loses self.old (connection ++ self.new)) }
+        ensures none { IfNone result (self.new ≡ self.old) }
+    {
+        let connection = self.connections.try_remove(key)?;
+        self.held = self.held.saturating_sub(connection.blocks());
+        Some(connection)
+    }
+
+    /// Puts a connection back as it is.
+    fn put_back(&mut self, connection: Connection<S>)
+        ensures { Loses (connection ++ self.old) self.new }
+    {
         let blocks = connection.blocks();
         if self.connections.insert(connection).is_ok() {
             self.held = self.held.saturating_add(blocks);
         }
     }
 
-    /// Takes a connection out.
-    fn remove(&mut self, key: usize) -> Option<Connection> {
-        let connection = self.connections.try_remove(key)?;
-        self.held = self.held.saturating_sub(connection.blocks());
-        Some(connection)
-    }
-
     /// Goes on with a connection whose socket may be ready.
-    pub(crate) fn step(&mut self, registry: &Registry, key: usize, now: Instant) {
+    pub(crate) fn step(&mut self, registry: &S::Registry, key: usize, now: Duration)
+        ensures { IsTrue S.is_known → Loses self.old self.new }
+    {
         if let Some(connection) = self.remove(key) {
             self.insert(registry, connection, now);
         }
     }
 
-    /// Goes on with those that were put off.
-    pub(crate) fn go_on(&mut self, registry: &Registry, now: Instant) {
-        for _ in 0..self.going.len() {
-            let Some(key) = self.going.pop_front() else {
-                return;
-            };
-            if let Some(mut connection) = self.remove(key) {
-                connection.is_going = false;
-                self.insert(registry, connection, now);
-            }
+    /// Goes on with one of those that were put off.
+    fn go_on_with(&mut self, registry: &S::Registry, key: usize, now: Duration)
+        ensures { IsTrue S.is_known → Loses self.old self.new }
+    {
+        if let Some(mut connection) = self.remove(key) {
+            connection.is_going = false;
+            self.insert(registry, connection, now);
         }
     }
 
-    /// Puts a connection back as it is.
-    fn put_back(&mut self, connection: Connection) {
-        self.held = self.held.saturating_add(connection.blocks());
-        let _ = self.connections.insert(connection);
+    /// Goes on with those that were put off.
+    pub(crate) fn go_on(&mut self, registry: &S::Registry, now: Duration)
+        ensures { IsTrue S.is_known → Loses self.old self.new }
+    {
+        for _turn in 0..self.going.len() {
+            let Some(key) = self.going.pop_front() else {
+                return;
+            };
+            self.go_on_with(registry, key, now);
+        }
     }
 
     /// Hands a connection out, with room for so many blocks of an answer; none where its request isn't there, or asks for another kind
     /// of answer, or where memory is refused, which ends the connection.
-    fn hand_out(&mut self, key: usize, is_feed: bool, blocks: usize) -> Option<(Exchange, Answer)> {
+    fn hand_out(
+        &mut self,
+        key: usize,
+        is_feed: bool,
+        blocks: usize,
+    ) -> Option<(Exchange<S>, Answer)>
+        ensures { Gives S.coming self.old self.new result }
+    {
         let connection = self.remove(key)?;
         if connection.may_be_feed() != is_feed {
             self.put_back(connection);
             return None;
         }
-        match connection.into_exchange(self.alloc) {
+        match connection.into_exchange() {
             Ok(exchange) => match Answer::new(self.alloc, blocks.saturating_mul(BLOCK)) {
                 Ok(answer) => Some((exchange, answer)),
                 Err(AllocError) => None,
@@ -207,9 +246,13 @@ impl Open {
     }
 
     /// The next of those that ask for no feed; none where there is none.
-    pub(crate) fn next_ready(&mut self) -> Option<(Exchange, Answer)> {
-        for _ in 0..self.ready.len() {
-            let key = self.ready.pop_front()?;
+    pub(crate) fn next_ready(&mut self) -> Option<(Exchange<S>, Answer)>
+        ensures { Gives S.coming self.old self.new result }
+    {
+        for _turn in 0..self.ready.len() {
+            let Some(key) = self.ready.pop_front() else {
+                return None;
+            };
             let next = self.hand_out(key, false, 1);
             if next.is_some() {
                 return next;
@@ -219,13 +262,17 @@ impl Open {
     }
 
     /// The next of those that may ask for a feed, where there is room for the longest.
-    pub(crate) fn next_feed(&mut self) -> Option<(Exchange, Answer)> {
+    pub(crate) fn next_feed(&mut self) -> Option<(Exchange<S>, Answer)>
+        ensures { Gives S.coming self.old self.new result }
+    {
         if !self.has_feed_room() {
             return None;
         }
         let blocks = MOST_BLOCKS.saturating_sub(self.held);
-        for _ in 0..self.feeds.len() {
-            let key = self.feeds.pop_front()?;
+        for _turn in 0..self.feeds.len() {
+            let Some(key) = self.feeds.pop_front() else {
+                return None;
+            };
             let next = self.hand_out(key, true, blocks);
             if next.is_some() {
                 return next;
@@ -234,27 +281,23 @@ impl Open {
         None
     }
 
-    /// Gives a connection up whose time is over.
-    fn give_up_late(&mut self, key: usize, now: Instant) {
-        let Some(mut connection) = self.remove(key) else {
+    /// Ends a connection whose time is over.
+    fn give_up_late(&mut self, key: usize, now: Duration)
+        ensures { Loses self.old self.new }
+    {
+        let Some(connection) = self.remove(key) else {
             return;
         };
-        if connection.peer.end() <= now {
-            if connection.is_answered() {
-                return;
-            }
-            connection.lose();
-            if self.ready.push_back(key).is_err() {
-                return;
-            }
-        } else {
+        if connection.peer.end() > now {
             self.soonest = sooner(self.soonest, connection.peer.end());
+            self.put_back(connection);
         }
-        self.put_back(connection);
     }
 
-    /// Gives those up whose time is over.
-    pub(crate) fn give_up(&mut self, now: Instant) {
+    /// Ends those whose time is over.
+    pub(crate) fn give_up(&mut self, now: Duration)
+        ensures { Loses self.old self.new }
+    {
         let Some(soonest) = self.soonest else {
             return;
         };
@@ -268,7 +311,7 @@ impl Open {
     }
 
     /// Ends those that have no answer under way, and gives the others no longer than this.
-    pub(crate) fn close(&mut self, end: Instant) {
+    pub(crate) fn close(&mut self, end: Duration) {
         self.ready.clear();
         self.feeds.clear();
         self.connections.retain(|_, connection| {

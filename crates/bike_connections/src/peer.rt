@@ -1,12 +1,12 @@
-//! The socket of a connection.
+//! The client of a connection.
+
+ghost use Rattle.std.specs.Prelude.{◌≡◌};
 
 use crate::limits::PATIENCE;
+use crate::socket::{Socket, Wants};
 use bike_fixed::Moment;
-use mio::net::TcpStream;
-use mio::{Interest, Registry, Token};
 use std::io;
-use std::net::Shutdown;
-use std::time::{Duration, Instant};
+use std::time::Duration;
 
 /// What the system tells of a socket, by which key.
 #[derive(Clone, Copy, PartialEq, Eq)]
@@ -16,70 +16,76 @@ enum Watched {
     Writes(usize),
 }
 
-/// A socket, the moment at which its connection was accepted, and when it is given up.
+/// A client's socket, the moment at which its connection was accepted, and when it is given up, since this began.
 #[derive(Drop)]
-pub(crate) struct Peer {
-    pub(crate) stream: TcpStream,
+pub(crate) struct Peer<S> {
+    pub(crate) socket: S,
     pub(crate) moment: Moment,
-    end: Instant,
+    end: Duration,
     watched: Watched,
 }
 
-impl Peer {
-    /// A socket that was accepted at this moment; none where the clock's time is at its end.
-    pub(crate) fn new(stream: TcpStream, moment: Moment, now: Instant) -> Option<Peer> {
-        let end = now.checked_add(Duration::from_secs(PATIENCE))?;
-        Some(Peer {
-            stream,
+impl<S: Socket> Peer<S> {
+    /// A socket that was accepted at this moment, which is now.
+    pub(crate) fn new(socket: S, moment: Moment, now: Duration) -> Peer<S>
+        ensures socket { result.socket ≡ socket }
+        ensures moment { result.moment ≡ moment }
+    {
+        Peer {
+            socket,
             moment,
-            end,
+            end: now.saturating_add(Duration::from_secs(PATIENCE)),
             watched: Watched::Nothing,
-        })
+        }
     }
 
     /// When it is given up.
-    pub(crate) fn end(&self) -> Instant {
+    pub(crate) fn end(&self) -> Duration {
         self.end
     }
 
     /// Gives it up no later than at this moment.
-    pub(crate) fn end_by(&mut self, end: Instant) {
+    pub(crate) fn end_by(&mut self, end: Duration)
+        ensures { self.new ≡ record self.old { end = self.new.end } }
+    {
         if end < self.end {
             self.end = end;
         }
     }
 
-    /// Tells the client that nothing more is sent.
-    pub(crate) fn shut_writes(&self) {
-        let _ = self.stream.shutdown(Shutdown::Write);
-    }
-
     /// Has the system tell what is wanted from now on.
     fn watch(
         &mut self,
-        registry: &Registry,
+        registry: &S::Registry,
         key: usize,
         wanted: Watched,
-        interest: Interest,
-    ) -> io::Result<()> {
+        wants: Wants,
+    ) -> io::Result<()>
+        ensures kept { S.coming self.new.socket ≡ S.coming self.old.socket }
+        ensures moment { self.new.moment ≡ self.old.moment }
+    {
         let before = self.watched;
         if before == wanted {
             return Ok(());
         }
         self.watched = wanted;
-        if before == Watched::Nothing {
-            return registry.register(&mut self.stream, Token(key), interest);
-        }
-        registry.reregister(&mut self.stream, Token(key), interest)
+        self.socket
+            .watch(registry, key, wants, before == Watched::Nothing)
     }
 
     /// Has the system tell when it can be read.
-    pub(crate) fn watch_reads(&mut self, registry: &Registry, key: usize) -> io::Result<()> {
-        self.watch(registry, key, Watched::Reads(key), Interest::READABLE)
+    pub(crate) fn watch_reads(&mut self, registry: &S::Registry, key: usize) -> io::Result<()>
+        ensures kept { S.coming self.new.socket ≡ S.coming self.old.socket }
+        ensures moment { self.new.moment ≡ self.old.moment }
+    {
+        self.watch(registry, key, Watched::Reads(key), Wants::Reads)
     }
 
     /// Has the system tell when it can be written.
-    pub(crate) fn watch_writes(&mut self, registry: &Registry, key: usize) -> io::Result<()> {
-        self.watch(registry, key, Watched::Writes(key), Interest::WRITABLE)
+    pub(crate) fn watch_writes(&mut self, registry: &S::Registry, key: usize) -> io::Result<()>
+        ensures kept { S.coming self.new.socket ≡ S.coming self.old.socket }
+        ensures moment { self.new.moment ≡ self.old.moment }
+    {
+        self.watch(registry, key, Watched::Writes(key), Wants::Writes)
     }
 }

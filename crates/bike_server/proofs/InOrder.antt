@@ -1,96 +1,129 @@
--- Connections that are answered one after the other.
-use Rattle.std.proofs.Common.{◌≡◌, inl, inr, ℕ, ◌+◌, ◌<◌, ◌≤◌, true, false, List, [], ◌∷◌, ◌++◌, length, take, drop, refl, sym, subst, ap, ◌∙◌, append_assoc, append-nil, Option, Some, None, Result, Ok, Err, IfSome, IsSomeAnd, length-append, take_all, drop_of_length-le, arith}
-use Rattle.std.proofs.Math.Seq.{take-append_seam, drop-append_seam}
+-- Connections that are answered one after the other, in the order in which they are accepted.
+use Rattle.std.proofs.Common.{◌≡◌, inl, inr, ℕ, ◌+◌, ◌-◌, ◌<◌, max, Bool, IsTrue, true, false, List, [], ◌∷◌, ◌++◌, length, refl, sym, subst, ap, ◌∙◌, append_assoc, append-nil, Option, Some, None, Result, Ok, Err, IfSome, IsSomeAnd, MatchOption, length-append, arith}
 use Rattle.sqlite_trees.specs.declared.store.Store.{Ghosts}
 use Rattle.bike_operator.specs.Operator.{Operator}
 use Rattle.bike_http.specs.Desk.{DeskValue, IsAt}
 use Rattle.bike_http.specs.declared.exchange.Served.{Served}
 use Rattle.bike_http.specs.declared.exchange.ServeFault.{ServeFault}
+use Rattle.bike_connections.specs.Ahead.{Coming, Loses}
+use Rattle.bike_connections.proofs.Losing.{loses_none, loses_then, loses_front, loses_behind}
 use Rattle.bike_server.specs.declared.arrivals.AcceptFault.{AcceptFault}
 use Rattle.bike_server.specs.declared.arrivals.Arrival.{Arrival}
-use Rattle.bike_server.specs.Visits.{Coming, Leaving, Visits, IsOpen, let_go}
-use Rattle.bike_server.specs.Arrivals.{AcceptsFirst, Accepts}
-use Rattle.bike_server.specs.Answering.{IsAnswered, AreAnswered, Exchanges, ServesAll, ServesUntilStopped}
+use Rattle.bike_server.specs.Visits.{Leaving, Kept, Visits, IsOpen, LetsGo}
+use Rattle.bike_server.specs.Arrivals.{AcceptsOne, Accepts}
+use Rattle.bike_server.specs.Answering.{IsAnswered, AreAnswered, Exchanges, ExchangesOne, ServesSome, ServesAll, ServesFewer, ServesUntilStopped, Adds, served_at, latest_of}
 
--- one more
-AreAnswered-push : (s : Operator) (came : List Coming) (gone : List Leaving) (middle : Operator) (coming : Coming) (leaving : Leaving) (next : Operator)
-    → AreAnswered s came gone middle → IsAnswered middle coming leaving next → AreAnswered s (came ++ coming ∷ []) (gone ++ leaving ∷ []) next
-AreAnswered-push s [] [] middle coming leaving next them it = (next, subst (λ (o : Operator). IsAnswered o coming leaving next) them it, refl)
-AreAnswered-push s [] (x ∷ gone) middle coming leaving next them it = absurd them
-AreAnswered-push s (c ∷ came) [] middle coming leaving next them it = absurd them
-AreAnswered-push s (c ∷ came) (x ∷ gone) middle coming leaving next them it =
-    (them.0, them.1, AreAnswered-push them.0 came gone middle coming leaving next them.2 it)
+-- ---- one more
 
+-- the moment of the last where one comes behind the others
+latest_of-push : (latest : ℕ) (order : List Coming) (coming : Coming)
+    → latest_of latest (order ++ coming ∷ []) ≡ max (latest_of latest order) coming.moment
+latest_of-push latest [] coming = refl
+latest_of-push latest (c ∷ order) coming = latest_of-push (max latest c.moment) order coming
+
+-- one is answered behind the others
+AreAnswered-push : (s : Operator) (latest : ℕ) (order : List Coming) (gone : List Leaving) (middle : Operator) (coming : Coming) (leaving : Leaving)
+    (next : Operator) → AreAnswered s latest order gone middle → IsAnswered middle (served_at (latest_of latest order) coming) leaving next
+    → AreAnswered s latest (order ++ coming ∷ []) (gone ++ leaving ∷ []) next
+AreAnswered-push s latest [] [] middle coming leaving next them it =
+    (next, subst (λ (o : Operator). IsAnswered o (served_at latest coming) leaving next) them it, refl)
+AreAnswered-push s latest [] (x ∷ gone) middle coming leaving next them it = absurd them
+AreAnswered-push s latest (c ∷ order) [] middle coming leaving next them it = absurd them
+AreAnswered-push s latest (c ∷ order) (x ∷ gone) middle coming leaving next them it =
+    (them.0, them.1, AreAnswered-push them.0 (max latest c.moment) order gone middle coming leaving next them.2 it)
+
+-- of those that are kept there are none more, as many as before, or one more
+Adds-none : (kept : Option Kept) → Adds kept kept []
+Adds-none None = tt
+Adds-none (Some kept) = sym (append-nil kept.gone)
+
+Adds-same : (first old new : Option Kept) (gone : List Leaving) → Adds first old gone → IfSome old (λ kept. new ≡ Some kept) → Adds first new gone
+Adds-same None old new gone adds same = tt
+Adds-same (Some before) None new gone adds same = absurd adds
+Adds-same (Some before) (Some kept) new gone adds same =
+    subst (λ (o : Option Kept). IsSomeAnd o (λ after. after.gone ≡ before.gone ++ gone)) (sym same) adds
+
+Adds-push : (first old middle new : Option Kept) (gone : List Leaving) (leaving : Leaving) → Adds first old gone
+    → MatchOption old (middle ≡ None) (λ kept. middle ≡ Some (record { gone = kept.gone; pending = kept.pending + 1 }))
+    → IfSome middle (λ kept. new ≡ Some (record { gone = kept.gone ++ leaving ∷ []; pending = kept.pending - 1 }))
+    → Adds first new (gone ++ leaving ∷ [])
+Adds-push None old middle new gone leaving adds accepts goes = tt
+Adds-push (Some before) None middle new gone leaving adds accepts goes = absurd adds
+Adds-push (Some before) (Some kept) None new gone leaving adds accepts goes = absurd cc
+Adds-push (Some before) (Some kept) (Some between) new gone leaving adds accepts goes =
+    let same : between.gone ≡ kept.gone = cc in
+    let all : between.gone ++ leaving ∷ [] ≡ before.gone ++ (gone ++ leaving ∷ []) =
+    ap (λ (xs : List Leaving). xs ++ leaving ∷ []) (same ∙ adds) ∙ append_assoc before.gone gone (leaving ∷ []) in
+    subst (λ (o : Option Kept). IsSomeAnd o (λ after. after.gone ≡ before.gone ++ (gone ++ leaving ∷ []))) (sym goes) all
+
+-- ---- others
+
+-- behind those that were answered some of the others are lost
+ahead_still : (all order old new : List Coming) → Loses all (order ++ old) → Loses old new → Loses all (order ++ new)
+ahead_still all order old new before now = loses_then all (order ++ old) (order ++ new) before (loses_behind order old new now)
+
+-- .. or all of them
+loses_all : (xs : List Coming) → Loses xs []
+loses_all xs = subst (λ (ys : List Coming). Loses ys []) (append-nil xs) (loses_front xs [])
+
+-- what holds of a value that is there
 at_some : {X : Type 0} (o : Option X) (x : X) (P : X → Type 0) → o ≡ Some x → IfSome o P → P x
 at_some {X} o x P e it = let holds : IfSome (Some x) P = subst (λ (p : Option X). IfSome p P) e it in holds
 
--- what comes is the first ones and then the rest
-at_count : (came rest all : List Coming) (count : ℕ) → all ≡ came ++ rest → length came ≡ count → (take count all ≡ came) × (rest ≡ drop count all)
-at_count came rest all count e counted = (
-  ap (take count) e ∙ subst (λ (n : ℕ). take n (came ++ rest) ≡ came) counted (take-append_seam came rest),
-  sym (ap (drop count) e ∙ subst (λ (n : ℕ). drop n (came ++ rest) ≡ rest) counted (drop-append_seam came rest)),
-)
+there : {X : Type 0} (o : Option X) (P : X → Type 0) → IsSomeAnd o P → (x : X) × (o ≡ Some x) × P x
+there {X} None P it = absurd it
+there {X} (Some x) P it = (x, refl, it)
 
-at_end : (came rest all : List Coming) (count : ℕ) → all ≡ came ++ rest → rest ≡ [] → length came ≤ count → (take count all ≡ came) × (rest ≡ drop count all)
-at_end came rest all count e none within =
-    let whole : all ≡ came = e ∙ ap (λ (xs : List Coming). came ++ xs) none ∙ append-nil came in
-    (ap (take count) whole ∙ take_all count came within, none ∙ sym (ap (drop count) whole ∙ drop_of_length-le came within))
+-- ---- one connection
 
 -- an accepted connection is open
-pub opens : {R W : Type 0} (remaining : R → Option (List ℕ)) (contents : W → Option (List ℕ)) (now middle : Option Visits) (arrival : Arrival R W)
-    → Accepts remaining contents now middle (Ok (Some arrival)) → IsOpen middle
-opens {R} {W} remaining contents None middle arrival accepts = subst IsOpen (sym accepts) tt
-opens {R} {W} remaining contents (Some old) middle arrival accepts = subst IsOpen (sym accepts.now) (omega arith)
+opens_kept : (old new : Option Kept)
+    → MatchOption old (new ≡ None) (λ kept. new ≡ Some (record { gone = kept.gone; pending = kept.pending + 1 }))
+    → IfSome new (λ kept. 0 < kept.pending)
+opens_kept old None accepts = tt
+opens_kept None (Some kept) accepts = absurd cc
+opens_kept (Some before) (Some kept) accepts =
+    let more : kept.pending ≡ before.pending + 1 = cc in omega (arith, more)
+
+pub opens : {R W : Type 0} (may_fail : Bool) (remaining : R → Option (List ℕ)) (contents : W → Option (List ℕ)) (now middle : Option Visits) (arrival : Arrival R W)
+    → Accepts may_fail remaining contents now middle (Ok (Some arrival)) → IsOpen middle
+opens {R} {W} may_fail remaining contents None middle arrival accepts = subst IsOpen (sym accepts) tt
+opens {R} {W} may_fail remaining contents (Some old) middle arrival accepts =
+    subst IsOpen (sym accepts.now) (opens_kept old.kept accepts.after.kept accepts.kept)
 
 -- what becomes of a connection that is let go
 pub gone_as : (known new : Option Visits) (contents : Option (List ℕ)) (served : Result Served ServeFault) (Ends : Leaving → Type 0)
-    → IfSome known (λ visits. IfSome contents (λ sent. new ≡ Some (let_go visits (record { served = served; sent = sent }))))
+    → IfSome known (λ visits. IfSome contents (λ sent. IsSomeAnd new (λ after. LetsGo visits (record { served = served; sent = sent }) after)))
     → IsSomeAnd contents (λ sent. Ends (record { served = served; sent = sent }))
-    → IfSome known (λ visits. (leaving : Leaving) × (new ≡ Some (let_go visits leaving)) × Ends leaving)
+    → IfSome known (λ visits. (leaving : Leaving) × (after : Visits) × (new ≡ Some after) × LetsGo visits leaving after × Ends leaving)
 gone_as None new contents served Ends goes ends = tt
 gone_as (Some visits) new None served Ends goes ends = absurd ends
-gone_as (Some visits) new (Some sent) served Ends goes ends = (record { served = served; sent = sent }, goes, ends)
+gone_as (Some visits) None (Some sent) served Ends goes ends = absurd goes
+gone_as (Some visits) (Some after) (Some sent) served Ends goes ends = (record { served = served; sent = sent }, after, refl, goes, ends)
+
+-- ---- all of them
 
 module _ {S : Type 0} (g : Ghosts S) where
-  -- so many were answered, in order, and the desk is at the operator after them
+  -- So many were answered, in the order in which they were accepted, and the desk is at the operator after them.
   pub record SoFar (desk : DeskValue S) (s : Operator) (count : ℕ) (before : Visits) (now : Option Visits) : Type 0 where
-    pub came : List Coming
-    pub gone : List Leaving
-    pub next : Operator
+    pub order : List Coming
     pub after : Visits
     pub known : now ≡ Some after
-    pub ahead : before.ahead ≡ came ++ after.ahead
-    pub counted : length came ≡ count
-    pub answered : AreAnswered s came gone next
-    pub sent : after.gone ≡ before.gone ++ gone
-    pub at : IsAt g desk next
+    pub counted : length order ≡ count
+    pub latest : after.latest ≡ latest_of before.latest order
+    pub serves : ServesSome g desk s order before after
 
+  -- none was accepted yet
   pub none_yet : (desk : DeskValue S) (s : Operator) (known : Option Visits) → IsAt g desk s → IfSome known (λ before. SoFar desk s 0 before known)
   none_yet desk s None at = tt
   none_yet desk s (Some before) at = record {
-    came = [];
-    gone = [];
-    next = s;
+    order = [];
     after = before;
     known = refl;
-    ahead = refl;
     counted = refl;
-    answered = refl;
-    sent = sym (append-nil before.gone);
-    at = at;
+    latest = refl;
+    serves = record { gone = []; next = s; answered = refl; sent = Adds-none before.kept; ahead = loses_none before.ahead; at = at };
   }
-
-  serves_all : (desk : DeskValue S) (s : Operator) (count so_far : ℕ) (before : Visits) (now : Option Visits) (it : SoFar desk s so_far before now)
-      → (take count before.ahead ≡ it.came) × (it.after.ahead ≡ drop count before.ahead) → IsSomeAnd now (λ after. ServesAll g desk s count before after)
-  serves_all desk s count so_far before now it parts =
-      subst (λ (o : Option Visits). IsSomeAnd o (λ after. ServesAll g desk s count before after)) (sym it.known) (record {
-        gone = it.gone;
-        next = it.next;
-        answered = subst (λ (came : List Coming). AreAnswered s came it.gone it.next) (sym parts.0) it.answered;
-        sent = it.sent;
-        ahead = parts.1;
-        at = it.at;
-      })
 
   -- as many as were wanted
   pub enough : (desk : DeskValue S) (s : Operator) (count so_far : ℕ) (known now : Option Visits)
@@ -98,93 +131,132 @@ module _ {S : Type 0} (g : Ghosts S) where
       → IfSome known (λ before. IsSomeAnd now (λ after. ServesAll g desk s count before after))
   enough desk s count so_far None now it reached = tt
   enough desk s count so_far (Some before) now it reached =
-      serves_all desk s count so_far before now it (at_count it.came it.after.ahead before.ahead count it.ahead (it.counted ∙ reached))
+      subst (λ (o : Option Visits). IsSomeAnd o (λ after. ServesAll g desk s count before after)) (sym it.known)
+      (record { order = it.order; serves = it.serves; all = inl (it.counted ∙ reached) })
 
-  -- nothing more is ahead
-  pub no_more : {R W : Type 0} (remaining : R → Option (List ℕ)) (contents : W → Option (List ℕ))
-      (desk : DeskValue S) (s : Operator) (count so_far : ℕ) (known now later : Option Visits)
-      → IfSome known (λ before. SoFar desk s so_far before now) → so_far ≤ count → Accepts remaining contents now later (Ok None)
-      → IfSome known (λ before. IsSomeAnd later (λ after. ServesAll g desk s count before after))
-  no_more {R} {W} remaining contents desk s count so_far None now later it within none = tt
-  no_more {R} {W} remaining contents desk s count so_far (Some before) now later it within none =
-      let end : (it.after.ahead ≡ []) × (later ≡ Some it.after) = subst (λ (o : Option Visits). Accepts remaining contents o later (Ok None)) it.known none in
-      let moved : SoFar desk s so_far before later = record {
-        came = it.came;
-        gone = it.gone;
-        next = it.next;
-        after = it.after;
-        known = end.1;
-        ahead = it.ahead;
-        counted = it.counted;
-        answered = it.answered;
-        sent = it.sent;
-        at = it.at;
-      } in
-      serves_all desk s count so_far before later moved (at_end it.came it.after.ahead before.ahead count it.ahead end.0 (omega (arith, it.counted, within)))
+  -- some of the others are lost, and nobody is let go
+  still : (desk : DeskValue S) (s : Operator) (order : List Coming) (before old new : Visits) → ServesSome g desk s order before old
+      → Loses old.ahead new.ahead → IfSome old.kept (λ kept. new.kept ≡ Some kept) → ServesSome g desk s order before new
+  still desk s order before old new it loses keeps = record {
+    gone = it.gone;
+    next = it.next;
+    answered = it.answered;
+    sent = Adds-same before.kept old.kept new.kept it.gone it.sent keeps;
+    ahead = ahead_still before.ahead order old.ahead new.ahead it.ahead loses;
+    at = it.at;
+  }
 
-  -- accepting doesn't fail where it is known what comes
-  pub never_fails : {R W : Type 0} (remaining : R → Option (List ℕ)) (contents : W → Option (List ℕ))
-      (desk : DeskValue S) (s : Operator) (so_far : ℕ) (known now later : Option Visits) (fault : AcceptFault) (P : Visits → Type 0)
-      → IfSome known (λ before. SoFar desk s so_far before now) → Accepts remaining contents now later (Err fault) → IfSome known P
-  never_fails {R} {W} remaining contents desk s so_far None now later fault P it fails = tt
-  never_fails {R} {W} remaining contents desk s so_far (Some before) now later fault P it fails =
-      absurd (let none : ⊥ = subst (λ (o : Option Visits). Accepts remaining contents o later (Err fault)) it.known fails in none)
+  module _ {R W : Type 0} (may_fail : Bool) (remaining : R → Option (List ℕ)) (contents : W → Option (List ℕ)) (desk : DeskValue S) (s : Operator)
+      (count so_far : ℕ) (few : so_far < count) (now later : Option Visits) where
+    -- nothing more is ahead
+    pub no_more : (known : Option Visits) → IfSome known (λ before. SoFar desk s so_far before now) → Accepts may_fail remaining contents now later (Ok None)
+        → IfSome known (λ before. IsSomeAnd later (λ after. ServesAll g desk s count before after))
+    no_more None it none = tt
+    no_more (Some before) it none =
+        let end = there later (λ after. (after.ahead ≡ []) × (IfSome it.after.kept (λ kept. after.kept ≡ Some kept)))
+        (subst (λ (o : Option Visits). Accepts may_fail remaining contents o later (Ok None)) it.known none) in
+        let lost : Loses it.after.ahead end.0.ahead = subst (λ (xs : List Coming). Loses it.after.ahead xs) (sym end.2.0) (loses_all it.after.ahead) in
+        subst (λ (o : Option Visits). IsSomeAnd o (λ after. ServesAll g desk s count before after)) (sym end.1) (record {
+          order = it.order;
+          serves = still desk s it.order before it.after end.0 it.serves lost end.2.1;
+          all = inr (omega (arith, it.counted, few), end.2.0);
+        })
 
-  module _ {R W : Type 0} (remaining : R → Option (List ℕ)) (contents : W → Option (List ℕ)) (desk new : DeskValue S) (s : Operator)
+    -- accepting fails
+    pub fails : (fault : AcceptFault) (known : Option Visits) → IfSome known (λ before. SoFar desk s so_far before now)
+        → Accepts may_fail remaining contents now later (Err fault)
+        → IfSome known (λ before. IsSomeAnd later (λ after. IsTrue may_fail × ServesFewer g desk s count before after))
+    fails fault None it none = tt
+    fails fault (Some before) it none =
+        let told = subst (λ (o : Option Visits). Accepts may_fail remaining contents o later (Err fault)) it.known none in
+        let end = there later (λ after. Loses it.after.ahead after.ahead × (IfSome it.after.kept (λ kept. after.kept ≡ Some kept))) told.1 in
+        subst (λ (o : Option Visits). IsSomeAnd o (λ after. IsTrue may_fail × ServesFewer g desk s count before after)) (sym end.1) (
+          told.0,
+          record {
+            order = it.order;
+            serves = still desk s it.order before it.after end.0 it.serves end.2.0 end.2.1;
+            few = omega (arith, it.counted, few);
+          },
+        )
+
+  module _ {R W : Type 0} (may_fail : Bool) (remaining : R → Option (List ℕ)) (contents : W → Option (List ℕ)) (desk new : DeskValue S) (s : Operator)
       (so_far : ℕ) (now middle later : Option Visits) (arrival : Arrival R W)
       (serves : (s' : Operator) → IsAt g desk s' → (input : List ℕ) → remaining arrival.reader ≡ Some input → contents arrival.writer ≡ Some []
-      → IfSome middle (λ visits. (leaving : Leaving) × (later ≡ Some (let_go visits leaving))
-      × Exchanges g new s' (record { moment = arrival.moment; input = input }) leaving))
-      (accepts : Accepts remaining contents now middle (Ok (Some arrival))) where
+      → ExchangesOne g new s' (record { moment = arrival.moment; input = input }) middle later)
+      (accepts : Accepts may_fail remaining contents now middle (Ok (Some arrival))) where
     module _ (before : Visits) (it : SoFar desk s so_far before now) where
-      abbrev first : AcceptsFirst remaining contents it.after middle arrival
-      first = subst (λ (o : Option Visits). Accepts remaining contents o middle (Ok (Some arrival))) it.known accepts
+      -- the one that is accepted
+      abbrev one : AcceptsOne may_fail remaining contents it.after middle arrival
+      one = subst (λ (o : Option Visits). Accepts may_fail remaining contents o middle (Ok (Some arrival))) it.known accepts
 
+      -- it is served at the moment of the last before it, or at that of its acceptance
       abbrev coming : Coming
-      coming = record { moment = arrival.moment; input = first.input }
+      coming = served_at (latest_of before.latest it.order) one.coming
 
-      abbrev visits : Visits
-      visits = record { ahead = first.rest; pending = it.after.pending + 1; gone = it.after.gone }
+      moment : arrival.moment ≡ coming.moment
+      moment = one.moment ∙ ap (λ (n : ℕ). max n one.coming.moment) it.latest
 
-      served : (leaving : Leaving) × (later ≡ Some (let_go visits leaving)) × Exchanges g new it.next coming leaving
-      served =
-          at_some middle visits (λ v. (leaving : Leaving) × (later ≡ Some (let_go v leaving)) × Exchanges g new it.next coming leaving) first.now
-          (serves it.next it.at first.input first.reads first.writes)
+      -- how it is let go, and how its exchange ends
+      abbrev Went : Visits → Coming → Type 0
+      Went visits c = (leaving : Leaving) × (after : Visits) × (later ≡ Some after) × LetsGo visits leaving after × Exchanges g new it.serves.next c leaving
 
+      went : Went one.after coming
+      went =
+          subst (λ (n : ℕ). Went one.after (record { moment = n; input = one.coming.input })) moment
+          (at_some middle one.after (λ v. Went v (record { moment = arrival.moment; input = one.coming.input })) one.now
+          (serves it.serves.next it.serves.at one.coming.input one.reads one.writes))
+
+      -- the others are ahead still, or lost
+      behind : (left : List Coming) → Loses one.after.ahead left → Loses before.ahead (it.order ++ one.coming ∷ left)
+      behind left lost =
+          ahead_still before.ahead it.order it.after.ahead (one.coming ∷ left) it.serves.ahead
+          (loses_then it.after.ahead (one.coming ∷ one.after.ahead) (one.coming ∷ left) one.ahead (loses_behind (one.coming ∷ []) one.after.ahead left lost))
+
+      -- the desk goes on behind it
       goes_on : new.is_stopped ≡ false → SoFar new s (so_far + 1) before later
-      goes_on on = elim served.2 [
-        | inl went ↦ record {
-          came = it.came ++ coming ∷ [];
-          gone = it.gone ++ served.0 ∷ [];
-          next = went.0;
-          after = let_go visits served.0;
-          known = served.1;
-          ahead = it.ahead ∙ ap (λ (xs : List Coming). it.came ++ xs) first.first ∙ sym (append_assoc it.came (coming ∷ []) first.rest);
-          counted = omega (arith, length-append it.came (coming ∷ []), it.counted);
-          answered = AreAnswered-push s it.came it.gone it.next coming served.0 went.0 it.answered went.1;
-          sent = ap (λ (xs : List Leaving). xs ++ served.0 ∷ []) it.sent ∙ append_assoc before.gone it.gone (served.0 ∷ []);
-          at = went.2;
+      goes_on on = elim went.4 [
+        | inl answered ↦ record {
+          order = it.order ++ one.coming ∷ [];
+          after = went.1;
+          known = went.2;
+          counted = omega (arith, length-append it.order (one.coming ∷ []), it.counted);
+          latest = went.3.latest ∙ one.latest ∙ moment ∙ sym (latest_of-push before.latest it.order one.coming);
+          serves = record {
+            gone = it.serves.gone ++ went.0 ∷ [];
+            next = answered.0;
+            answered =
+                AreAnswered-push s before.latest it.order it.serves.gone it.serves.next one.coming went.0 answered.0 it.serves.answered answered.1;
+            sent =
+                Adds-push before.kept it.after.kept one.after.kept went.1.kept it.serves.gone went.0 it.serves.sent one.kept went.3.kept;
+            ahead =
+                subst (λ (xs : List Coming). Loses before.ahead xs) (sym (append_assoc it.order (one.coming ∷ []) went.1.ahead))
+                (behind went.1.ahead went.3.ahead);
+            at = answered.2;
+          };
         }
         | inr stops ↦ absurd (let e : true ≡ false = sym stops.stopped ∙ on in cc)
       ]
 
+      -- .. or is stopped
       stops_here : (count : ℕ) → so_far < count → new.is_stopped ≡ true → IsSomeAnd later (λ after. ServesUntilStopped g new s count before after)
-      stops_here count within off = elim served.2 [
-        | inl went ↦ absurd (let e : true ≡ false = sym off ∙ went.2.goes_on in cc)
-        | inr stops ↦ subst (λ (o : Option Visits). IsSomeAnd o (λ after. ServesUntilStopped g new s count before after)) (sym served.1) (record {
-          came = it.came;
-          last = coming;
-          ahead = it.ahead ∙ ap (λ (xs : List Coming). it.came ++ xs) first.first;
+      stops_here count within off = elim went.4 [
+        | inl answered ↦ absurd (let e : true ≡ false = sym off ∙ answered.2.goes_on in cc)
+        | inr stops ↦ subst (λ (o : Option Visits). IsSomeAnd o (λ after. ServesUntilStopped g new s count before after)) (sym went.2) (record {
+          came = it.order;
+          last = one.coming;
+          ahead = behind went.1.ahead went.3.ahead;
           within = omega (arith, it.counted, within);
-          gone = it.gone;
-          later = it.next;
-          answered = it.answered;
-          leaving = served.0;
+          gone = it.serves.gone;
+          later = it.serves.next;
+          answered = it.serves.answered;
+          leaving = went.0;
           stops = stops;
-          sent = ap (λ (xs : List Leaving). xs ++ served.0 ∷ []) it.sent;
+          sent =
+              Adds-push before.kept it.after.kept one.after.kept went.1.kept it.serves.gone went.0 it.serves.sent one.kept went.3.kept;
         })
       ]
 
+    -- the same of what may be known
     pub one_more : (known : Option Visits) → IfSome known (λ before. SoFar desk s so_far before now) → new.is_stopped ≡ false
         → IfSome known (λ before. SoFar new s (so_far + 1) before later)
     one_more None it on = tt

@@ -1,5 +1,5 @@
 -- What connections are answered, one after the other.
-use Rattle.std.specs.Prelude.{◌≡◌, ◌⊎◌, ℕ, ◌<◌, IsTrue, List, [], ◌∷◌, ◌++◌, length, take, drop, Option, Some, IfSome, IsSomeAnd, Result, Ok, Err}
+use Rattle.std.specs.Prelude.{◌≡◌, ◌⊎◌, Bool, ℕ, ◌<◌, max, IsTrue, List, [], ◌∷◌, ◌++◌, length, Option, Some, IfSome, IsSomeAnd, Result, Ok, Err}
 use Rattle.sqlite_trees.specs.declared.store.Store.{Ghosts}
 use Rattle.bike_operator.specs.Operator.{Operator}
 use Rattle.bike_schema.specs.Stands.{AllLeft}
@@ -11,8 +11,9 @@ use Rattle.bike_http.specs.declared.exchange.Served.TheVariants.{Empty, Status}
 use Rattle.bike_http.specs.declared.exchange.ServeFault.{ServeFault}
 use Rattle.bike_http.specs.declared.exchange.ServeFault.TheVariants.{Read, Write, Cut}
 use Rattle.bike_server.specs.declared.fault.ServerFault.{ServerFault}
-use Rattle.bike_server.specs.declared.fault.ServerFault.TheVariants.{StoreFailed}
-use Rattle.bike_server.specs.Visits.{Coming, Leaving, Visits, let_go}
+use Rattle.bike_server.specs.declared.fault.ServerFault.TheVariants.{StoreFailed, AcceptFailed}
+use Rattle.bike_connections.specs.Ahead.{Coming, Loses}
+use Rattle.bike_server.specs.Visits.{Leaving, Kept, Visits, LetsGo}
 
 -- ---- one connection
 
@@ -40,13 +41,26 @@ IsAnsweredBy s coming (Err Cut) sent next =
 abbrev pub IsAnswered : Operator → Coming → Leaving → Operator → Type 0
 IsAnswered s coming leaving next = IsAnsweredBy s coming leaving.served leaving.sent next
 
--- ONE AFTER THE OTHER, each once and in their order, each by the operator after those before it
-abbrev pub AreAnswered : Operator → List Coming → List Leaving → Operator → Type 0
-AreAnswered s [] [] next = next ≡ s
-AreAnswered s [] (leaving ∷ gone) next = ⊥
-AreAnswered s (coming ∷ came) [] next = ⊥
-AreAnswered s (coming ∷ came) (leaving ∷ gone) next =
-    (later : Operator) × IsAnswered s coming leaving later × AreAnswered later came gone next
+-- a connection at the moment at which it is served: that of its acceptance, or that of one served before it, if that is later
+abbrev pub served_at : ℕ → Coming → Coming
+served_at latest coming = record { moment = max latest coming.moment; input = coming.input }
+
+-- ONE AFTER THE OTHER, each once, each by the operator after those before it
+abbrev pub AreAnswered : Operator → ℕ → List Coming → List Leaving → Operator → Type 0
+AreAnswered s latest [] [] next = next ≡ s
+AreAnswered s latest [] (leaving ∷ gone) next = ⊥
+AreAnswered s latest (coming ∷ came) [] next = ⊥
+AreAnswered s latest (coming ∷ came) (leaving ∷ gone) next =
+    (later : Operator) × IsAnswered s (served_at latest coming) leaving later × AreAnswered later (max latest coming.moment) came gone next
+
+-- the moment of the last of them
+abbrev pub latest_of : ℕ → List Coming → ℕ
+latest_of latest [] = latest
+latest_of latest (coming ∷ came) = latest_of (max latest coming.moment) came
+
+-- these were let go behind those before
+abbrev pub Adds : Option Kept → Option Kept → List Leaving → Type 0
+Adds old new gone = IfSome old (λ before. IsSomeAnd new (λ after. after.gone ≡ before.gone ++ gone))
 
 -- how an exchange ends whose last bytes aren't taken: an answer is one that wasn't written whole
 abbrev pub without_end : Result Served ServeFault → Result Served ServeFault
@@ -82,35 +96,48 @@ module _ {S : Type 0} (g : Ghosts S) (desk : DeskValue S) where
 
   -- the same, of a connection that is let go
   abbrev pub ExchangesOne : Operator → Coming → Option Visits → Option Visits → Type 0
-  ExchangesOne s coming before after =
-      IfSome before (λ visits. (leaving : Leaving) × (after ≡ Some (let_go visits leaving)) × Exchanges s coming leaving)
+  ExchangesOne s coming before new =
+      IfSome before (λ visits. (leaving : Leaving) × (after : Visits) × (new ≡ Some after) × LetsGo visits leaving after × Exchanges s coming leaving)
 
   -- ---- all connections
 
-  -- So many were answered, or all where there are fewer: the first of those ahead.
-  pub record ServesAll (s : Operator) (count : ℕ) (before after : Visits) : Type 0 where
+  -- Some of those ahead were answered, in the order in which they were accepted; others are ahead still or lost.
+  pub record ServesSome (s : Operator) (order : List Coming) (before after : Visits) : Type 0 where
     pub gone : List Leaving
     pub next : Operator
-    pub answered : AreAnswered s (take count before.ahead) gone next
-    pub sent : after.gone ≡ before.gone ++ gone
-    pub ahead : after.ahead ≡ drop count before.ahead
+    pub answered : AreAnswered s before.latest order gone next
+    pub sent : Adds before.kept after.kept gone
+    pub ahead : Loses before.ahead (order ++ after.ahead)
     pub at : IsAt g desk next
+
+  -- So many were answered; or fewer, and none is ahead any more.
+  pub record ServesAll (s : Operator) (count : ℕ) (before after : Visits) : Type 0 where
+    pub order : List Coming
+    pub serves : ServesSome s order before after
+    pub all : (length order ≡ count) ⊎ ((length order < count) × (after.ahead ≡ []))
+
+  -- Fewer were answered when accepting failed.
+  pub record ServesFewer (s : Operator) (count : ℕ) (before after : Visits) : Type 0 where
+    pub order : List Coming
+    pub serves : ServesSome s order before after
+    pub few : length order < count
 
   -- The connections up to this one were answered, the desk stopped at it, and none was accepted after it.
   pub record ServesUntilStopped (s : Operator) (count : ℕ) (before after : Visits) : Type 0 where
     pub came : List Coming
     pub last : Coming
-    pub ahead : before.ahead ≡ came ++ last ∷ after.ahead
+    pub ahead : Loses before.ahead (came ++ last ∷ after.ahead)
     pub within : length came < count
     pub gone : List Leaving
     pub later : Operator
-    pub answered : AreAnswered s came gone later
+    pub answered : AreAnswered s before.latest came gone later
     pub leaving : Leaving
-    pub stops : StopsAt later last leaving
-    pub sent : after.gone ≡ before.gone ++ gone ++ leaving ∷ []
+    pub stops : StopsAt later (served_at (latest_of before.latest came) last) leaving
+    pub sent : Adds before.kept after.kept (gone ++ leaving ∷ [])
 
-  -- SERVING IN ORDER, by how it ended; nothing else ends it
-  abbrev pub ServesInOrder : Operator → ℕ → Visits → Visits → Result (Unit {0}) ServerFault → Type 0
-  ServesInOrder s count before after (Ok _) = ServesAll s count before after
-  ServesInOrder s count before after (Err StoreFailed) = ServesUntilStopped s count before after
-  ServesInOrder s count before after (Err _) = ⊥
+  -- SERVING, by how it ended, where accepting may fail or may not; nothing else ends it
+  abbrev pub ServesInOrder : Bool → Operator → ℕ → Visits → Visits → Result (Unit {0}) ServerFault → Type 0
+  ServesInOrder may_fail s count before after (Ok _) = ServesAll s count before after
+  ServesInOrder may_fail s count before after (Err StoreFailed) = ServesUntilStopped s count before after
+  ServesInOrder may_fail s count before after (Err AcceptFailed) = IsTrue may_fail × ServesFewer s count before after
+  ServesInOrder may_fail s count before after (Err _) = ⊥

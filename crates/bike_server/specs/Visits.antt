@@ -1,28 +1,31 @@
--- Connections of which everything is known.
-use Rattle.std.specs.Prelude.{ℕ, ◌-◌, ◌<◌, List, [], ◌∷◌, ◌++◌, Option, IfSome, Result}
+-- Connections of which it is known what comes.
+use Rattle.std.specs.Prelude.{◌≡◌, ℕ, ◌-◌, ◌<◌, List, [], ◌∷◌, ◌++◌, Option, Some, IfSome, Result}
 use Rattle.bike_http.specs.declared.exchange.Served.{Served}
 use Rattle.bike_http.specs.declared.exchange.ServeFault.{ServeFault}
-
--- a connection that comes: when it is accepted, and all that its client sends
-pub record Coming : Type 0 where
-  pub moment : ℕ
-  pub input : List ℕ
+use Rattle.bike_connections.specs.Ahead.{Coming, Loses}
 
 -- a connection that was let go: how its exchange ended, and all that it was sent
 pub record Leaving : Type 0 where
   pub served : Result Served ServeFault
   pub sent : List ℕ
 
--- Those that come still, in their order; how many were accepted and not let go; and those that were let go, in their order.
+-- Those that were let go, in their order, and how many were accepted and not let go.
+pub record Kept : Type 0 where
+  pub gone : List Leaving
+  pub pending : ℕ
+
+-- Those that come still; the moment of the last that was accepted; and those that were let go, where they are kept.
 pub record Visits : Type 0 where
   pub ahead : List Coming
-  pub pending : ℕ
-  pub gone : List Leaving
+  pub latest : ℕ
+  pub kept : Option Kept
 
--- one was accepted that wasn't let go; where nothing is known, nothing is asked
+-- one was accepted that wasn't let go; where nothing is kept, nothing is asked
 abbrev pub IsOpen : Option Visits → Type 0
-IsOpen known = IfSome known (λ visits. 0 < visits.pending)
+IsOpen known = IfSome known (λ visits. IfSome visits.kept (λ kept. 0 < kept.pending))
 
--- one of those is let go
-abbrev pub let_go : Visits → Leaving → Visits
-let_go visits leaving = record { ahead = visits.ahead; pending = visits.pending - 1; gone = visits.gone ++ leaving ∷ [] }
+-- One of those is let go; some that were ahead may be lost meanwhile.
+pub record LetsGo (old : Visits) (leaving : Leaving) (new : Visits) : Type 0 where
+  pub ahead : Loses old.ahead new.ahead
+  pub latest : new.latest ≡ old.latest
+  pub kept : IfSome old.kept (λ kept. new.kept ≡ Some (record { gone = kept.gone ++ leaving ∷ []; pending = kept.pending - 1 }))

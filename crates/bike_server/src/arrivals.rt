@@ -1,7 +1,7 @@
 //! Where connections come from and where they go.
 
-ghost use Rattle.std.specs.Prelude.{◌≡◌, IfSome, Some};
-ghost use Rattle.bike_server.specs.Visits.{IsOpen, let_go};
+ghost use Rattle.std.specs.Prelude.{IfSome, IsSomeAnd};
+ghost use Rattle.bike_server.specs.Visits.{IsOpen, LetsGo};
 ghost use Rattle.bike_server.specs.Arrivals.{Accepts};
 
 use bike_fixed::Moment;
@@ -24,7 +24,7 @@ pub struct AcceptFault;
 
 /// Where connections come from, one after the other, and where they go once they are answered.
 pub trait Arrivals {
-    ghost use Rattle.std.specs.Prelude.{Option};
+    ghost use Rattle.std.specs.Prelude.{Bool, Option};
     ghost use Rattle.bike_server.specs.Visits.{Visits};
 
     /// What a client sends.
@@ -33,12 +33,15 @@ pub trait Arrivals {
     /// What a client is sent.
     type Writer: Write + Drop;
 
-    // The connections ahead and those that were let go, where they are known. Of sockets nothing is.
+    // Whether accepting may fail though it is known what comes.
+    ghost may_fail: { Bool };
+
+    // The connections ahead and those that were let go, where they are known.
     ghost known: { Self → Option Visits };
 
-    /// The next connection; none where there are no more. Fails only where what comes isn't known.
+    /// The next connection; none where there are no more. Where it fails, none was accepted, and those that come still may be fewer.
     fn accept(&mut self) -> Result<Option<Arrival<Self::Reader, Self::Writer>>, AcceptFault>
-        ensures { Accepts Self.Reader.remaining Self.Writer.contents (known self.old) (known self.new) result };
+        ensures { Accepts may_fail Self.Reader.remaining Self.Writer.contents (known self.old) (known self.new) result };
 
     /// Lets a connection go that was accepted, by its two ends, and is told how its exchange ended.
     fn finish(
@@ -49,5 +52,5 @@ pub trait Arrivals {
     )
         requires { IsOpen (known self.old) }
         ensures { IfSome (known self.old) (λ visits. IfSome (Self.Writer.contents writer)
-            (λ sent. known self.new ≡ Some (let_go visits (record { served = served; sent = sent })))) };
+            (λ sent. IsSomeAnd (known self.new) (λ after. LetsGo visits (record { served = served; sent = sent }) after))) };
 }

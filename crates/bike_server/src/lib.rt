@@ -1,8 +1,8 @@
 //! HTTP over sockets: a database is taken into service, and each connection on a port of the loopback address has one request answered,
 //! in the order in which the requests are there.
 //!
-//! Serving itself knows no socket: it is generic over where connections come from, so that over memory its contract says what each
-//! of them is sent.
+//! Serving itself knows no socket: it is generic over where connections come from, so that its contract says what each of them is sent
+//! where it is known what comes.
 #![tactic(auto)]
 
 mod arrivals;
@@ -13,7 +13,7 @@ mod server;
 mod sockets;
 
 pub use arrivals::{AcceptFault, Arrival, Arrivals};
-pub use bike_connections::clock_moment;
+pub use bike_networks::clock_moment;
 pub use fault::ServerFault;
 pub use file::listen_on_file;
 pub use memory::{Parting, Played, Visit};

@@ -1,7 +1,7 @@
 //! Connections in memory: for tests, and for what the contract of serving says where everything is known.
 
-ghost use Rattle.std.specs.Prelude.{◌≡◌, ◌<◌, [], map, IfOk, Some};
-ghost use Rattle.bike_server.specs.Played.{coming_of, leaving_of};
+ghost use Rattle.std.specs.Prelude.{◌≡◌, [], map, max, IfOk, IsSomeAnd, Some};
+ghost use Rattle.bike_server.specs.Played.{coming_of, leaving_of, latest_in};
 
 use crate::arrivals::{AcceptFault, Arrival, Arrivals};
 use bike_fixed::Moment;
@@ -30,52 +30,70 @@ pub struct Played<'a> {
     alloc: Global,
     visits: &'a [Visit<'a>],
     next: usize,
+    /// The moment of the last that was accepted.
+    latest: Option<Moment>,
     gone: Vec<Parting>,
 }
 
 impl<'a> Model for Played<'a> {
-    ghost use Rattle.std.specs.Prelude.{◌≤◌, ◌-◌, length, vec_len, vec_capacity, map, drop};
+    ghost use Rattle.std.specs.Prelude.{◌≤◌, ◌-◌, length, vec_len, vec_capacity, map, drop, Some};
     ghost use Rattle.bike_server.specs.Visits.{Visits};
-    ghost use Rattle.bike_server.specs.Played.{coming_of, leaving_of};
+    ghost use Rattle.bike_server.specs.Played.{coming_of, leaving_of, latest_in};
 
     ghost Value = { Visits };
 
     ghost view = { λ p. record {
       ahead = map coming_of (drop p.next p.visits.now);
-      pending = p.next - vec_len p.gone;
-      gone = map leaving_of p.gone.items;
+      latest = latest_in p.latest;
+      kept = Some (record { gone = map leaving_of p.gone.items; pending = p.next - vec_len p.gone });
     } };
 
     // There is room for each.
     ghost invariant = { λ p. (vec_len p.gone ≤ p.next) × (p.next ≤ length p.visits.now) × (length p.visits.now ≤ vec_capacity p.gone) };
 }
 
+/// The moment of a connection that is accepted behind others: its own, or that of the last of them, if that is later.
+fn moment_behind(latest: Option<Moment>, moment: Moment) -> Moment
+    ensures { result ≡ max (latest_in latest) moment }
+{
+    match latest {
+        Some(latest) => latest.later(&moment),
+        None => moment,
+    }
+}
+
 impl<'a> Played<'a> {
     /// None was accepted yet. Takes the memory for all that will be let go.
     pub fn new(alloc: Global, visits: &'a [Visit<'a>]) -> Result<Played<'a>, AllocError>
-        ensures { IfOk result (λ played. played ≡ record { ahead = map coming_of visits.now; pending = 0; gone = [] }) }
+        ensures { IfOk result (λ played. played
+            ≡ record { ahead = map coming_of visits.now; latest = 0; kept = Some (record { gone = []; pending = 0 }) }) }
     {
         let gone = Vec::with_capacity(alloc, visits.len())?;
         Ok(Played {
             alloc,
             visits,
             next: 0,
+            latest: None,
             gone,
         })
     }
 
     /// Those that were let go, in their order.
     pub fn partings(&self) -> &[Parting]
-        ensures { map leaving_of result.now ≡ self.now.gone }
+        ensures { IsSomeAnd self.now.kept (λ kept. map leaving_of result.now ≡ kept.gone) }
     {
         self.gone.as_slice()
     }
 }
 
 impl<'a> Arrivals for Played<'a> {
+    ghost use Rattle.std.specs.Prelude.{false};
+
     type Reader = &'a [u8];
 
     type Writer = Vec<u8>;
+
+    ghost may_fail = { false };
 
     ghost known = { λ played. Some played };
 
@@ -84,9 +102,11 @@ impl<'a> Arrivals for Played<'a> {
             return Ok(None);
         }
         let visit = &self.visits[self.next];
+        let moment = moment_behind(self.latest, visit.moment);
         self.next += 1;
+        self.latest = Some(moment);
         Ok(Some(Arrival {
-            moment: visit.moment,
+            moment,
             reader: visit.input,
             writer: Vec::new(self.alloc),
         }))

@@ -16,16 +16,18 @@ use crate::arrivals::{AcceptFault, Arrival, Arrivals};
 use crate::fault::ServerFault;
 use crate::sockets::Sockets;
 use bike_adoption::adopt;
-use bike_connections::{Connections, has_descriptors};
+use bike_connections::Connections;
 use bike_console::Fault;
 use bike_fixed::Moment;
 use bike_heads::Routes;
 use bike_http::{Desk, ServeFault, Served, serve_one};
 use bike_json::TokenBuffer;
+use bike_networks::{Loopback, has_descriptors};
 use bike_stream::write_whole;
 use sqlite::{Alter, Connection};
 use std::alloc::Global;
 use std::io::{ErrorKind, Read, Write};
+use std::net::SocketAddr;
 
 /// How an exchange ended whose last bytes weren't taken.
 fn cut_short(served: Result<Served, ServeFault>) -> Result<Served, ServeFault>
@@ -98,8 +100,9 @@ fn serve_arrival<S: Alter, A: Arrivals>(
 ///
 /// Whatever clients send and whatever becomes of the connections, a desk at an operator is at it after some list of good requests; or it
 /// is stopped, and all that a crash may leave stands for the operator after such a list or after one request more. Where it is known
-/// what comes (`Played`), each connection is answered once, in their order, as the operator after those before it answers; what wasn't
-/// sent whole is told to `finish` as a failure.
+/// what comes, each connection that is accepted is answered once, in the order in which they are accepted, as the operator after those
+/// before it answers; the others are ahead still, or were lost with nothing asked. What wasn't sent whole is told to `finish` as a
+/// failure.
 pub fn serve_count<S: Alter, A: Arrivals>(
     alloc: Global,
     desk: &mut Desk<S>,
@@ -113,7 +116,7 @@ pub fn serve_count<S: Alter, A: Arrivals>(
     ensures goes_on { desk.old.is_stopped ≡ false → IsTrue desk.new.is_stopped → result ≡ Err ServerFault.StoreFailed }
     ensures serves { OfOperator S.Store desk.old desk.new (λ s.
         IfSome (A.known arrivals.old) (λ before. IsSomeAnd (A.known arrivals.new)
-        (λ after. ServesInOrder S.Store desk.new s count before after result))) }
+        (λ after. ServesInOrder S.Store desk.new A.may_fail s count before after result))) }
     ensures faults { IfErr result (λ fault. (fault ≡ ServerFault.StoreFailed) ⊎ (fault ≡ ServerFault.AcceptFailed)) }
 {
     for _turn in 0..count {
@@ -129,33 +132,48 @@ pub fn serve_count<S: Alter, A: Arrivals>(
     Ok(())
 }
 
-/// So many connections on this port of 127.0.0.1; `BindFailed` where it can't be listened on, and `AcceptFailed` where the process may
-/// not have the descriptors that they take.
-fn bind(rt: &HostRuntime, port: u16, count: u64) -> Result<Connections, ServerFault> {
+/// Listens for so many connections on this port of 127.0.0.1; `BindFailed` where it can't be listened on, and `AcceptFailed` where the
+/// process may not have the descriptors that they take.
+fn bind<'a>(rt: &'a HostRuntime, port: u16, count: u64) -> Result<Loopback<'a>, ServerFault> {
     if !has_descriptors() {
         return Err(ServerFault::AcceptFailed);
     }
-    match Connections::bind(rt, port, count) {
-        Ok(connections) => Ok(connections),
+    match Loopback::bind(rt, port, count) {
+        Ok(network) => Ok(network),
         Err(error) if error.kind() == ErrorKind::OutOfMemory => Err(ServerFault::OutOfMemory),
         Err(_) => Err(ServerFault::BindFailed),
     }
 }
 
-/// Tells the port; `BindFailed` where there is none, and `WriteFailed` where the output fails.
-fn tell_port<W: Write>(
+/// Tells the address that is listened on; `WriteFailed` where the output fails.
+fn tell_address<W: Write>(
     rt: &HostRuntime,
-    connections: &Connections,
+    address: SocketAddr,
     writer: &mut W,
 ) -> Result<(), ServerFault> {
-    let Ok(bound) = connections.local_addr() else {
-        return Err(ServerFault::BindFailed);
-    };
-    let line = format!(in rt.alloc(); "listening {bound}\n")?;
+    let line = format!(in rt.alloc(); "listening {address}\n")?;
     match write_whole(writer, line.as_bytes()) {
         Ok(()) => Ok(()),
         Err(_) => Err(ServerFault::WriteFailed),
     }
+}
+
+/// Listens for so many connections on this port of 127.0.0.1, and tells it.
+fn begin<'a, W: Write>(
+    rt: &'a HostRuntime,
+    port: u16,
+    count: u64,
+    writer: &mut W,
+) -> Result<Connections<Loopback<'a>>, ServerFault> {
+    let network = bind(rt, port, count)?;
+    let Ok(address) = network.local_addr() else {
+        return Err(ServerFault::BindFailed);
+    };
+    let Ok(connections) = Connections::new(rt.alloc(), network) else {
+        return Err(ServerFault::OutOfMemory);
+    };
+    tell_address(rt, address, writer)?;
+    Ok(connections)
 }
 
 /// Listens on this port of 127.0.0.1 and tells it, and serves so many connections, or without end; then it sends the answers under way.
@@ -174,9 +192,8 @@ fn listen_at<S: Alter, W: Write>(
         Some(count) => u64::from(count),
         None => u64::MAX,
     };
-    let connections = bind(rt, port, count)?;
-    tell_port(rt, &connections, writer)?;
-    let mut sockets = Sockets::new(rt, connections);
+    let connections = begin(rt, port, count, writer)?;
+    let mut sockets = Sockets::new(connections);
     let served = serve_count(rt.alloc(), desk, routes, &mut sockets, count);
     sockets.close(served.is_ok());
     served

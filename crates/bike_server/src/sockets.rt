@@ -1,7 +1,7 @@
 //! Connections over sockets.
 
 use crate::arrivals::{AcceptFault, Arrival, Arrivals};
-use bike_connections::{Answer, Connections, Exchange};
+use bike_connections::{Answer, Connections, Exchange, Network};
 use bike_http::{ServeFault, Served};
 use std::time::Duration;
 
@@ -16,17 +16,16 @@ fn may_be_early(served: Result<Served, ServeFault>) -> bool {
     matches!(served, Ok(Served::Status(400 | 404 | 405 | 413)))
 }
 
-/// The connections on a port, each accepted at the clock's moment and given up after ten seconds.
+/// The connections of a network, each accepted at the clock's moment and given up after ten seconds.
 #[derive(Drop)]
-pub(crate) struct Sockets<'a> {
-    rt: &'a HostRuntime,
-    connections: Connections,
+pub(crate) struct Sockets<N: Network> {
+    connections: Connections<N>,
 }
 
-impl<'a> Sockets<'a> {
+impl<N: Network> Sockets<N> {
     /// These connections.
-    pub(crate) fn new(rt: &'a HostRuntime, connections: Connections) -> Sockets<'a> {
-        Sockets { rt, connections }
+    pub(crate) fn new(connections: Connections<N>) -> Sockets<N> {
+        Sockets { connections }
     }
 
     /// Accepts no more, and sends the answers under way: for a second where serving ended early.
@@ -36,23 +35,25 @@ impl<'a> Sockets<'a> {
         } else {
             PATIENCE_STOPPED
         };
-        let _ = self
-            .connections
-            .close(self.rt, Duration::from_secs(seconds));
+        let _ = self.connections.close(Duration::from_secs(seconds));
     }
 }
 
-impl<'a> Arrivals for Sockets<'a> {
-    ghost use Rattle.std.specs.Prelude.{None};
+impl<N: Network> Arrivals for Sockets<N> {
+    ghost use Rattle.std.specs.Prelude.{true, Some, None, if◌then◌else◌};
 
-    type Reader = Exchange;
+    type Reader = Exchange<N::Socket>;
 
     type Writer = Answer;
 
-    ghost known = { λ _. None };
+    ghost may_fail = { true };
 
-    fn accept(&mut self) -> Result<Option<Arrival<Exchange, Answer>>, AcceptFault> {
-        match self.connections.next(self.rt) {
+    // What is let go isn't kept.
+    ghost known = { λ sockets. if N.Socket.is_known
+        then Some (record { ahead = sockets.connections.ahead; latest = sockets.connections.latest; kept = None }) else None };
+
+    fn accept(&mut self) -> Result<Option<Arrival<Exchange<N::Socket>, Answer>>, AcceptFault> {
+        match self.connections.next() {
             Ok(Some((exchange, answer))) => Ok(Some(Arrival {
                 moment: exchange.moment(),
                 reader: exchange,
@@ -63,7 +64,12 @@ impl<'a> Arrivals for Sockets<'a> {
         }
     }
 
-    fn finish(&mut self, reader: Exchange, writer: Answer, served: Result<Served, ServeFault>) {
+    fn finish(
+        &mut self,
+        reader: Exchange<N::Socket>,
+        writer: Answer,
+        served: Result<Served, ServeFault>,
+    ) {
         self.connections
             .finish(reader, writer, may_be_early(served));
     }

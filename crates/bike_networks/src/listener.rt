@@ -1,30 +1,12 @@
 //! The listener on a port.
 
-ghost use Rattle.std.specs.Prelude.{◌≤◌, length, IfOk};
-
+use crate::loopback::LISTENER;
 use mio::net::{TcpListener, TcpStream};
-use mio::{Interest, Registry, Token};
-use std::io::{ErrorKind, Read};
+use mio::{Interest, Registry};
+use std::io::ErrorKind;
 use std::net::{Ipv4Addr, SocketAddr};
 use std::os::fd::AsFd;
-use std::time::Duration;
 use std::{io, net};
-
-/// The token of the listener, which no connection has.
-pub(crate) const LISTENER: Token = Token(usize::MAX);
-
-/// How many milliseconds the request of a connection that comes alone is waited for, before others are accepted.
-const PATIENCE_ALONE: u64 = 1;
-
-/// What accepting gave.
-pub(crate) enum Accepted {
-    /// A connection.
-    One(TcpStream),
-    /// None that stayed, and there may be more.
-    Lost,
-    /// None is there.
-    Nobody,
-}
 
 /// A listener on a port of the loopback address.
 #[derive(Drop)]
@@ -85,18 +67,18 @@ impl Listener {
     }
 
     /// Accepts one without waiting.
-    pub(crate) fn accept(&mut self) -> io::Result<Accepted> {
+    pub(crate) fn accept(&mut self) -> io::Result<TcpStream> {
         match self.polled.accept() {
             Ok((stream, _)) => {
                 self.left = self.left.saturating_sub(1);
-                Ok(Accepted::One(stream))
+                Ok(stream)
             }
-            Err(error) if error.kind() == ErrorKind::WouldBlock => {
-                self.may_accept = false;
-                Ok(Accepted::Nobody)
+            Err(error) => {
+                if error.kind() == ErrorKind::WouldBlock {
+                    self.may_accept = false;
+                }
+                Err(error)
             }
-            Err(error) if error.kind() == ErrorKind::ConnectionAborted => Ok(Accepted::Lost),
-            Err(error) => Err(error),
         }
     }
 
@@ -124,13 +106,4 @@ impl Listener {
         }
         self.set_waits(false)
     }
-}
-
-/// Reads what a connection that came alone sends within a moment; how many bytes.
-pub(crate) fn read_alone(stream: &net::TcpStream, piece: &mut [u8]) -> io::Result<usize>
-    ensures { IfOk result (λ count. count ≤ length piece.new) }
-{
-    stream.set_read_timeout(Some(Duration::from_millis(PATIENCE_ALONE)))?;
-    let mut input = stream;
-    input.read(piece)
 }

@@ -1,0 +1,31 @@
+-- Connections of which it is known what comes.
+use Rattle.std.specs.Prelude.{◌≡◌, ℕ, List, [], ◌∷◌, ◌++◌, Option, Some, None, IsPermutation}
+
+-- a connection that comes: when it is accepted, and all that its client sends
+pub record Coming : Type 0 where
+  pub moment : ℕ
+  pub input : List ℕ
+
+-- those that were ahead are ahead still, but for some that ended with nothing asked of the desk
+abbrev pub Loses : List Coming → List Coming → Type 0
+Loses old new = (lost : List Coming) × IsPermutation old (lost ++ new)
+
+-- those ahead in slots, of which each may have some
+abbrev pub ahead_in : {X : Type 0} → (X → List Coming) → List (Option X) → List Coming
+ahead_in {X} ahead [] = []
+ahead_in {X} ahead (None ∷ slots) = ahead_in ahead slots
+ahead_in {X} ahead (Some x ∷ slots) = ahead x ++ ahead_in ahead slots
+
+-- the moment of the last that was handed out, if there was one
+abbrev pub since_start : Option ℕ → ℕ
+since_start None = 0
+since_start (Some moment) = moment
+
+-- The connections that aren't answered yet, and the moment of the last that was handed out.
+pub record Crowd : Type 0 where
+  pub ahead : List Coming
+  pub latest : ℕ
+
+-- none is handed out, and some may be lost
+abbrev pub Thins : Crowd → Crowd → Type 0
+Thins old new = Loses old.ahead new.ahead × (new.latest ≡ old.latest)

@@ -1,0 +1,70 @@
+//! Where connections come from.
+
+ghost use Rattle.std.specs.Prelude.{◌≡◌, [], length, IsTrue};
+ghost use Rattle.bike_connections.specs.Accepting.{Accepts, AcceptsAlone, IsWithin};
+
+use crate::socket::Socket;
+use bike_fixed::Moment;
+use std::io;
+use std::time::Duration;
+
+/// What accepting gave.
+#[derive(Drop)]
+pub enum Accepted<S> {
+    /// A connection, and the moment at which it was accepted.
+    One(S, Moment),
+    /// None that stayed, and there may be more.
+    Lost,
+    /// None is there.
+    Nobody,
+}
+
+/// Where connections come from, what tells which of them are ready, and the time.
+pub trait Network: Drop {
+    ghost use Rattle.std.specs.Prelude.{List};
+    ghost use Rattle.bike_connections.specs.Ahead.{Coming};
+
+    type Socket: Socket;
+
+    // Those that aren't accepted yet, where it is known what comes.
+    ghost ahead: { Self → List Coming };
+
+    /// What tells which sockets are ready.
+    fn registry(&self) -> &<Self::Socket as Socket>::Registry;
+
+    /// Whether all are accepted that are to be.
+    fn is_done(&self) -> bool
+        ensures { IsTrue result → IsTrue Self.Socket.is_known → ahead self.now ≡ [] };
+
+    /// Whether one is to be accepted now.
+    fn may_accept(&self) -> bool;
+
+    /// Accepts one without waiting.
+    fn accept(&mut self) -> io::Result<Accepted<Self::Socket>>
+        ensures { IsTrue Self.Socket.is_known → Accepts Self.Socket.coming (ahead self.old) (ahead self.new) result };
+
+    /// Waits for one, and a moment for its request; with it comes the moment at which it was accepted, and how many bytes were read into
+    /// the piece. None where it didn't stay.
+    fn accept_alone(
+        &mut self,
+        piece: &mut [u8],
+    ) -> io::Result<Option<(Self::Socket, Moment, usize)>>
+        ensures bound { IsWithin (length piece.new) result }
+        ensures accepts { IsTrue Self.Socket.is_known
+            → AcceptsAlone Self.Socket.coming (ahead self.old) (ahead self.new) piece.new result };
+
+    /// Waits until a socket is ready, one may be accepted or so long has passed.
+    fn wait(&mut self, patience: Option<Duration>) -> io::Result<()>
+        ensures { ahead self.new ≡ ahead self.old };
+
+    /// The key of a socket that may be ready since the last wait; none where each was told.
+    fn next_ready(&mut self) -> Option<usize>
+        ensures { ahead self.new ≡ ahead self.old };
+
+    /// How long it is since this began.
+    fn now(&mut self) -> io::Result<Duration>
+        ensures { ahead self.new ≡ ahead self.old };
+
+    /// Accepts nobody any more.
+    fn close(&mut self);
+}
