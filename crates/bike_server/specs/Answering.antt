@@ -62,12 +62,6 @@ latest_of latest (coming ∷ came) = latest_of (max latest coming.moment) came
 abbrev pub Adds : Option Kept → Option Kept → List Leaving → Type 0
 Adds old new gone = IfSome old (λ before. IsSomeAnd new (λ after. after.gone ≡ before.gone ++ gone))
 
--- how an exchange ends whose last bytes aren't taken: an answer is one that wasn't written whole
-abbrev pub without_end : Result Served ServeFault → Result Served ServeFault
-without_end (Ok Empty) = Ok Empty
-without_end (Ok (Status status)) = Err Write
-without_end (Err fault) = Err fault
-
 -- what is sent where the desk stops: that there is no answer now, or a front of that or of a feed
 abbrev pub IsRefused : Response → Result Served ServeFault → List ℕ → Type 0
 IsRefused response (Ok Empty) sent = ⊥
@@ -89,10 +83,6 @@ module _ {S : Type 0} (g : Ghosts S) (desk : DeskValue S) where
   -- how one exchange ends
   abbrev pub Exchanges : Operator → Coming → Leaving → Type 0
   Exchanges s coming leaving = ((next : Operator) × IsAnswered s coming leaving next × IsAt g desk next) ⊎ StopsAt s coming leaving
-
-  -- the same, by what was sent
-  abbrev pub ExchangesWith : Operator → Coming → Result Served ServeFault → Option (List ℕ) → Type 0
-  ExchangesWith s coming served sent = IsSomeAnd sent (λ bytes. Exchanges s coming (record { served = served; sent = bytes }))
 
   -- the same, of a connection that is let go
   abbrev pub ExchangesOne : Operator → Coming → Option Visits → Option Visits → Type 0

@@ -8,7 +8,7 @@ ghost use Rattle.bike_operator.specs.Operator.{Operator};
 ghost use Rattle.bike_schema.specs.Stands.{AllLeft, TreesStandFor};
 ghost use Rattle.bike_http.specs.Desk.{desk_state, OfOperator};
 ghost use Rattle.bike_server.specs.Visits.{IsOpen};
-ghost use Rattle.bike_server.specs.Answering.{ExchangesWith, ExchangesOne, ServesInOrder, without_end};
+ghost use Rattle.bike_server.specs.Answering.{ExchangesOne, ServesInOrder};
 ghost use Rattle.bike_server.specs.Listening.{end_of_serving, EndsListening};
 ghost use Rattle.bike_server.specs.Serving.{ServesRequests, StandsAfterRequests};
 
@@ -18,55 +18,14 @@ use crate::sockets::Sockets;
 use bike_adoption::adopt;
 use bike_connections::Connections;
 use bike_console::Fault;
-use bike_fixed::Moment;
 use bike_heads::Routes;
-use bike_http::{Desk, ServeFault, Served, serve_one};
-use bike_json::TokenBuffer;
+use bike_http::{Desk, serve_one};
 use bike_networks::{Loopback, has_descriptors};
 use bike_stream::write_whole;
 use sqlite::{Alter, Connection};
 use std::alloc::Global;
-use std::io::{ErrorKind, Read, Write};
+use std::io::{ErrorKind, Write};
 use std::net::SocketAddr;
-
-/// How an exchange ended whose last bytes weren't taken.
-fn cut_short(served: Result<Served, ServeFault>) -> Result<Served, ServeFault>
-    ensures { result ≡ without_end served }
-{
-    match served {
-        Ok(Served::Status(_)) => Err(ServeFault::Write),
-        Ok(Served::Empty) => Ok(Served::Empty),
-        Err(fault) => Err(fault),
-    }
-}
-
-/// One exchange, over a buffer that is handed over at its end. Gives the writer back and how it ended: an answer whose end isn't
-/// taken is a failed write.
-fn exchange<S: Alter, R: Read, W: Write + Drop>(
-    alloc: Global,
-    desk: &mut Desk<S>,
-    routes: &Routes,
-    moment: Moment,
-    reader: &mut R,
-    writer: W,
-) -> (W, Result<Served, ServeFault>)
-    ensures clean { doubt (desk_state S.Store desk.old).is_clean ≤ doubt (desk_state S.Store desk.new).is_clean }
-    ensures kept { OfOperator S.Store desk.old desk.new (λ s. ServesRequests S.Store desk.new s) }
-    ensures exchanged { OfOperator S.Store desk.old desk.new (λ s. (input : List ℕ)
-        → R.remaining reader.old ≡ Some input → W.contents writer ≡ Some []
-        → ExchangesWith S.Store desk.new s (record { moment = moment; input = input }) result.1 (W.contents result.0)) }
-{
-    let mut buffer = TokenBuffer::new(writer);
-    let served = serve_one(alloc, desk, routes, moment, reader, &mut buffer);
-    // After a failed write the client would be waited for once more.
-    if matches!(served, Err(ServeFault::Write)) {
-        return (buffer.into_inner(), served);
-    }
-    match buffer.flush() {
-        Ok(()) => (buffer.into_inner(), served),
-        Err(_) => (buffer.into_inner(), cut_short(served)),
-    }
-}
 
 /// Serves the one request of a connection, and lets it go. What fails of the connection alone is told to nobody: the client
 /// sees it end. What was accepted of it stands, and is answered as before when it is sent again.
@@ -88,9 +47,9 @@ fn serve_arrival<S: Alter, A: Arrivals>(
     let Arrival {
         moment,
         mut reader,
-        writer,
+        mut writer,
     } = arrival;
-    let (writer, served) = exchange(alloc, desk, routes, moment, &mut reader, writer);
+    let served = serve_one(alloc, desk, routes, moment, &mut reader, &mut writer);
     arrivals.finish(reader, writer, served);
 }
 

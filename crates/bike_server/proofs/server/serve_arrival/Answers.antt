@@ -1,10 +1,20 @@
 use Rattle.bike_server.specs.Answering.{Exchanges}
 use Rattle.bike_server.proofs.InOrder.{gone_as}
+use Rattle.bike_server.proofs.ServingLemmas.{exchanged}
+use Rattle.bike_server.proofs.AnsweringLemmas.{exchanges}
 use Rattle.bike_server.proofs.server.serve_arrival.Goals as goal
+
+pub returns-clause-kept : goal.returns-clause-kept
+returns-clause-kept g c clean s at =
+    let it = c.serve_one-served.ensures in
+    exchanged g.S.Store c.serve_one-served.new.desk c.args.desk.now s c.args.arrival.moment _ _ _ _ at it.rests (it.served clean s at)
 
 pub returns-clause-served : goal.returns-clause-served
 returns-clause-served g c clean s at input comes none =
     let arrival = c.args.arrival in
-    gone_as (g.A.Arrivals.known c.args.arrivals.now) (g.A.Arrivals.known c.finish.new.self) (g.A.Writer.Write.contents c.exchange-writer.result.0) c.exchange-writer.result.1
-    (Exchanges g.S.Store c.exchange-writer.new.desk s (record { moment = arrival.moment; input = input }))
-    c.finish.ensures (c.exchange-writer.ensures.exchanged clean s at input comes none)
+    let it = c.serve_one-served.ensures in
+    gone_as (g.A.Arrivals.known c.args.arrivals.now) (g.A.Arrivals.known c.finish.new.self) _ c.serve_one-served.result
+    (Exchanges g.S.Store c.serve_one-served.new.desk s (record { moment = arrival.moment; input = input }))
+    c.finish.ensures
+    (exchanges g.S.Store c.serve_one-served.new.desk s (record { moment = arrival.moment; input = input }) c.args.desk.now _ _ _ _ comes none at it.rests
+    (it.served clean s at))
