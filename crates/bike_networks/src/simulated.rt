@@ -111,7 +111,10 @@ impl<'a> Socket for SimulatedSocket<'a> {
     ghost told = { λ _ _. refl };
 }
 
-/// A network of clients, who are accepted in their order. Each turn takes a second, and at each every socket may be ready.
+/// How many milliseconds a turn takes.
+const TURN: u64 = 100;
+
+/// A network of clients, who are accepted in their order. In each turn every socket may be ready.
 #[derive(Drop)]
 pub struct SimulatedNetwork<'a> {
     clients: VecDeque<Client<'a>>,
@@ -198,7 +201,7 @@ impl<'a> Network for SimulatedNetwork<'a> {
     }
 
     fn now(&mut self) -> io::Result<Duration> {
-        Ok(Duration::from_secs(self.turn))
+        Ok(Duration::from_millis(self.turn.saturating_mul(TURN)))
     }
 
     fn close(&mut self) {
