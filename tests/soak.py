@@ -83,9 +83,10 @@ def test_soak(program):
     city(program)
     before = payments(program)
     with Server(program) as server:
+        server.ask(get("/riders/17"))
+        descriptors = server.descriptors()
         paid = soaked(server, "a", time.monotonic() + 1)
-        until(lambda: server.descriptors() < 40, SOON, "the clients of the first second are closed")
-        descriptors, memory = server.descriptors(), server.memory()
+        memory = server.memory()
         paid += soaked(server, "b", time.monotonic() + SOAK)
         until(lambda: server.descriptors() == descriptors, SOON, "all of their descriptors are closed")
         assert server.memory() < memory + MORE, f"{server.memory()} bytes of memory, {memory} before"
