@@ -5,4 +5,3 @@ pub mod Tree
 pub mod Outputs
 pub mod State
 pub mod Rows
-pub mod Buffered

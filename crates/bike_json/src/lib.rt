@@ -5,7 +5,6 @@
 //! names the value; over `Discard`, which takes every byte, the same function gives the text's length.
 #![tactic(auto)]
 
-mod buffer;
 mod escape;
 mod laws;
 mod level;
@@ -13,7 +12,6 @@ mod output;
 mod state;
 mod writer;
 
-pub use buffer::TokenBuffer;
 pub use laws::{string_laws, text_laws};
 pub use level::Level;
 pub use output::{Discard, Output};
