@@ -16,10 +16,10 @@ ahead_in {X} ahead [] = []
 ahead_in {X} ahead (None ∷ slots) = ahead_in ahead slots
 ahead_in {X} ahead (Some x ∷ slots) = ahead x ++ ahead_in ahead slots
 
--- the moment of the last that was handed out, if there was one
-abbrev pub since_start : Option ℕ → ℕ
-since_start None = 0
-since_start (Some moment) = moment
+-- the moment of the last, and 0 where there was none
+abbrev pub latest_in : Option ℕ → ℕ
+latest_in None = 0
+latest_in (Some moment) = moment
 
 -- The connections that aren't answered yet, and the moment of the last that was handed out.
 pub record Crowd : Type 0 where

@@ -1,4 +1,4 @@
--- Whose request a connection still has.
+-- An open connection as one of those ahead: until it is answered.
 use Rattle.std.specs.Prelude.{ℕ, List, [], ◌∷◌, ◌++◌}
 use Rattle.bike_connections.specs.declared.peer.Peer.{Peer}
 use Rattle.bike_connections.specs.declared.connection.State.{State}

@@ -37,11 +37,11 @@ pub struct Connections<N: Network> {
 
 impl<N: Network> Model for Connections<N> {
     ghost use Rattle.std.specs.Prelude.{◌++◌};
-    ghost use Rattle.bike_connections.specs.Ahead.{Crowd, since_start};
+    ghost use Rattle.bike_connections.specs.Ahead.{Crowd, latest_in};
 
     ghost Value = { Crowd };
 
-    ghost view = { λ c. record { ahead = c.connections ++ N.ahead c.network; latest = since_start c.latest } };
+    ghost view = { λ c. record { ahead = c.connections ++ N.ahead c.network; latest = latest_in c.latest } };
 }
 
 impl<N: Network> Connections<N> {
@@ -218,7 +218,7 @@ impl<N: Network> Connections<N> {
             return None;
         }
         self.answers -= 1;
-        self.connections.next_ready()
+        self.connections.next(false)
     }
 
     /// The next of those that may ask for a feed, of which each turn has one.
@@ -230,7 +230,7 @@ impl<N: Network> Connections<N> {
             return None;
         }
         self.may_publish = false;
-        self.connections.next_feed()
+        self.connections.next(true)
     }
 
     /// The next of those whose request is there in this turn.

@@ -245,35 +245,34 @@ impl<S: Socket> Open<S> {
         }
     }
 
-    /// The next of those that ask for no feed; none where there is none.
-    pub(crate) fn next_ready(&mut self) -> Option<(Exchange<S>, Answer)>
-        ensures { Gives S.coming self.old self.new result }
+    /// The key of the next of those that may ask for a feed, or of the others.
+    fn next_key(&mut self, is_feed: bool) -> Option<usize>
+        ensures { self.new ≡ self.old }
     {
-        for _turn in 0..self.ready.len() {
-            let Some(key) = self.ready.pop_front() else {
-                return None;
-            };
-            let next = self.hand_out(key, false, 1);
-            if next.is_some() {
-                return next;
-            }
+        if is_feed {
+            self.feeds.pop_front()
+        } else {
+            self.ready.pop_front()
         }
-        None
     }
 
-    /// The next of those that may ask for a feed, where there is room for the longest.
-    pub(crate) fn next_feed(&mut self) -> Option<(Exchange<S>, Answer)>
+    /// The next of those that may ask for a feed, or of the others. A feed is handed out where there is room for the longest.
+    pub(crate) fn next(&mut self, is_feed: bool) -> Option<(Exchange<S>, Answer)>
         ensures { Gives S.coming self.old self.new result }
     {
-        if !self.has_feed_room() {
+        if is_feed && !self.has_feed_room() {
             return None;
         }
-        let blocks = MOST_BLOCKS.saturating_sub(self.held);
-        for _turn in 0..self.feeds.len() {
-            let Some(key) = self.feeds.pop_front() else {
+        let blocks = if is_feed {
+            MOST_BLOCKS.saturating_sub(self.held)
+        } else {
+            1
+        };
+        for _turn in 0..MOST_OPEN {
+            let Some(key) = self.next_key(is_feed) else {
                 return None;
             };
-            let next = self.hand_out(key, true, blocks);
+            let next = self.hand_out(key, is_feed, blocks);
             if next.is_some() {
                 return next;
             }

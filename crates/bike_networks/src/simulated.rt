@@ -111,8 +111,8 @@ impl<'a> Socket for SimulatedSocket<'a> {
     ghost told = { λ _ _. refl };
 }
 
-/// How many milliseconds a turn takes.
-const TURN: u64 = 100;
+/// How many milliseconds a turn takes: a connection has a thousand turns.
+const TURN: u64 = 10;
 
 /// A network of clients, who are accepted in their order. In each turn every socket may be ready.
 #[derive(Drop)]

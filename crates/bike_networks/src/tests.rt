@@ -1,4 +1,4 @@
-//! Exchanges whose bytes come and go in pieces, in every order of the pieces.
+//! Exchanges whose bytes come and go in pieces: in every order of a few pieces, and byte by byte in many.
 
 use crate::simulated::{Client, PAUSE, SimulatedNetwork, SimulatedSocket};
 use bike_connections::{Answer, Connections, Exchange};
@@ -7,38 +7,111 @@ use std::alloc::Global;
 use std::collections::VecDeque;
 use std::io::{ErrorKind, Read, Write};
 
-/// How many bytes a piece of a request has at most: three of them are one.
-const PIECE: u8 = 9;
+/// How many bytes a request has, and its answer.
+const LENGTH: u8 = 18;
 
-/// How many turns a test has: each piece of each client has one.
-const TURNS: usize = 9;
+/// How many bytes a piece has: three of them are a request.
+const PIECE: u8 = 6;
 
 /// In how many orders nine pieces of three clients can come, told as digits to the base of three.
 const ORDERS: u32 = 19_683;
 
-/// Sets the next step.
-fn set_step(steps: &mut [u8; 18], at: &mut usize, step: u8) {
-    if *at < steps.len() {
-        steps[*at] = step;
-        *at = at.saturating_add(1);
+/// In how many orders bytes of two clients come, and those of three.
+const BYTE_ORDERS: u64 = 2_000;
+
+/// How many steps a client has at most: two for each byte of its own, and one for each of two others.
+const MOST_STEPS: usize = 72;
+
+/// The steps by which a client sends and takes.
+struct Steps {
+    steps: [u8; MOST_STEPS],
+    count: usize,
+}
+
+impl Steps {
+    /// None yet.
+    fn new() -> Steps {
+        Steps {
+            steps: [PAUSE; MOST_STEPS],
+            count: 0,
+        }
+    }
+
+    /// Adds a step.
+    fn push(&mut self, step: u8) {
+        if self.count < MOST_STEPS {
+            self.steps[self.count] = step;
+            self.count += 1;
+        }
+    }
+
+    /// Adds a turn: with so many bytes where it is this client's own, and else with nothing.
+    fn push_turn(&mut self, is_own: bool, bytes: u8) {
+        if is_own {
+            self.push(bytes);
+        }
+        self.push(PAUSE);
+    }
+
+    /// All that were added.
+    fn as_slice(&self) -> &[u8] {
+        &self.steps[..self.count.min(MOST_STEPS)]
     }
 }
 
-/// The steps by which one of three clients sends and takes: a piece in each turn that is its own, and else nothing. False where it
-/// hasn't three turns.
-fn are_steps(order: u32, client: u32, steps: &mut [u8; 18]) -> bool {
+/// The steps of three clients who send a piece in each of nine turns, a turn belonging to the client that a digit of the order names. None
+/// where not each has three turns.
+fn steps_of_pieces(order: u32) -> Option<[Steps; 3]> {
+    let mut steps = [Steps::new(), Steps::new(), Steps::new()];
+    let mut own: [u32; 3] = [0; 3];
     let mut left = order;
-    let mut at: usize = 0;
-    let mut own: u32 = 0;
-    for _turn in 0..TURNS {
-        if left % 3 == client {
-            own = own.saturating_add(1);
-            set_step(steps, &mut at, PIECE);
+    for _turn in 0..9 {
+        for client in 0..3 {
+            let is_own = left % 3 == client;
+            let at = usize::try_from(client).ok()?;
+            own[at] = own[at].saturating_add(u32::from(is_own));
+            steps[at].push_turn(is_own, PIECE);
         }
-        set_step(steps, &mut at, PAUSE);
         left /= 3;
     }
-    own == 3
+    if own == [3; 3] { Some(steps) } else { None }
+}
+
+/// The next of a row of numbers without an order that one sees.
+fn next_number(seed: &mut u64) -> u64 {
+    *seed = seed
+        .wrapping_mul(6_364_136_223_846_793_005)
+        .wrapping_add(1_442_695_040_888_963_407);
+    *seed >> 33
+}
+
+/// Which client has the next turn: any of those who have bytes left.
+fn next_client(seed: &mut u64, left: &mut [u8; 3]) -> Option<usize> {
+    let first = next_number(seed);
+    for further in 0..3 {
+        let client = usize::try_from((first % 3 + further) % 3).ok()?;
+        if left[client] > 0 {
+            left[client] -= 1;
+            return Some(client);
+        }
+    }
+    None
+}
+
+/// The steps of three clients who send a byte in each turn of theirs. The third has none where only two come.
+fn steps_of_bytes(seed: u64, third: u8) -> Option<[Steps; 3]> {
+    let mut steps = [Steps::new(), Steps::new(), Steps::new()];
+    let mut seed = seed;
+    let mut left = [LENGTH, LENGTH, third];
+    for _turn in 0..MOST_STEPS {
+        let Some(own) = next_client(&mut seed, &mut left) else {
+            return Some(steps);
+        };
+        for client in 0..3 {
+            steps[client].push_turn(client == own, 1);
+        }
+    }
+    None
 }
 
 /// Reads a request, and writes it back as its answer.
@@ -80,68 +153,54 @@ fn answer_all(connections: &mut Connections<SimulatedNetwork<'_>>) -> Option<u32
     None
 }
 
-/// Three exchanges, each sent and taken by its steps; whether each is answered with its own request.
-fn are_answered(alloc: Global, steps: &[[u8; 18]; 3]) -> Option<bool> {
+/// A client who sends this and takes its answer by these steps.
+fn client<'a>(input: &'a [u8], steps: &'a Steps, taken: &'a mut Vec<u8>) -> Option<Client<'a>> {
+    Some(Client {
+        wait: 0,
+        moment: Moment::new(1_700_000_000)?,
+        input,
+        sends: steps.as_slice(),
+        takes: steps.as_slice(),
+        is_silent: false,
+        taken,
+    })
+}
+
+/// Two or three exchanges, each sent and taken by its steps; whether each is answered with its own request.
+fn are_answered(alloc: Global, steps: &[Steps; 3], most: u32) -> Option<bool> {
     let mut first = Vec::new(alloc);
     let mut second = Vec::new(alloc);
     let mut third = Vec::new(alloc);
-    let moment = Moment::new(1_700_000_000)?;
     let mut clients = VecDeque::with_capacity(alloc, 3).ok()?;
     clients
-        .push_back(Client {
-            wait: 0,
-            moment,
-            input: b"GET /riders/1 HTTP/1.1\r\n\r\n",
-            sends: steps[0].as_slice(),
-            takes: steps[0].as_slice(),
-            is_silent: false,
-            taken: &mut first,
-        })
+        .push_back(client(b"G /r1 HTTP/1.1\r\n\r\n", &steps[0], &mut first)?)
         .ok()?;
     clients
-        .push_back(Client {
-            wait: 0,
-            moment,
-            input: b"GET /riders/2 HTTP/1.1\r\n\r\n",
-            sends: steps[1].as_slice(),
-            takes: steps[1].as_slice(),
-            is_silent: false,
-            taken: &mut second,
-        })
+        .push_back(client(b"G /r2 HTTP/1.1\r\n\r\n", &steps[1], &mut second)?)
         .ok()?;
-    clients
-        .push_back(Client {
-            wait: 0,
-            moment,
-            input: b"GET /riders/3 HTTP/1.1\r\n\r\n",
-            sends: steps[2].as_slice(),
-            takes: steps[2].as_slice(),
-            is_silent: false,
-            taken: &mut third,
-        })
-        .ok()?;
+    if most > 2 {
+        clients
+            .push_back(client(b"G /r3 HTTP/1.1\r\n\r\n", &steps[2], &mut third)?)
+            .ok()?;
+    }
     let mut connections = Connections::new(alloc, SimulatedNetwork::new(clients)).ok()?;
     let count = answer_all(&mut connections)?;
     connections.close(std::time::Duration::from_secs(10)).ok()?;
     drop(connections);
     Some(
-        count == 3
-            && first.as_slice() == b"GET /riders/1 HTTP/1.1\r\n\r\n".as_slice()
-            && second.as_slice() == b"GET /riders/2 HTTP/1.1\r\n\r\n".as_slice()
-            && third.as_slice() == b"GET /riders/3 HTTP/1.1\r\n\r\n".as_slice(),
+        count == most
+            && first.as_slice() == b"G /r1 HTTP/1.1\r\n\r\n".as_slice()
+            && second.as_slice() == b"G /r2 HTTP/1.1\r\n\r\n".as_slice()
+            && (most == 2 || third.as_slice() == b"G /r3 HTTP/1.1\r\n\r\n".as_slice()),
     )
 }
 
-/// In how many orders all three were answered.
+/// In how many orders of their pieces all three were answered.
 fn answered_orders(alloc: Global) -> Option<u32> {
     let mut answered: u32 = 0;
     for order in 0..ORDERS {
-        let mut steps = [[PAUSE; 18]; 3];
-        if are_steps(order, 0, &mut steps[0])
-            && are_steps(order, 1, &mut steps[1])
-            && are_steps(order, 2, &mut steps[2])
-        {
-            if !are_answered(alloc, &steps)? {
+        if let Some(steps) = steps_of_pieces(order) {
+            if !are_answered(alloc, &steps, 3)? {
                 return None;
             }
             answered = answered.saturating_add(1);
@@ -150,7 +209,24 @@ fn answered_orders(alloc: Global) -> Option<u32> {
     Some(answered)
 }
 
+/// Whether all were answered in each of many orders of the bytes of two clients, and of three.
+fn are_all_answered(alloc: Global) -> Option<bool> {
+    for seed in 0..BYTE_ORDERS {
+        let two = steps_of_bytes(seed, 0)?;
+        let three = steps_of_bytes(seed, LENGTH)?;
+        if !are_answered(alloc, &two, 2)? || !are_answered(alloc, &three, 3)? {
+            return Some(false);
+        }
+    }
+    Some(true)
+}
+
 #[test]
 fn three_exchanges_in_every_order_of_their_pieces(rt: HostRuntime) {
     assert_eq!(rt; answered_orders(rt.alloc()), Some(1680));
+}
+
+#[test]
+fn two_and_three_exchanges_byte_by_byte(rt: HostRuntime) {
+    assert_eq!(rt; are_all_answered(rt.alloc()), Some(true));
 }

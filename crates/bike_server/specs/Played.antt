@@ -1,5 +1,4 @@
 -- Connections that are played, as all that is known of them.
-use Rattle.std.specs.Prelude.{ℕ, Option, Some, None}
 use Rattle.bike_connections.specs.Ahead.{Coming}
 use Rattle.bike_server.specs.declared.memory.Visit.{Visit}
 use Rattle.bike_server.specs.declared.memory.Parting.{Parting}
@@ -10,8 +9,3 @@ coming_of visit = record { moment = visit.moment; input = visit.input.now }
 
 abbrev pub leaving_of : Parting → Leaving
 leaving_of parting = record { served = parting.served; sent = parting.sent.items }
-
--- the moment of the last that was accepted, and 0 where none was
-abbrev pub latest_in : Option ℕ → ℕ
-latest_in None = 0
-latest_in (Some moment) = moment

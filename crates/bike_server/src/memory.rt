@@ -1,7 +1,8 @@
 //! Connections in memory: for tests, and for what the contract of serving says where everything is known.
 
 ghost use Rattle.std.specs.Prelude.{◌≡◌, [], map, max, IfOk, IsSomeAnd, Some};
-ghost use Rattle.bike_server.specs.Played.{coming_of, leaving_of, latest_in};
+ghost use Rattle.bike_connections.specs.Ahead.{latest_in};
+ghost use Rattle.bike_server.specs.Played.{coming_of, leaving_of};
 
 use crate::arrivals::{AcceptFault, Arrival, Arrivals};
 use bike_fixed::Moment;
@@ -38,7 +39,8 @@ pub struct Played<'a> {
 impl<'a> Model for Played<'a> {
     ghost use Rattle.std.specs.Prelude.{◌≤◌, ◌-◌, length, vec_len, vec_capacity, map, drop, Some};
     ghost use Rattle.bike_server.specs.Visits.{Visits};
-    ghost use Rattle.bike_server.specs.Played.{coming_of, leaving_of, latest_in};
+    ghost use Rattle.bike_connections.specs.Ahead.{latest_in};
+    ghost use Rattle.bike_server.specs.Played.{coming_of, leaving_of};
 
     ghost Value = { Visits };
 

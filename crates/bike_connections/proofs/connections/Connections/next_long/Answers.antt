@@ -2,4 +2,4 @@ use Rattle.bike_connections.proofs.Thinning.{gives_in}
 use Rattle.bike_connections.proofs.connections.Connections.next_long.Goals as goal
 
 pub returns-clause-given : goal.returns-clause-given
-returns-clause-given g c = gives_in g.N.Socket.Socket.coming c.args.self.now c.self.inside.connections _ _ _ c.next_feed.result c.self.view_is c.next_feed.ensures
+returns-clause-given g c = gives_in g.N.Socket.Socket.coming c.args.self.now c.self.inside.connections _ _ _ c.next.result c.self.view_is c.next.ensures

@@ -1,5 +1,5 @@
 use Rattle.bike_connections.specs.Ahead.{Loses}
-use Rattle.bike_connections.proofs.open.Open.next_feed.Given as goal
+use Rattle.bike_connections.proofs.open.Open.next.Given as goal
 
 -- some may have ended so far
 abbrev pub invariant-loop-turn : goal.invariant-loop-turn

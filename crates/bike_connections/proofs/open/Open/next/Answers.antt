@@ -1,7 +1,7 @@
 use Rattle.std.proofs.Common.{◌∙◌, sym}
 use Rattle.bike_connections.proofs.Losing.{loses_via}
 use Rattle.bike_connections.proofs.Giving.{gives_after, gives_none}
-use Rattle.bike_connections.proofs.open.Open.next_ready.Goals as goal
+use Rattle.bike_connections.proofs.open.Open.next.Goals as goal
 
 pub returns-then-is_some : goal.returns-then-is_some
 returns-then-is_some g c =
