@@ -12,10 +12,10 @@ ghost use Rattle.bike_fleet_rules.specs.Counted.{counted_at, counted_in, place_a
 ghost use Rattle.bike_fleet_rules.specs.Loads.{is_of};
 
 use bike_book::columns::bikes;
-use bike_fields::{DockNumber, OrderNumber, RentalNumber, TruckNumber};
+use bike_fields::{DockNumber, Ident, OrderNumber, RentalNumber, TruckNumber};
 use bike_fixed::Within;
 use bike_operator::BikeState;
-use bike_readings::{StoredBike, StoredPlace, is_ident};
+use bike_readings::{StoredBike, StoredPlace};
 use bike_schema::{number_at, optional_number_at, state_at};
 use sqlite::Row;
 use sqlite::types::ValueRef;
@@ -108,15 +108,10 @@ fn text_in(line: &Row, at: usize) -> Option<&str>
 }
 
 /// The identifier in a column.
-#[tactic(auto, unfolding(bike_fields::specs::Bytes::ident_of))]
 fn ident_in(line: &Row, at: usize) -> Option<&str>
     ensures { option_map (λ text. text.now) result ≡ ident_in (column line.now at) }
 {
-    let text = text_in(line, at)?;
-    if is_ident(text) {
-        return Some(text);
-    }
-    None
+    Ident::checked(text_in(line, at)?)
 }
 
 /// The identifier in a column, or `Some(None)` where the column is NULL.

@@ -8,8 +8,8 @@ ghost use Rattle.bike_schema.specs.Columns.{whole_in, text_in, number_in, moment
 ghost use Rattle.bike_readings.specs.ColumnReaders.{ascii_in, language_in, currency_in, form_in, propulsion_in, named_kind_in, word_in, signed_in, kind_in};
 
 use crate::part::Part;
-use crate::texts::{is_ascii_field, is_currency, is_ident, is_language, is_name};
 use bike_catalogue::{Form, NameKind, Propulsion};
+use bike_fields::{Ascii, Currency, Ident, Language, Name};
 use bike_fixed::{Cents, Moment, Within};
 use bike_ledger::EntryKind;
 use bike_operator::BikeState;
@@ -121,15 +121,10 @@ pub(crate) fn text_in<'a>(part: &Part<'a>, at: usize) -> Option<&'a str>
 }
 
 /// The identifier.
-#[tactic(auto, unfolding(bike_fields::specs::Bytes::ident_of))]
 pub(crate) fn ident_in<'a>(part: &Part<'a>, at: usize) -> Option<&'a str>
     ensures { option_map (λ text. text.now) result ≡ ident_in (column part.now at) }
 {
-    let text = text_in(part, at)?;
-    if is_ident(text) {
-        return Some(text);
-    }
-    None
+    Ident::checked(text_in(part, at)?)
 }
 
 /// The identifier, or `Some(None)` where the column is NULL.
@@ -144,51 +139,31 @@ pub(crate) fn ident_or_none_in<'a>(part: &Part<'a>, at: usize) -> Option<Option<
 }
 
 /// The name.
-#[tactic(auto, unfolding(bike_fields::specs::Bytes::name_of))]
 pub(crate) fn name_in<'a>(part: &Part<'a>, at: usize) -> Option<&'a str>
     ensures { option_map (λ text. text.now) result ≡ name_in (column part.now at) }
 {
-    let text = text_in(part, at)?;
-    if is_name(text) {
-        return Some(text);
-    }
-    None
+    Name::checked(text_in(part, at)?)
 }
 
 /// The ASCII field.
-#[tactic(auto, unfolding(bike_fields::specs::Bytes::ascii_of))]
 pub(crate) fn ascii_in<'a>(part: &Part<'a>, at: usize) -> Option<&'a str>
     ensures { option_map (λ text. text.now) result ≡ ascii_in (column part.now at) }
 {
-    let text = text_in(part, at)?;
-    if is_ascii_field(text) {
-        return Some(text);
-    }
-    None
+    Ascii::checked(text_in(part, at)?)
 }
 
 /// The language.
-#[tactic(auto, unfolding(bike_fields::specs::Bytes::language_of))]
 pub(crate) fn language_in<'a>(part: &Part<'a>, at: usize) -> Option<&'a str>
     ensures { option_map (λ text. text.now) result ≡ language_in (column part.now at) }
 {
-    let text = text_in(part, at)?;
-    if is_language(text) {
-        return Some(text);
-    }
-    None
+    Language::checked(text_in(part, at)?)
 }
 
 /// The currency.
-#[tactic(auto, unfolding(bike_fields::specs::Bytes::currency_of))]
 pub(crate) fn currency_in<'a>(part: &Part<'a>, at: usize) -> Option<&'a str>
     ensures { option_map (λ text. text.now) result ≡ currency_in (column part.now at) }
 {
-    let text = text_in(part, at)?;
-    if is_currency(text) {
-        return Some(text);
-    }
-    None
+    Currency::checked(text_in(part, at)?)
 }
 
 /// The name of the product that made the file.

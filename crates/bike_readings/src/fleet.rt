@@ -8,10 +8,9 @@ ghost use Rattle.bike_readings.specs.Views.{place_of, bike_of, truck_of, end_of,
 
 use crate::columns::{flag_in, ident_in, is_null_at, number_in, state_in, text_in};
 use crate::part::Part;
-use crate::texts::is_ident;
 use bike_book::columns::{bikes, orders, trucks};
 use bike_fields::{
-    BicycleNumber, DockNumber, MOST_CARRIED, OrderNumber, OrderQuantity, RentalNumber,
+    BicycleNumber, DockNumber, Ident, MOST_CARRIED, OrderNumber, OrderQuantity, RentalNumber,
     TruckCapacity, TruckNumber,
 };
 use bike_fixed::Within;
@@ -162,10 +161,8 @@ fn end_in<'a>(part: &Part<'a>, at: usize) -> Option<StoredEnd<'a>>
     if text == "*" {
         return Some(StoredEnd::Depot);
     }
-    if is_ident(text) {
-        return Some(StoredEnd::Station(text));
-    }
-    None
+    let station = Ident::checked(text)?;
+    Some(StoredEnd::Station(station))
 }
 
 /// What a row of `orders` spells.

@@ -20,7 +20,6 @@ mod names;
 mod network;
 mod part;
 mod rules;
-mod texts;
 
 pub use catalogue::{
     StoredMeta, StoredPlan, StoredSegment, StoredSystem, StoredType, read_meta, read_plan,
@@ -41,4 +40,3 @@ pub use network::{
 };
 pub use part::Part;
 pub use rules::{rules_law, stored_law, verdict_law};
-pub use texts::is_ident;
