@@ -23,6 +23,7 @@ const BYTE_ORDERS: u64 = 2_000;
 const MOST_STEPS: usize = 72;
 
 /// The steps by which a client sends and takes.
+#[derive(Clone, Copy)]
 struct Steps {
     steps: [u8; MOST_STEPS],
     count: usize,
