@@ -154,34 +154,46 @@ fn answer_all(connections: &mut Connections<SimulatedNetwork<'_>>) -> Option<u32
     None
 }
 
-/// A client who sends this and takes its answer by these steps.
-fn client<'a>(input: &'a [u8], steps: &'a Steps, taken: &'a mut Vec<u8>) -> Option<Client<'a>> {
-    Some(Client {
-        wait: 0,
-        moment: Moment::new(1_700_000_000)?,
-        input,
-        sends: steps.as_slice(),
-        takes: steps.as_slice(),
-        is_silent: false,
-        taken,
-    })
-}
-
 /// Two or three exchanges, each sent and taken by its steps; whether each is answered with its own request.
 fn are_answered(alloc: Global, steps: &[Steps; 3], most: u32) -> Option<bool> {
     let mut first = Vec::new(alloc);
     let mut second = Vec::new(alloc);
     let mut third = Vec::new(alloc);
+    let moment = Moment::new(1_700_000_000)?;
     let mut clients = VecDeque::with_capacity(alloc, 3).ok()?;
     clients
-        .push_back(client(b"G /r1 HTTP/1.1\r\n\r\n", &steps[0], &mut first)?)
+        .push_back(Client {
+            wait: 0,
+            moment,
+            input: b"G /r1 HTTP/1.1\r\n\r\n",
+            sends: steps[0].as_slice(),
+            takes: steps[0].as_slice(),
+            is_silent: false,
+            taken: &mut first,
+        })
         .ok()?;
     clients
-        .push_back(client(b"G /r2 HTTP/1.1\r\n\r\n", &steps[1], &mut second)?)
+        .push_back(Client {
+            wait: 0,
+            moment,
+            input: b"G /r2 HTTP/1.1\r\n\r\n",
+            sends: steps[1].as_slice(),
+            takes: steps[1].as_slice(),
+            is_silent: false,
+            taken: &mut second,
+        })
         .ok()?;
     if most > 2 {
         clients
-            .push_back(client(b"G /r3 HTTP/1.1\r\n\r\n", &steps[2], &mut third)?)
+            .push_back(Client {
+                wait: 0,
+                moment,
+                input: b"G /r3 HTTP/1.1\r\n\r\n",
+                sends: steps[2].as_slice(),
+                takes: steps[2].as_slice(),
+                is_silent: false,
+                taken: &mut third,
+            })
             .ok()?;
     }
     let mut connections = Connections::new(alloc, SimulatedNetwork::new(clients)).ok()?;
