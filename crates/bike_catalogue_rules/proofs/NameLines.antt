@@ -12,6 +12,10 @@ use Rattle.bike_catalogue.specs.declared.name_kind.NameKind.TheVariants as named
 use Rattle.bike_operator.specs.Operator.{Operator, Station}
 use Rattle.bike_operator.specs.Names.{has_named, is_system}
 use Rattle.bike_book.specs.Tables.{Tables, Types, Regions, Stations}
+use Rattle.bike_book.specs.declared.columns.plans.TheConstants as plans
+use Rattle.bike_book.specs.declared.columns.types.TheConstants as types
+use Rattle.bike_book.specs.declared.columns.regions.TheConstants as regions
+use Rattle.bike_book.specs.declared.columns.stations.TheConstants as stations
 use Rattle.bike_book.proofs.Keys.{text_key, texts}
 use Rattle.bike_readings.specs.Readings.{plan_read, type_read, region_read, station_read, name_read}
 use Rattle.bike_readings.specs.ReadOff.{station_in, operator_of}
@@ -61,10 +65,10 @@ named_parts s x set named.Region id = also_true (fin.contains_key s.regions id)
 -- ---- the lines
 
 abbrev pub places_line : Tables → Row → Row
-places_line t row = with_two 12 2 row (partner 1 (column row 1 ∷ []) t.stations) (partner 1 (column row 1 ∷ []) t.regions)
+places_line t row = with_two stations.COLUMNS regions.COLUMNS row (partner 1 (column row 1 ∷ []) t.stations) (partner 1 (column row 1 ∷ []) t.regions)
 
 abbrev pub offers_line : Tables → Row → Row
-offers_line t row = with_two 6 5 row (partner 1 (column row 1 ∷ []) t.types) (partner 1 (column row 1 ∷ []) t.plans)
+offers_line t row = with_two types.COLUMNS plans.COLUMNS row (partner 1 (column row 1 ∷ []) t.types) (partner 1 (column row 1 ∷ []) t.plans)
 
 module _ (t : Tables) (up : AreInOrder t) (wide : AreWide t) (row : Row) (has : Has t.more_names row) (e : FurtherName) (is : name_read row ≡ Some e) where
   abbrev s : Operator

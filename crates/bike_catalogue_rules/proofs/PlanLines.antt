@@ -18,6 +18,7 @@ use Rattle.bike_readings.proofs.ReadLists.{read_of, find_has}
 use Rattle.bike_readings.proofs.ReadRows.{mapped}
 use Rattle.bike_judges.specs.Lines.{or_nulls, with_one}
 use Rattle.bike_judges.proofs.Lookups.{SpellsKeys, sorted_read}
+use Rattle.bike_book.specs.declared.columns.plans.TheConstants as plans
 use Rattle.bike_catalogue_rules.specs.Tests.{has_plan}
 use Rattle.bike_catalogue_rules.proofs.Partners.{last_part, beside_wide, mapped_some, is_there}
 use Rattle.bike_catalogue_rules.proofs.Widths.{AreWide}
@@ -29,7 +30,7 @@ plan_key segments r e is =
 
 -- the row that names a plan in this column, with that plan beside it
 abbrev pub plan_line : Tables → ℕ → Row → Row
-plan_line t at row = with_one 5 row (partner 1 (column row at ∷ []) t.plans)
+plan_line t at row = with_one plans.COLUMNS row (partner 1 (column row at ∷ []) t.plans)
 
 -- a plan is there exactly where the operator has it
 pub plan_there : (t : Tables) → AreInOrder t → (row : Row) (at : ℕ) (id : List ℕ) → column row at ≡ Text id

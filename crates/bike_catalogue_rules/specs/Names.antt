@@ -1,7 +1,12 @@
 -- What is asked of the lines of names in further languages: by the system and the names before them, and with what has them beside them.
-use Rattle.std.specs.Prelude.{ℕ, suc, nat_lt, List, [], ◌∷◌, take, Bool, true, false, not, ◌&&◌, if◌then◌else◌, Option, Some, None, is_some, option_map}
+use Rattle.std.specs.Prelude.{ℕ, suc, ◌+◌, nat_lt, List, [], ◌∷◌, take, Bool, true, false, not, ◌&&◌, if◌then◌else◌, Option, Some, None, is_some, option_map}
 use Rattle.std.specs.Str.{bytes_eq}
 use Rattle.sqlite_value.specs.Order.{Row}
+use Rattle.bike_book.specs.declared.columns.plans.TheConstants as plans
+use Rattle.bike_book.specs.declared.columns.types.TheConstants as types
+use Rattle.bike_book.specs.declared.columns.regions.TheConstants as regions
+use Rattle.bike_book.specs.declared.columns.stations.TheConstants as stations
+use Rattle.bike_book.specs.declared.columns.more_names.TheConstants as more_names
 use Rattle.bike_catalogue.specs.NameKinds.{kind_text}
 use Rattle.bike_catalogue.specs.Rows.{SystemRow, MoreNameRow}
 use Rattle.bike_catalogue.specs.declared.name_kind.NameKind.{NameKind}
@@ -77,19 +82,19 @@ first_misnamed own last run (x ∷ xs) = misnamed_or x (next_run own last run (n
 -- a station or a region that has the name is there
 abbrev pub is_place_there : NameKind → Row → Bool
 is_place_there named.System line = true
-is_place_there named.Station line = is_some (station_read (part 4 12 line))
+is_place_there named.Station line = is_some (station_read (part more_names.COLUMNS stations.COLUMNS line))
 is_place_there named.«Type» line = true
 is_place_there named.Plan line = true
 is_place_there named.Description line = true
-is_place_there named.Region line = is_some (region_read (part 16 2 line))
+is_place_there named.Region line = is_some (region_read (part (more_names.COLUMNS + stations.COLUMNS) regions.COLUMNS line))
 
 -- so is a vehicle type or a plan
 abbrev pub is_offer_there : NameKind → Row → Bool
 is_offer_there named.System line = true
 is_offer_there named.Station line = true
-is_offer_there named.«Type» line = is_some (type_read (part 4 6 line))
-is_offer_there named.Plan line = is_some (plan_read (part 10 5 line))
-is_offer_there named.Description line = is_some (plan_read (part 10 5 line))
+is_offer_there named.«Type» line = is_some (type_read (part more_names.COLUMNS types.COLUMNS line))
+is_offer_there named.Plan line = is_some (plan_read (part (more_names.COLUMNS + types.COLUMNS) plans.COLUMNS line))
+is_offer_there named.Description line = is_some (plan_read (part (more_names.COLUMNS + types.COLUMNS) plans.COLUMNS line))
 is_offer_there named.Region line = true
 
 -- the line spells a name, and this holds of its kind
@@ -98,7 +103,7 @@ of_kind test line None = false
 of_kind test line (Some e) = test e.0 line
 
 abbrev pub has_place : ℕ → Row → Bool
-has_place before line = of_kind is_place_there line (name_read (part 0 4 line))
+has_place before line = of_kind is_place_there line (name_read (part 0 more_names.COLUMNS line))
 
 abbrev pub has_offer : ℕ → Row → Bool
-has_offer before line = of_kind is_offer_there line (name_read (part 0 4 line))
+has_offer before line = of_kind is_offer_there line (name_read (part 0 more_names.COLUMNS line))

@@ -2,6 +2,9 @@
 use Rattle.std.specs.Prelude.{ℕ, ◌+◌, ◌==◌, ◌&&◌, ◌||◌, nat_lt, List, [], ◌∷◌, take, Bool, false, if◌then◌else◌, Option, Some, None, is_some, option_map}
 use Rattle.std.specs.Str.{bytes_eq}
 use Rattle.sqlite_value.specs.Order.{Row}
+use Rattle.bike_book.specs.declared.columns.plans.TheConstants as plans
+use Rattle.bike_book.specs.declared.columns.segments.TheConstants as segments
+use Rattle.bike_book.specs.declared.columns.types.TheConstants as types
 use Rattle.bike_operator.specs.declared.limits.TheConstants.{MOST_PLANS, MOST_TYPES, MOST_REGIONS}
 use Rattle.bike_readings.specs.Readings.{system_read, plan_read, segment_read, type_read, region_read, kept_read}
 use Rattle.bike_judges.specs.Lines.{part}
@@ -20,18 +23,18 @@ is_plan before line = nat_lt before MOST_PLANS && is_some (plan_read line)
 abbrev pub is_region : ℕ → Row → Bool
 is_region before line = nat_lt before MOST_REGIONS && is_some (region_read line)
 
--- the plan that a segment or a vehicle type names is there
+-- the plan that a vehicle type names is there, or a segment, whose row is as wide as that of a type
 abbrev pub has_plan : Row → Bool
-has_plan line = is_some (plan_read (part 6 5 line))
+has_plan line = is_some (plan_read (part types.COLUMNS plans.COLUMNS line))
 
 abbrev pub is_type : ℕ → Row → Bool
-is_type before line = nat_lt before MOST_TYPES && (has_plan line && is_some (type_read (part 0 6 line)))
+is_type before line = nat_lt before MOST_TYPES && (has_plan line && is_some (type_read (part 0 types.COLUMNS line)))
 
 -- ---- segments, each after the one before it
 
 -- the plan of a segment, where it is there, and the segment's number
 abbrev pub segment_name : Row → Option (List ℕ × ℕ)
-segment_name line = if has_plan line then option_map (λ e. (e.0, e.1)) (segment_read (part 0 6 line)) else None
+segment_name line = if has_plan line then option_map (λ e. (e.0, e.1)) (segment_read (part 0 segments.COLUMNS line)) else None
 
 -- it is the one after this in a plan
 abbrev pub comes_after : Option (List ℕ × ℕ) → List ℕ × ℕ → Bool

@@ -10,6 +10,8 @@ use Rattle.bike_rows.specs.View.{row_with, partner}
 use Rattle.bike_catalogue.specs.Rows.{TypeRow}
 use Rattle.bike_operator.specs.Operator.{Station}
 use Rattle.bike_book.specs.Tables.{Tables, Stations, Types}
+use Rattle.bike_book.specs.declared.columns.types.TheConstants as types
+use Rattle.bike_book.specs.declared.columns.stations.TheConstants as stations
 use Rattle.bike_book.specs.Rows.{count_row}
 use Rattle.bike_book.proofs.Keys.{texts}
 use Rattle.bike_readings.specs.Readings.{count_read, station_read, type_read}
@@ -39,7 +41,7 @@ drop_front n row rest is = ap (λ (k : ℕ). drop k (row ++ rest)) (sym is) ∙ 
 
 module _ (t : Tables) (up : AreInOrder t) (wide : AreWide t) where
   abbrev pub named_line : Row → Row
-  named_line row = with_two 12 6 row (partner 1 (map (column row) (0 ∷ [])) t.stations) (partner 1 (map (column row) (1 ∷ [])) t.types)
+  named_line row = with_two stations.COLUMNS types.COLUMNS row (partner 1 (map (column row) (0 ∷ [])) t.stations) (partner 1 (map (column row) (1 ∷ [])) t.types)
 
   abbrev station_under : List ℕ → Option Row
   station_under id = row_with 1 (Text id ∷ []) t.stations

@@ -5,6 +5,9 @@ use Rattle.std.specs.Str.{bytes_eq}
 use Rattle.sqlite_value.specs.declared.value.Value.{Value}
 use Rattle.sqlite_value.specs.declared.value.Value.TheVariants.{Int, Text}
 use Rattle.sqlite_value.specs.Order.{Row, column}
+use Rattle.bike_book.specs.declared.columns.docks.TheConstants as docks
+use Rattle.bike_book.specs.declared.columns.bikes.TheConstants as bikes
+use Rattle.bike_book.specs.declared.columns.counts.TheConstants as counts
 use Rattle.bike_operator.specs.declared.records.BikeState.{BikeState}
 use Rattle.bike_operator.specs.declared.records.Place.{Place}
 use Rattle.bike_operator.specs.declared.records.Place.TheVariants as place
@@ -56,7 +59,7 @@ marked_by m (Some d) = if d.2 then with_mark m d.0 d.1 else m
 
 -- after a line, which may be that of a broken dock
 abbrev pub marks_after : Marks → Row → Marks
-marks_after m line = if is_place 0 (column line 1) then marked_by m (dock_read (part 5 3 line)) else m
+marks_after m line = if is_place 0 (column line 1) then marked_by m (dock_read (part 5 docks.COLUMNS line)) else m
 
 -- ---- what a line adds to the counts of a type at a station
 
@@ -84,7 +87,8 @@ module _ (is_broken : List ℕ → ℕ → Bool) where
   abbrev pub tally_in : Row → Option Tally
   tally_in line =
       if is_place 1 (column line 1) then (
-      if is_place 1 (column line 3) then bike_tally (bike_read (part 5 8 line)) else count_tally (count_read (part 5 4 line))) else None
+      if is_place 1 (column line 3) then bike_tally (bike_read (part 5 bikes.COLUMNS line))
+      else count_tally (count_read (part 5 counts.COLUMNS line))) else None
 
 -- ---- tallies of one type at a station after another
 

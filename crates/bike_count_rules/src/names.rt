@@ -1,8 +1,11 @@
 //! The test of counts by themselves.
 
 ghost use Rattle.std.specs.Prelude.{◌≡◌, is_some, take};
+ghost use Rattle.bike_book.specs.declared.columns.types.TheConstants as types;
+ghost use Rattle.bike_book.specs.declared.columns.stations.TheConstants as stations;
 ghost use Rattle.bike_readings.specs.Readings.{station_read, type_read};
 ghost use Rattle.bike_judges.specs.Lines.{part};
+ghost use Rattle.bike_count_rules.specs.declared.names.TheConstants.{STATION_AT, TYPE_AT};
 ghost use Rattle.bike_count_rules.specs.Names.{is_named};
 
 use bike_book::columns::{counts, stations, types};
@@ -26,14 +29,14 @@ pub(crate) struct CountTest;
 
 /// Whether the line's station is there.
 fn has_station(line: &Row) -> bool
-    ensures { result ≡ is_some (station_read (part 4 12 line.now)) }
+    ensures { result ≡ is_some (station_read (part STATION_AT stations.COLUMNS line.now)) }
 {
     read_station(Part::of(line, STATION_AT, stations::COLUMNS)).is_some()
 }
 
 /// Whether the line's type is there.
 fn has_type(line: &Row) -> bool
-    ensures { result ≡ is_some (type_read (part 16 6 line.now)) }
+    ensures { result ≡ is_some (type_read (part TYPE_AT types.COLUMNS line.now)) }
 {
     read_type(Part::of(line, TYPE_AT, types::COLUMNS)).is_some()
 }

@@ -1,10 +1,13 @@
 //! What the lines of one type at a station come to.
 
 ghost use Rattle.std.specs.Prelude.{◌≡◌, ◌+◌, IfOk, Some, option_map};
+ghost use Rattle.bike_book.specs.declared.columns.bikes.TheConstants as bikes;
+ghost use Rattle.bike_book.specs.declared.columns.counts.TheConstants as counts;
 ghost use Rattle.bike_operator.specs.Counts.{is_fit};
 ghost use Rattle.bike_readings.specs.Readings.{count_read, bike_read};
 ghost use Rattle.bike_judges.specs.Judging.{key_row};
 ghost use Rattle.bike_judges.specs.Lines.{part};
+ghost use Rattle.bike_count_rules.specs.declared.marks.TheConstants.{ROW_AT};
 ghost use Rattle.bike_count_rules.specs.Tallies.{is_same, tally_sum, bad_key, count_tally, placed_tally, bike_tally, tally_in, has_mark};
 ghost use Rattle.bike_places.specs.Laws.{one};
 ghost use Rattle.bike_readings.specs.Views.{place_of};
@@ -85,7 +88,7 @@ fn is_fit(state: BikeState) -> bool
 
 /// The tally of a row of counts. `NoMemory` where memory is refused.
 fn count_tally(alloc: Global, line: &Row) -> Result<Option<Tally>, StatementFault>
-    ensures { IfOk result (λ tally. tally ≡ count_tally (count_read (part 5 4 line.now))) }
+    ensures { IfOk result (λ tally. tally ≡ count_tally (count_read (part ROW_AT counts.COLUMNS line.now))) }
 {
     let Some(counts) = read_counts(Part::of(line, ROW_AT, counts::COLUMNS)) else {
         return Ok(None);
@@ -135,7 +138,8 @@ fn one(passes: bool) -> u64
 
 /// The tally of a row of bicycles. `NoMemory` where memory is refused.
 fn bike_tally(alloc: Global, marks: &Marks, line: &Row) -> Result<Option<Tally>, StatementFault>
-    ensures { IfOk result (λ tally. tally ≡ bike_tally (has_mark marks.now) (bike_read (part 5 8 line.now))) }
+    ensures { IfOk result (λ tally. tally
+        ≡ bike_tally (has_mark marks.now) (bike_read (part ROW_AT bikes.COLUMNS line.now))) }
 {
     match read_bike(Part::of(line, ROW_AT, bikes::COLUMNS)) {
         Some(bike) => placed_tally(alloc, marks, bike.type_id, bike.state, &bike.place),

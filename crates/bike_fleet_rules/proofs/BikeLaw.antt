@@ -21,6 +21,11 @@ use Rattle.bike_operator.specs.Operator.{Operator, Station, Truck}
 use Rattle.bike_operator.specs.Counts.{is_open, is_retired, is_depot}
 use Rattle.bike_operator.specs.Sound.{HasDock}
 use Rattle.bike_book.specs.Tables.{Tables, Types, Stations, Bikes, Trucks, Rentals, Orders}
+use Rattle.bike_book.specs.declared.columns.types.TheConstants as types
+use Rattle.bike_book.specs.declared.columns.stations.TheConstants as stations
+use Rattle.bike_book.specs.declared.columns.trucks.TheConstants as trucks
+use Rattle.bike_book.specs.declared.columns.rentals.TheConstants as rentals
+use Rattle.bike_book.specs.declared.columns.orders.TheConstants as orders
 use Rattle.bike_book.specs.Rows.{number_value}
 use Rattle.bike_readings.specs.Readings.{type_read, station_read, bike_read, truck_read, rental_read, order_read}
 use Rattle.bike_readings.specs.Bounds.{IsStoredPlace}
@@ -59,13 +64,13 @@ module _ (t : Tables) (up : AreInOrder t) (wide : AreWide t) where
   -- ---- lines
 
   abbrev pub names_line : Row → Row
-  names_line row = with_two 6 12 row (partner 1 (column row 1 ∷ []) t.types) (partner 1 (column row 3 ∷ []) t.stations)
+  names_line row = with_two types.COLUMNS stations.COLUMNS row (partner 1 (column row 1 ∷ []) t.types) (partner 1 (column row 3 ∷ []) t.stations)
 
   abbrev pub uses_line : Row → Row
-  uses_line row = with_two 10 8 row (partner 1 (column row 5 ∷ []) t.rentals) (partner 1 (column row 7 ∷ []) t.orders)
+  uses_line row = with_two rentals.COLUMNS orders.COLUMNS row (partner 1 (column row 5 ∷ []) t.rentals) (partner 1 (column row 7 ∷ []) t.orders)
 
   abbrev pub trucks_line : Row → Row
-  trucks_line row = with_one 2 row (partner 1 (column row 6 ∷ []) t.trucks)
+  trucks_line row = with_one trucks.COLUMNS row (partner 1 (column row 6 ∷ []) t.trucks)
 
   abbrev kind_of : Row → Option (List ℕ × TypeRow)
   kind_of row = partner_read type_read t.types (column row 1)

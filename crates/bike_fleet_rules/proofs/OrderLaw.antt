@@ -22,6 +22,9 @@ use Rattle.bike_operator.specs.Sound.{HasTruck}
 use Rattle.bike_operator.specs.Steps.{is_same_end}
 use Rattle.bike_operator.specs.View.{has_end}
 use Rattle.bike_book.specs.Tables.{Tables, Types, Stations, Trucks, Orders}
+use Rattle.bike_book.specs.declared.columns.types.TheConstants as types
+use Rattle.bike_book.specs.declared.columns.stations.TheConstants as stations
+use Rattle.bike_book.specs.declared.columns.trucks.TheConstants as trucks
 use Rattle.bike_book.specs.Rows.{end_text, order_row}
 use Rattle.bike_readings.specs.Readings.{type_read, station_read, truck_read, order_read}
 use Rattle.bike_readings.proofs.FleetRows.{order_reading}
@@ -67,10 +70,10 @@ module _ (t : Tables) (up : AreInOrder t) (wide : AreWide t) where
   -- ---- lines
 
   abbrev pub names_line : Row → Row
-  names_line row = with_two 2 6 row (partner 1 (column row 1 ∷ []) t.trucks) (partner 1 (column row 4 ∷ []) t.types)
+  names_line row = with_two trucks.COLUMNS types.COLUMNS row (partner 1 (column row 1 ∷ []) t.trucks) (partner 1 (column row 4 ∷ []) t.types)
 
   abbrev pub ends_line : Row → Row
-  ends_line row = with_two 12 12 row (partner 1 (column row 2 ∷ []) t.stations) (partner 1 (column row 3 ∷ []) t.stations)
+  ends_line row = with_two stations.COLUMNS stations.COLUMNS row (partner 1 (column row 2 ∷ []) t.stations) (partner 1 (column row 3 ∷ []) t.stations)
 
   abbrev truck_of : Row → Option (ℕ × Truck)
   truck_of row = partner_read truck_read t.trucks (column row 1)

@@ -2,6 +2,7 @@
 use Rattle.std.specs.Prelude.{ℕ, ◌+◌, length, nat_le, if◌then◌else◌, Option, Some, None}
 use Rattle.sqlite_value.specs.declared.value.Value.{Value}
 use Rattle.sqlite_value.specs.Order.{Row, column}
+use Rattle.bike_book.specs.declared.columns.bikes.TheConstants as bikes
 use Rattle.bike_fields.specs.Caller.{◌>>=◌}
 use Rattle.bike_operator.specs.declared.records.Place.{Place}
 use Rattle.bike_operator.specs.declared.records.Bike.{Bike}
@@ -28,4 +29,6 @@ place_at at line = first_place_in (column line at) (column line (at + 1)) (colum
 
 -- the bicycle that the row counts which stands in a line from this column on
 abbrev pub counted_at : ℕ → Row → Option (ℕ × Bike)
-counted_at first line = if nat_le (first + 8) (length line) then spelled_by (column line first) (column line (first + 1)) (column line (first + 2)) (place_at (first + 3) line) else None
+counted_at first line =
+    if nat_le (first + bikes.COLUMNS) (length line)
+    then spelled_by (column line first) (column line (first + 1)) (column line (first + 2)) (place_at (first + 3) line) else None

@@ -3,6 +3,7 @@ use Rattle.std.specs.Prelude.{ℕ, ◌==◌, ◌&&◌, List, [], ◌∷◌, Bool
 use Rattle.std.specs.List.{filter_map}
 use Rattle.std.specs.Str.{bytes_eq}
 use Rattle.sqlite_value.specs.Order.{Row, column}
+use Rattle.bike_book.specs.declared.columns.bikes.TheConstants as bikes
 use Rattle.bike_operator.specs.declared.records.Place.{Place}
 use Rattle.bike_operator.specs.declared.records.Place.TheVariants as place
 use Rattle.bike_operator.specs.declared.records.Bike.{Bike}
@@ -33,7 +34,7 @@ is_bike_line line = is_some (number_in 1 1 (column line 2))
 
 -- the bicycle of a line
 abbrev pub counted_line : Row → Option (ℕ × Bike)
-counted_line line = if is_bike_line line then counted_in (part 4 8 line) else None
+counted_line line = if is_bike_line line then counted_in (part 4 bikes.COLUMNS line) else None
 
 -- .. where it is counted in a dock
 unfoldable pub docked_in : Row → Option Docked

@@ -1,6 +1,9 @@
 -- What the lines of trucks, and of orders, come to: each with the bicycles on it, or on trucks for it.
 use Rattle.std.specs.Prelude.{ℕ, ◌==◌, ◌&&◌, ◌+◌, [], ◌∷◌, Bool, false, if◌then◌else◌, nat_lt, nat_le, Option, Some, None, is_some}
 use Rattle.sqlite_value.specs.Order.{Row, column}
+use Rattle.bike_book.specs.declared.columns.bikes.TheConstants as bikes
+use Rattle.bike_book.specs.declared.columns.trucks.TheConstants as trucks
+use Rattle.bike_book.specs.declared.columns.orders.TheConstants as orders
 use Rattle.bike_operator.specs.declared.limits.TheConstants.{MOST_TRUCKS}
 use Rattle.bike_operator.specs.declared.records.Place.{Place}
 use Rattle.bike_operator.specs.declared.records.Bike.{Bike}
@@ -40,7 +43,7 @@ is_placed test (Some e) = test e.1.place
 
 -- the owner's line of a bicycle at such a place
 abbrev pub loads : (Place → Bool) → ℕ → Row → Bool
-loads test owner line = is_of owner line && is_placed test (counted_in (part 3 8 line))
+loads test owner line = is_of owner line && is_placed test (counted_in (part 3 bikes.COLUMNS line))
 
 -- ---- trucks
 
@@ -49,7 +52,7 @@ truck_opened None = Unread
 truck_opened (Some e) = Head (record { truck = e.0; capacity = e.1.capacity; load = 0 })
 
 abbrev pub truck_begins : Row → Opening TruckAccount
-truck_begins line = if is_head line then truck_opened (truck_read (part 3 2 line)) else Item
+truck_begins line = if is_head line then truck_opened (truck_read (part 3 trucks.COLUMNS line)) else Item
 
 abbrev pub truck_more : TruckAccount → Row → TruckAccount
 truck_more a line = if loads (is_on_truck a.truck) a.truck line then record a { load = a.load + 1 } else a
@@ -67,7 +70,7 @@ order_opened None = Unread
 order_opened (Some e) = Head (record { order = e.0; count = e.1.count; load = e.1.delivered })
 
 abbrev pub order_begins : Row → Opening OrderAccount
-order_begins line = if is_head line then order_opened (order_read (part 3 8 line)) else Item
+order_begins line = if is_head line then order_opened (order_read (part 3 orders.COLUMNS line)) else Item
 
 abbrev pub order_more : OrderAccount → Row → OrderAccount
 order_more a line = if loads (is_for_order a.order) a.order line then record a { load = a.load + 1 } else a

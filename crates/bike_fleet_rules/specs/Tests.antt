@@ -2,6 +2,12 @@
 use Rattle.std.specs.Prelude.{ℕ, ℤ, ◌+◌, ◌==◌, ◌&&◌, ◌||◌, List, [], ◌∷◌, Bool, true, false, not, nat_lt, nat_le, Option, Some, None, is_some}
 use Rattle.std.specs.Str.{bytes_eq}
 use Rattle.sqlite_value.specs.Order.{Row, column}
+use Rattle.bike_book.specs.declared.columns.types.TheConstants as types
+use Rattle.bike_book.specs.declared.columns.stations.TheConstants as stations
+use Rattle.bike_book.specs.declared.columns.bikes.TheConstants as bikes
+use Rattle.bike_book.specs.declared.columns.trucks.TheConstants as trucks
+use Rattle.bike_book.specs.declared.columns.rentals.TheConstants as rentals
+use Rattle.bike_book.specs.declared.columns.orders.TheConstants as orders
 use Rattle.bike_catalogue.specs.Rows.{TypeRow}
 use Rattle.bike_texts.specs.declared.ends.OrderEnd.{OrderEnd}
 use Rattle.bike_texts.specs.declared.ends.OrderEnd.TheVariants as end
@@ -35,7 +41,9 @@ is_order_named below None truck kind = false
 is_order_named below (Some x) truck kind = (x.0 == below + 1) && (nat_lt below MOST_ORDERS && (holds x.1.count truck && is_some kind))
 
 unfoldable pub order_names : ℕ → Row → Bool
-order_names below line = is_order_named below (order_read (part 0 8 line)) (truck_read (part 8 2 line)) (type_read (part 10 6 line))
+order_names below line =
+    is_order_named below (order_read (part 0 orders.COLUMNS line)) (truck_read (part orders.COLUMNS trucks.COLUMNS line))
+    (type_read (part (orders.COLUMNS + trucks.COLUMNS) types.COLUMNS line))
 
 -- the end is the depot, or a station that is there
 abbrev pub is_end_there : OrderEnd → Option (List ℕ × Station × ℤ × ℕ) → Bool
@@ -48,7 +56,9 @@ are_ends_there None from to = false
 are_ends_there (Some x) from to = is_end_there x.1.from_end from && (is_end_there x.1.to_end to && not (is_same_end x.1.from_end x.1.to_end))
 
 unfoldable pub order_ends : ℕ → Row → Bool
-order_ends below line = are_ends_there (order_read (part 0 8 line)) (station_read (part 8 12 line)) (station_read (part 20 12 line))
+order_ends below line =
+    are_ends_there (order_read (part 0 orders.COLUMNS line)) (station_read (part orders.COLUMNS stations.COLUMNS line))
+    (station_read (part (orders.COLUMNS + stations.COLUMNS) stations.COLUMNS line))
 
 -- ---- bicycles
 
@@ -74,7 +84,9 @@ is_bike_named below None kind station = false
 is_bike_named below (Some x) kind station = nat_lt below MOST_BIKES && (is_some kind && (is_dock_there x.1.place station && is_where_retired x.1.state x.1.place))
 
 unfoldable pub bike_names : ℕ → Row → Bool
-bike_names below line = is_bike_named below (bike_read (part 0 8 line)) (type_read (part 8 6 line)) (station_read (part 14 12 line))
+bike_names below line =
+    is_bike_named below (bike_read (part 0 bikes.COLUMNS line)) (type_read (part bikes.COLUMNS types.COLUMNS line))
+    (station_read (part (bikes.COLUMNS + types.COLUMNS) stations.COLUMNS line))
 
 -- the open rental of the bicycle
 abbrev pub is_ridden : ℕ → Option (ℕ × Rental × ℤ) → Bool
@@ -98,7 +110,9 @@ is_bike_used None rental order = false
 is_bike_used (Some x) rental order = is_used x.0 x.1.type_id x.1.place rental order
 
 unfoldable pub bike_uses : ℕ → Row → Bool
-bike_uses below line = is_bike_used (bike_read (part 0 8 line)) (rental_read (part 8 10 line)) (order_read (part 18 8 line))
+bike_uses below line =
+    is_bike_used (bike_read (part 0 bikes.COLUMNS line)) (rental_read (part bikes.COLUMNS rentals.COLUMNS line))
+    (order_read (part (bikes.COLUMNS + rentals.COLUMNS) orders.COLUMNS line))
 
 -- a truck on which the bicycle is
 abbrev pub is_truck_there : Place → Option (ℕ × Truck) → Bool
@@ -113,4 +127,4 @@ is_bike_borne None truck = false
 is_bike_borne (Some x) truck = is_truck_there x.1.place truck
 
 unfoldable pub bike_trucks : ℕ → Row → Bool
-bike_trucks below line = is_bike_borne (bike_read (part 0 8 line)) (truck_read (part 8 2 line))
+bike_trucks below line = is_bike_borne (bike_read (part 0 bikes.COLUMNS line)) (truck_read (part bikes.COLUMNS trucks.COLUMNS line))

@@ -1,11 +1,17 @@
 //! What is asked of a bicycle with its partners beside it.
 
 ghost use Rattle.std.specs.Prelude.{◌≡◌, IfOk, option_map};
+ghost use Rattle.bike_book.specs.declared.columns.stations.TheConstants as stations;
+ghost use Rattle.bike_book.specs.declared.columns.bikes.TheConstants as bikes;
+ghost use Rattle.bike_book.specs.declared.columns.trucks.TheConstants as trucks;
+ghost use Rattle.bike_book.specs.declared.columns.rentals.TheConstants as rentals;
+ghost use Rattle.bike_book.specs.declared.columns.orders.TheConstants as orders;
 ghost use Rattle.bike_operator.specs.Counts.{is_depot};
 ghost use Rattle.bike_judges.specs.Judging.{key_row};
 ghost use Rattle.bike_judges.specs.Lines.{part};
 ghost use Rattle.bike_readings.specs.Readings.{bike_read, order_read, rental_read, station_read, truck_read};
 ghost use Rattle.bike_readings.specs.Views.{bike_of, place_of};
+ghost use Rattle.bike_fleet_rules.specs.declared.bike_tests.TheConstants.{BIKE_AT, STATION_AT, RENTAL_AT, ORDER_AT, TRUCK_AT};
 ghost use Rattle.bike_fleet_rules.specs.Tests.{first_key, has_dock, is_dock_there, is_where_retired, is_ridden, is_carried, is_used, is_truck_there, bike_names, bike_uses, bike_trucks};
 
 use crate::key::number_key;
@@ -52,14 +58,14 @@ pub(crate) struct BikeTrucks;
 
 /// The bicycle of the line's row, where that names one place.
 fn bike_of(line: &Row) -> Option<StoredBike<'_>>
-    ensures { option_map bike_of result ≡ bike_read (part 0 8 line.now) }
+    ensures { option_map bike_of result ≡ bike_read (part BIKE_AT bikes.COLUMNS line.now) }
 {
     read_bike(Part::of(line, BIKE_AT, bikes::COLUMNS))
 }
 
 /// Whether the line's station has the dock.
 fn has_dock(line: &Row, dock: DockNumber) -> bool
-    ensures { result ≡ has_dock dock (station_read (part 14 12 line.now)) }
+    ensures { result ≡ has_dock dock (station_read (part STATION_AT stations.COLUMNS line.now)) }
 {
     match read_station(Part::of(line, STATION_AT, stations::COLUMNS)) {
         Some(station) => dock.get() <= station.docks.get(),
@@ -69,7 +75,7 @@ fn has_dock(line: &Row, dock: DockNumber) -> bool
 
 /// Whether a dock in which the bicycle is is there.
 fn is_dock_there(place: &StoredPlace<'_>, line: &Row) -> bool
-    ensures { result ≡ is_dock_there (place_of place.now) (station_read (part 14 12 line.now)) }
+    ensures { result ≡ is_dock_there (place_of place.now) (station_read (part STATION_AT stations.COLUMNS line.now)) }
 {
     match place {
         StoredPlace::Dock { station: _, dock } => has_dock(line, *dock),
@@ -95,7 +101,7 @@ fn is_where_retired(state: BikeState, place: &StoredPlace<'_>) -> bool
 
 /// Whether the line's rental is open, and the bicycle's.
 fn is_ridden(line: &Row, bike: BicycleNumber) -> bool
-    ensures { result ≡ is_ridden bike (rental_read (part 8 10 line.now)) }
+    ensures { result ≡ is_ridden bike (rental_read (part RENTAL_AT rentals.COLUMNS line.now)) }
 {
     match read_rental(Part::of(line, RENTAL_AT, rentals::COLUMNS)) {
         Some(rental) => rental.closing.is_none() && rental.bike.get() == bike.get(),
@@ -105,7 +111,7 @@ fn is_ridden(line: &Row, bike: BicycleNumber) -> bool
 
 /// Whether the line's order is open, the truck's, and of the type.
 fn is_carried(line: &Row, type_id: &str, truck: TruckNumber) -> bool
-    ensures { result ≡ is_carried type_id.now truck (order_read (part 18 8 line.now)) }
+    ensures { result ≡ is_carried type_id.now truck (order_read (part ORDER_AT orders.COLUMNS line.now)) }
 {
     match read_order(Part::of(line, ORDER_AT, orders::COLUMNS)) {
         Some(order) => order.is_open
@@ -117,8 +123,8 @@ fn is_carried(line: &Row, type_id: &str, truck: TruckNumber) -> bool
 
 /// Whether the bicycle may be where it is, if it is in a rental or on a truck.
 fn is_used(line: &Row, bike: BicycleNumber, type_id: &str, place: &StoredPlace<'_>) -> bool
-    ensures { result ≡ is_used bike type_id.now (place_of place.now) (rental_read (part 8 10 line.now))
-        (order_read (part 18 8 line.now)) }
+    ensures { result ≡ is_used bike type_id.now (place_of place.now)
+        (rental_read (part RENTAL_AT rentals.COLUMNS line.now)) (order_read (part ORDER_AT orders.COLUMNS line.now)) }
 {
     match place {
         StoredPlace::Rental { rental: _ } => is_ridden(line, bike),
@@ -129,7 +135,7 @@ fn is_used(line: &Row, bike: BicycleNumber, type_id: &str, place: &StoredPlace<'
 
 /// Whether a truck on which the bicycle is is there.
 fn is_truck_there(place: &StoredPlace<'_>, line: &Row) -> bool
-    ensures { result ≡ is_truck_there (place_of place.now) (truck_read (part 8 2 line.now)) }
+    ensures { result ≡ is_truck_there (place_of place.now) (truck_read (part TRUCK_AT trucks.COLUMNS line.now)) }
 {
     match place {
         StoredPlace::Truck { truck: _, order: _ } => has_truck(line, TRUCK_AT),

@@ -3,6 +3,7 @@
 ghost use Rattle.std.specs.Prelude.{◌≡◌, ◌+◌, ◌≤◌, option_map};
 ghost use Rattle.sqlite_value.specs.Order.{column};
 ghost use Rattle.sqlite_sql.specs.Ops.{is_null};
+ghost use Rattle.bike_book.specs.declared.columns.bikes.TheConstants as bikes;
 ghost use Rattle.bike_schema.specs.Columns.{text_in, number_in, state_in, ident_in, or_none};
 ghost use Rattle.bike_readings.specs.ColumnReaders.{serial_in};
 ghost use Rattle.bike_readings.specs.ReadOff.{dock_place, truck_place, first_place};
@@ -222,7 +223,7 @@ fn counted_at(line: &Row, first: usize) -> Option<StoredBike<'_>>
 #[tactic(auto, using(crate::proofs::ColumnLemmas::counted_part))]
 pub(crate) fn counted_bike(line: &Row, first: usize) -> Option<StoredBike<'_>>
     requires { first ≤ 16 }
-    ensures { option_map bike_of result ≡ counted_in (part first 8 line.now) }
+    ensures { option_map bike_of result ≡ counted_in (part first bikes.COLUMNS line.now) }
 {
     counted_at(line, first)
 }

@@ -15,6 +15,8 @@ use Rattle.bike_rows.specs.View.{partner}
 use Rattle.bike_operator.specs.declared.records.Bike.{Bike}
 use Rattle.bike_operator.specs.Operator.{Rider, Station}
 use Rattle.bike_book.specs.Tables.{Tables, Riders, Bikes, Plans, Stations}
+use Rattle.bike_book.specs.declared.columns.regions.TheConstants as regions
+use Rattle.bike_book.specs.declared.columns.trucks.TheConstants as trucks
 use Rattle.bike_book.proofs.Keys.{numbers, number_key, texts, text_key}
 use Rattle.bike_readings.specs.Readings.{rider_read, bike_read, plan_read, station_read}
 use Rattle.bike_readings.proofs.CatalogueRows.{plan_reading, station_reading}
@@ -99,7 +101,7 @@ module _ (t : Tables) (up : AreInOrder t) where
     no_bikes = record { rentals = [] }
 
     abbrev bike_line : Row → Row
-    bike_line row = with_one 2 row (partner 1 (column row 6 ∷ []) t.trucks)
+    bike_line row = with_one trucks.COLUMNS row (partner 1 (column row 6 ∷ []) t.trucks)
 
     -- of a bicycle's row by itself
     abbrev more_bikes : BikeSet → Row → BikeSet
@@ -142,7 +144,7 @@ module _ (t : Tables) (up : AreInOrder t) where
     no_stations = record { idents = set.empty }
 
     abbrev station_line : Row → Row
-    station_line row = with_one 2 row (partner 1 (column row 11 ∷ []) t.regions)
+    station_line row = with_one regions.COLUMNS row (partner 1 (column row 11 ∷ []) t.regions)
 
     -- of a station's row by itself
     abbrev more_stations : StationSet → Row → StationSet

@@ -12,6 +12,8 @@ use Rattle.bike_operator.specs.Counts.{is_open, open_rentals}
 use Rattle.bike_operator.specs.Sound.{is_fare}
 use Rattle.bike_rows.specs.View.{partner}
 use Rattle.bike_book.specs.Tables.{Tables}
+use Rattle.bike_book.specs.declared.columns.rentals.TheConstants as rentals
+use Rattle.bike_book.specs.declared.columns.entries.TheConstants as entries
 use Rattle.bike_readings.specs.Readings.{rental_read, entry_read}
 use Rattle.bike_readings.specs.ReadOff.{operator_of}
 use Rattle.bike_judges.specs.Lines.{part, with_one}
@@ -66,10 +68,10 @@ is_booked Refund e r = is_of Refund e r
 
 -- the rental in the line
 abbrev pub line_rental : Row → Option Rental
-line_rental line = option_map (λ r. r.1) (rental_read (part 6 10 line))
+line_rental line = option_map (λ r. r.1) (rental_read (part entries.COLUMNS rentals.COLUMNS line))
 
 abbrev pub entry_line : Tables → Row → Row
-entry_line t row = with_one 10 row (partner 1 (column row 3 ∷ []) t.rentals)
+entry_line t row = with_one rentals.COLUMNS row (partner 1 (column row 3 ∷ []) t.rentals)
 
 -- ---- an entry with those before it
 
@@ -93,14 +95,14 @@ module _ (riders : ℕ → Bool) (now riding : ℕ) where
 
   -- of the entry in a line with its rental, before which so many stand with these fares
   abbrev pub entry_holds : List ℤ → ℕ → Row → Bool
-  entry_holds fares before line = passes fares before line (entry_read (part 0 6 line))
+  entry_holds fares before line = passes fares before line (entry_read (part 0 entries.COLUMNS line))
 
   -- the key of the first line of which it doesn't hold
   abbrev pub first_bad : List ℤ → ℕ → List Row → Option Row
   first_bad fares before [] = None
   first_bad fares before (line ∷ lines) =
       if entry_holds fares before line
-      then first_bad (with_read with_fare fares (entry_read (part 0 6 line))) (before + 1) lines
+      then first_bad (with_read with_fare fares (entry_read (part 0 entries.COLUMNS line))) (before + 1) lines
       else Some (take 1 line)
 
 -- THE RULE of a row of entries, before which so many rows stand

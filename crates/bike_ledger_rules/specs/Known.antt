@@ -7,6 +7,8 @@ use Rattle.bike_operator.specs.declared.records.Place.{Place}
 use Rattle.bike_operator.specs.declared.records.Place.TheVariants as place
 use Rattle.bike_book.specs.Tables.{Tables, Riders, Bikes, Plans, Stations}
 use Rattle.bike_book.specs.Rows.{number_value}
+use Rattle.bike_book.specs.declared.columns.stations.TheConstants as stations
+use Rattle.bike_book.specs.declared.columns.bikes.TheConstants as bikes
 use Rattle.bike_readings.specs.Readings.{rider_read, bike_read, plan_read, station_read}
 use Rattle.bike_readings.specs.Rules.{row_under}
 use Rattle.bike_judges.specs.Lines.{part}
@@ -60,7 +62,8 @@ bike_rental t number =
 
 -- of a line with the bicycle in front
 abbrev pub with_bike : BikeSet → Row → BikeSet
-with_bike a line = record a { rentals = with_read (λ rentals b. with_value rentals b.0 (rental_at b.1.place)) a.rentals (bike_read (part 0 8 line)) }
+with_bike a line =
+    record a { rentals = with_read (λ rentals b. with_value rentals b.0 (rental_at b.1.place)) a.rentals (bike_read (part 0 bikes.COLUMNS line)) }
 
 -- ---- plans and stations
 
@@ -77,7 +80,8 @@ has_station t id = is_some (option_and_then station_read (row_under t Stations (
 
 -- of a line with the station in front
 abbrev pub with_station : StationSet → Row → StationSet
-with_station a line = record a { idents = with_read (λ idents e. set.insert idents e.0) a.idents (station_read (part 0 12 line)) }
+with_station a line =
+    record a { idents = with_read (λ idents e. set.insert idents e.0) a.idents (station_read (part 0 stations.COLUMNS line)) }
 
 -- ---- all that rentals name
 

@@ -12,6 +12,7 @@ use Rattle.sqlite_rules.specs.Lists.{Has}
 use Rattle.bike_rows.specs.View.{row_with, partner}
 use Rattle.bike_operator.specs.Operator.{Station}
 use Rattle.bike_book.specs.Tables.{TableName, Tables, rows_in, Stations, Docks}
+use Rattle.bike_book.specs.declared.columns.stations.TheConstants as stations
 use Rattle.bike_book.proofs.Keys.{texts}
 use Rattle.bike_schema.specs.Layouts.{layout_of}
 use Rattle.bike_readings.specs.Readings.{station_read, dock_read}
@@ -53,7 +54,7 @@ module _ (t : Tables) (up : AreInOrder t) (wide : AreWide t) where
   station_wide id r is = wide Stations r (under_has 1 (Text id ∷ []) t.stations r is).0
 
   abbrev pub joined_dock : Row → Row
-  joined_dock row = with_one 12 row (partner 1 (map (column row) (0 ∷ [])) t.stations)
+  joined_dock row = with_one stations.COLUMNS row (partner 1 (map (column row) (0 ∷ [])) t.stations)
 
   -- what the parts of a line are read as, where the dock spells something
   line_reads : (row : Row) (d : List ℕ × ℕ × Bool) → dock_read row ≡ Some d → is_good_dock (joined_dock row) ≡ has_dock (Some d) (option_and_then station_read (row_with 1 (Text d.0 ∷ []) t.stations))

@@ -12,6 +12,8 @@ use Rattle.bike_operator.specs.declared.limits.TheConstants.{MOST_STATIONS}
 use Rattle.bike_operator.specs.Rows.{RegionRow}
 use Rattle.bike_operator.specs.Operator.{Station}
 use Rattle.bike_book.specs.Tables.{Tables, Meta, Stations}
+use Rattle.bike_book.specs.declared.columns.regions.TheConstants as regions
+use Rattle.bike_book.specs.declared.columns.stations.TheConstants as stations
 use Rattle.bike_book.specs.Rows.{number_value}
 use Rattle.bike_readings.specs.Readings.{meta_read, region_read, station_read}
 use Rattle.bike_readings.proofs.CatalogueRows.{station_reading}
@@ -68,7 +70,7 @@ module _ (t : Tables) (up : AreInOrder t) (wide : AreWide t) (now : Option ℕ) 
 
   -- the region of a station, where its line has it
   abbrev region_beside : Row → Option (List ℕ × RegionRow)
-  region_beside row = region_read (part 12 2 (with_region t row))
+  region_beside row = region_read (part stations.COLUMNS regions.COLUMNS (with_region t row))
 
   -- what is asked of the row of a station
   asked : (below : ℕ) (row : Row) → Has t.stations row → is_good_row now t below row ≡ stands_well now below (station_read row) (region_beside row)

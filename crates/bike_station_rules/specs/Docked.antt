@@ -1,10 +1,11 @@
 -- Bicycles in docks, of whatever rows: the dock that a row names first.
-use Rattle.std.specs.Prelude.{ℕ, Bool, ◌&&◌, nat_le, length, if◌then◌else◌, Option, Some, None, is_some, option_and_then}
+use Rattle.std.specs.Prelude.{ℕ, ◌+◌, Bool, ◌&&◌, nat_le, length, if◌then◌else◌, Option, Some, None, is_some, option_and_then}
 use Rattle.sqlite_value.specs.declared.value.Value.{Value}
 use Rattle.sqlite_value.specs.Order.{Row, column}
 use Rattle.bike_operator.specs.declared.records.Bike.{Bike}
 use Rattle.bike_operator.specs.declared.records.Place.{Place}
 use Rattle.bike_operator.specs.declared.records.Place.TheVariants as place
+use Rattle.bike_book.specs.declared.columns.bikes.TheConstants as bikes
 use Rattle.bike_schema.specs.Columns.{state_in, ident_in, or_none}
 use Rattle.bike_readings.specs.ColumnReaders.{numbered_in, dock_in, serial_in}
 use Rattle.bike_readings.specs.ReadOff.{bike_in}
@@ -33,5 +34,7 @@ dock_named station dock rental truck order = if is_some (ident_in station) && ke
 -- the dock that the bicycle is in of the columns of a line from the fourth on
 abbrev pub docked_columns : Row → Option ℕ
 docked_columns line =
-    if nat_le 11 (length line) && (is_some (numbered_in (column line 3)) && (is_some (ident_in (column line 4)) && is_some (state_in (column line 5))))
-    then dock_named (column line 6) (column line 7) (column line 8) (column line 9) (column line 10) else None
+    if nat_le (3 + bikes.COLUMNS) (length line) && (is_some (numbered_in (column line (3 + bikes.BIKE)))
+    && (is_some (ident_in (column line (3 + bikes.TYPE_ID))) && is_some (state_in (column line (3 + bikes.STATE)))))
+    then dock_named (column line (3 + bikes.STATION_ID)) (column line (3 + bikes.DOCK)) (column line (3 + bikes.RENTAL))
+    (column line (3 + bikes.TRUCK)) (column line (3 + bikes.ORD)) else None

@@ -1,6 +1,8 @@
 -- The test of docks: a line has a dock's row and that of its station.
 use Rattle.std.specs.Prelude.{ℕ, ℤ, leb, List, Bool, false, Option, Some, None}
 use Rattle.sqlite_value.specs.Order.{Row}
+use Rattle.bike_book.specs.declared.columns.stations.TheConstants as stations
+use Rattle.bike_book.specs.declared.columns.docks.TheConstants as docks
 use Rattle.bike_operator.specs.Operator.{Station}
 use Rattle.bike_readings.specs.Readings.{dock_read, station_read}
 use Rattle.bike_judges.specs.Lines.{part}
@@ -13,4 +15,4 @@ has_dock None station = false
 
 -- the dock is one of its station's
 abbrev pub is_good_dock : Row → Bool
-is_good_dock line = has_dock (dock_read (part 0 3 line)) (station_read (part 3 12 line))
+is_good_dock line = has_dock (dock_read (part 0 docks.COLUMNS line)) (station_read (part docks.COLUMNS stations.COLUMNS line))

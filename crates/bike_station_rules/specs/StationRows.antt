@@ -1,6 +1,8 @@
 -- The test of stations by their rows: how many there may be, that each reported by now, and that its region is there.
 use Rattle.std.specs.Prelude.{ℕ, ℤ, leb, nat_lt, List, Bool, true, false, ◌&&◌, Option, Some, None, is_some}
 use Rattle.sqlite_value.specs.Order.{Row}
+use Rattle.bike_book.specs.declared.columns.regions.TheConstants as regions
+use Rattle.bike_book.specs.declared.columns.stations.TheConstants as stations
 use Rattle.bike_operator.specs.Rows.{RegionRow}
 use Rattle.bike_operator.specs.declared.limits.TheConstants.{MOST_STATIONS}
 use Rattle.bike_operator.specs.Operator.{Station}
@@ -23,4 +25,5 @@ stands_well now before (Some e) region = (nat_lt before MOST_STATIONS && is_by n
 
 -- a line has a station's row and that of its region
 abbrev pub is_good_station : Option ℕ → ℕ → Row → Bool
-is_good_station now before line = stands_well now before (station_read (part 0 12 line)) (region_read (part 12 2 line))
+is_good_station now before line =
+    stands_well now before (station_read (part 0 stations.COLUMNS line)) (region_read (part stations.COLUMNS regions.COLUMNS line))

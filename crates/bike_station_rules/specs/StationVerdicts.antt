@@ -5,6 +5,7 @@ use Rattle.sqlite.specs.Effect.{Database}
 use Rattle.bike_rows.specs.View.{row_with, partner}
 use Rattle.bike_book.specs.Tables.{Tables, Stations}
 use Rattle.bike_book.specs.Rows.{number_value}
+use Rattle.bike_book.specs.declared.columns.regions.TheConstants as regions
 use Rattle.bike_schema.specs.Tables.{tables_of}
 use Rattle.bike_readings.specs.Readings.{meta_read}
 use Rattle.bike_judges.specs.Judging.{key_row}
@@ -24,7 +25,7 @@ now_in row = option_map (λ e. e.1) (option_and_then meta_read row)
 
 -- a station's row with that of its region
 abbrev pub with_region : Tables → Row → Row
-with_region t row = with_one 2 row (partner 1 (column row 11 ∷ []) t.regions)
+with_region t row = with_one regions.COLUMNS row (partner 1 (column row 11 ∷ []) t.regions)
 
 abbrev pub is_good_row : Option ℕ → Tables → ℕ → Row → Bool
 is_good_row now t n row = is_good_station now n (with_region t row)

@@ -5,6 +5,9 @@ use Rattle.std.specs.Str.{bytes_eq}
 use Rattle.sqlite_value.specs.declared.value.Value.{Value}
 use Rattle.sqlite_value.specs.declared.value.Value.TheVariants.{Int, Text}
 use Rattle.sqlite_value.specs.Order.{Row, column}
+use Rattle.bike_book.specs.declared.columns.stations.TheConstants as stations
+use Rattle.bike_book.specs.declared.columns.docks.TheConstants as docks
+use Rattle.bike_book.specs.declared.columns.bikes.TheConstants as bikes
 use Rattle.bike_operator.specs.Operator.{Station}
 use Rattle.bike_readings.specs.Readings.{dock_read, station_read}
 use Rattle.bike_judges.specs.Lines.{part}
@@ -33,10 +36,10 @@ broken_dock (Some d) = if d.2 then Some d.1 else None
 
 -- the dock that a line says is broken, and the dock that it says holds a bicycle
 abbrev pub broken_at : Row → Option ℕ
-broken_at line = if is_place 1 (column line 1) then broken_dock (dock_read (part 3 3 line)) else None
+broken_at line = if is_place 1 (column line 1) then broken_dock (dock_read (part 3 docks.COLUMNS line)) else None
 
 abbrev pub taken_at : Row → Option ℕ
-taken_at line = if is_place 2 (column line 1) then docked_in (part 3 8 line) else None
+taken_at line = if is_place 2 (column line 1) then docked_in (part 3 bikes.COLUMNS line) else None
 
 -- ---- accounts
 
@@ -46,7 +49,7 @@ station_opening line (Some e) =
     Head (record { head = line; docks = e.1.row.docks; free = e.2; broken = e.3; is_broken = replicate PLACES false; is_taken = replicate PLACES false })
 
 abbrev pub begins : Row → Opening StationAccount
-begins line = if is_place 0 (column line 1) then station_opening line (station_read (part 3 12 line)) else Item
+begins line = if is_place 0 (column line 1) then station_opening line (station_read (part 3 stations.COLUMNS line)) else Item
 
 abbrev pub owner : StationAccount → Value
 owner a = column a.head 0

@@ -2,9 +2,11 @@
 
 ghost use Rattle.std.specs.Prelude.{◌≡◌, ◌≤◌, [], ◌∷◌, IfOk, pos, is_some, option_map};
 ghost use Rattle.sqlite_value.specs.Order.{column};
+ghost use Rattle.bike_book.specs.declared.columns.bikes.TheConstants as bikes;
 ghost use Rattle.bike_judges.specs.Judging.{key_row};
 ghost use Rattle.bike_judges.specs.Lines.{part};
 ghost use Rattle.bike_station_rules.specs.Stations.{is_same_text, is_place};
+ghost use Rattle.bike_station_rules.specs.declared.lines.TheConstants.{ROW_AT, PLACE, DOCK, RENTAL, TRUCK, ORDER};
 ghost use Rattle.bike_schema.specs.Columns.{text_in, ident_in};
 ghost use Rattle.bike_station_rules.specs.Docked.{docked_in, docked_columns, dock_named, keep_bounds};
 
@@ -130,7 +132,7 @@ fn has_ident(line: &Row, at: usize) -> bool
 
 /// Whether the columns of a rental, a truck and an order are each NULL or keep their bounds.
 fn keep_bounds(line: &Row) -> bool
-    ensures { result ≡ keep_bounds (column line.now 8) (column line.now 9) (column line.now 10) }
+    ensures { result ≡ keep_bounds (column line.now RENTAL) (column line.now TRUCK) (column line.now ORDER) }
 {
     let rental: Result<Option<RentalNumber>, StatementFault> = optional_number_at(line, RENTAL);
     let truck: Result<Option<TruckNumber>, StatementFault> = optional_number_at(line, TRUCK);
@@ -140,8 +142,8 @@ fn keep_bounds(line: &Row) -> bool
 
 /// The dock that the columns of a place name first.
 fn dock_named(line: &Row) -> Option<DockNumber>
-    ensures { result ≡ dock_named (column line.now 6) (column line.now 7) (column line.now 8)
-        (column line.now 9) (column line.now 10) }
+    ensures { result ≡ dock_named (column line.now PLACE) (column line.now DOCK)
+        (column line.now RENTAL) (column line.now TRUCK) (column line.now ORDER) }
 {
     if !has_ident(line, PLACE) || !keep_bounds(line) {
         return None;
@@ -169,7 +171,7 @@ fn dock_in_columns(line: &Row) -> Option<DockNumber>
 /// The dock that the bicycle of the line is in: its row stands from the fourth column on.
 #[tactic(auto, using(crate::proofs::DockedRows::docked_is))]
 pub(crate) fn docked_at(line: &Row) -> Option<DockNumber>
-    ensures { result ≡ docked_in (part 3 8 line.now) }
+    ensures { result ≡ docked_in (part ROW_AT bikes.COLUMNS line.now) }
 {
     dock_in_columns(line)
 }

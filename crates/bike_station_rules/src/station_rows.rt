@@ -1,8 +1,10 @@
 //! The test of stations by their rows, each with its region.
 
 ghost use Rattle.std.specs.Prelude.{◌≡◌, take, option_map};
+ghost use Rattle.bike_book.specs.declared.columns.regions.TheConstants as regions;
 ghost use Rattle.bike_readings.specs.Readings.{region_read};
 ghost use Rattle.bike_judges.specs.Lines.{part};
+ghost use Rattle.bike_station_rules.specs.declared.station_rows.TheConstants.{REGION_AT};
 ghost use Rattle.bike_station_rules.specs.StationRows.{is_by, has_region, is_good_station};
 
 use bike_book::columns::{regions, stations};
@@ -39,7 +41,8 @@ fn is_by(now: Option<Moment>, moment: Moment) -> bool
 
 /// Whether the region is there that a station names, if it names one.
 fn has_region(region: Option<&str>, line: &Row) -> bool
-    ensures { result ≡ has_region (option_map (λ text. text.now) region.entry) (region_read (part 12 2 line.now)) }
+    ensures { result ≡ has_region (option_map (λ text. text.now) region.entry)
+        (region_read (part REGION_AT regions.COLUMNS line.now)) }
 {
     match region {
         Some(_) => read_region(Part::of(line, REGION_AT, regions::COLUMNS)).is_some(),
