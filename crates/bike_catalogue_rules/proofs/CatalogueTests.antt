@@ -61,7 +61,7 @@ region_test t = record {
 
 module _ (t : Tables) (up : AreInOrder t) (wide : AreWide t) where
   -- the plan that a vehicle type names
-  named : (r : Row) (x : List ℕ × TypeRow) → Has t.types r → type_read r ≡ Some x → has_plan (plan_line t 5 r) ≡ is_some (fin.get (operator_of t).plans x.1.plan_id)
+  named : (r : Row) (x : List ℕ × TypeRow) → Has t.types r → type_read r ≡ Some x → has_plan 6 (plan_line t 5 r) ≡ is_some (fin.get (operator_of t).plans x.1.plan_id)
   named r x has e = has_plan_is t up wide r 5 x.1.plan_id (wide.types r has) (ap (λ (z : Row). column z 5) (type_reading.sound r x e).0)
 
   own : (r : Row) → Has t.types r → part 0 6 (plan_line t 5 r) ≡ r
@@ -71,14 +71,14 @@ module _ (t : Tables) (up : AreInOrder t) (wide : AreWide t) where
   type_test = record {
     may_lack = λ key. tt;
     good = λ below r has passes.
-        let both = both_hold (nat_lt below MOST_TYPES) (has_plan (plan_line t 5 r) && is_some (type_read (part 0 6 (plan_line t 5 r)))) passes in
-        let there = both_hold (has_plan (plan_line t 5 r)) (is_some (type_read (part 0 6 (plan_line t 5 r)))) both.1 in
+        let both = both_hold (nat_lt below MOST_TYPES) (has_plan 6 (plan_line t 5 r) && is_some (type_read (part 0 6 (plan_line t 5 r)))) passes in
+        let there = both_hold (has_plan 6 (plan_line t 5 r)) (is_some (type_read (part 0 6 (plan_line t 5 r)))) both.1 in
         good_some (IsGoodType (operator_of t) below) (type_read r) (ap (λ (z : Row). is_some (type_read z)) (sym (own r has)) ∙ there.1) (λ x e.
         let law = (type_reading.sound r x e).1 in
         record { room = ltb-true below MOST_TYPES both.0; good = record { id_is = law.id_is; good = law.good; plan = sym (named r x has e) ∙ there.0 } });
     passes = λ below r has good.
         let it = some_with (IsGoodType (operator_of t) below) (type_read r) good in
-        and_from (nat_lt below MOST_TYPES) (has_plan (plan_line t 5 r) && is_some (type_read (part 0 6 (plan_line t 5 r)))) (lt-ltb below MOST_TYPES it.fact.room)
-        (and_from (has_plan (plan_line t 5 r)) (is_some (type_read (part 0 6 (plan_line t 5 r)))) (named r it.value has it.value_is ∙ it.fact.good.plan)
+        and_from (nat_lt below MOST_TYPES) (has_plan 6 (plan_line t 5 r) && is_some (type_read (part 0 6 (plan_line t 5 r)))) (lt-ltb below MOST_TYPES it.fact.room)
+        (and_from (has_plan 6 (plan_line t 5 r)) (is_some (type_read (part 0 6 (plan_line t 5 r)))) (named r it.value has it.value_is ∙ it.fact.good.plan)
         (ap (λ (z : Row). is_some (type_read z)) (own r has) ∙ ap is_some it.value_is));
   }

@@ -39,7 +39,7 @@ plan_there t up row at id names =
     is_there (plan_in t.segments) (plan_key t.segments) plan_read (λ r. mapped_some (with_segments t.segments) (plan_read r)) 5 t.plans (up Plans) refl (column row at) id names
 
 pub has_plan_is : (t : Tables) → AreInOrder t → AreWide t → (row : Row) (at : ℕ) (id : List ℕ) → length row ≡ 6 → column row at ≡ Text id
-    → has_plan (plan_line t at row) ≡ fin.contains_key (operator_of t).plans id
+    → has_plan 6 (plan_line t at row) ≡ fin.contains_key (operator_of t).plans id
 has_plan_is t up wide row at id six names =
     ap (λ (r : Row). is_some (plan_read r)) (last_part 6 5 row (or_nulls 5 (partner 1 (column row at ∷ []) t.plans)) six (beside_wide 5 t.plans wide.plans (column row at) id names))
     ∙ plan_there t up row at id names

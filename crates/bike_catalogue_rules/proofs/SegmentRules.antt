@@ -63,12 +63,12 @@ module _ (t : Tables) (up : AreInOrder t) (wide : AreWide t) where
   own : (r : Row) → Has rows r → part 0 6 (line r) ≡ r
   own r has = own_part 6 r _ (wide.segments r has)
 
-  plan_there : (r : Row) (x : List ℕ × ℕ × SegmentRow) → Has rows r → segment_read r ≡ Some x → has_plan (line r) ≡ is_some (fin.get (operator_of t).plans x.0)
+  plan_there : (r : Row) (x : List ℕ × ℕ × SegmentRow) → Has rows r → segment_read r ≡ Some x → has_plan 6 (line r) ≡ is_some (fin.get (operator_of t).plans x.0)
   plan_there r x has e = has_plan_is t up wide r 0 x.0 (wide.segments r has) (ap (λ (z : Row). column z 0) (segment_reading.sound r x e).0)
 
   named : (r : Row) (e : List ℕ × ℕ) → Has rows r → name r ≡ Some e → IsNamed r e
-  named r e has is = go (has_plan (line r)) refl is where
-    go : (b : Bool) → has_plan (line r) ≡ b → cond b (option_map (λ (x : List ℕ × ℕ × SegmentRow). (x.0, x.1)) (segment_read (part 0 6 (line r)))) None ≡ Some e → IsNamed r e
+  named r e has is = go (has_plan 6 (line r)) refl is where
+    go : (b : Bool) → has_plan 6 (line r) ≡ b → cond b (option_map (λ (x : List ℕ × ℕ × SegmentRow). (x.0, x.1)) (segment_read (part 0 6 (line r)))) None ≡ Some e → IsNamed r e
     go false h is = absurd cc
     go true h is = by (segment_read r) refl (ap (λ (z : Row). option_map (λ (x : List ℕ × ℕ × SegmentRow). (x.0, x.1)) (segment_read z)) (sym (own r has)) ∙ is) where
       by : (o : Option (List ℕ × ℕ × SegmentRow)) → segment_read r ≡ o → option_map (λ (x : List ℕ × ℕ × SegmentRow). (x.0, x.1)) o ≡ Some e → IsNamed r e
@@ -80,7 +80,7 @@ module _ (t : Tables) (up : AreInOrder t) (wide : AreWide t) where
 
   name_is : (r : Row) (id : List ℕ) (seq : ℕ) (g : SegmentRow) (p : PlanRow) → Has rows r → segment_read r ≡ Some (id, seq, g) → fin.get (operator_of t).plans id ≡ Some p → name r ≡ Some (id, seq)
   name_is r id seq g p has read found =
-      let h : has_plan (line r) ≡ true = plan_there r (id, seq, g) has read ∙ ap is_some found in
+      let h : has_plan 6 (line r) ≡ true = plan_there r (id, seq, g) has read ∙ ap is_some found in
       ap (λ (b : Bool). cond b (option_map (λ (x : List ℕ × ℕ × SegmentRow). (x.0, x.1)) (segment_read (part 0 6 (line r)))) None) h
       ∙ ap (λ (z : Row). option_map (λ (x : List ℕ × ℕ × SegmentRow). (x.0, x.1)) (segment_read z)) (own r has) ∙ ap (option_map (λ (x : List ℕ × ℕ × SegmentRow). (x.0, x.1))) read
 

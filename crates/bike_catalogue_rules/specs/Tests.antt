@@ -23,18 +23,18 @@ is_plan before line = nat_lt before MOST_PLANS && is_some (plan_read line)
 abbrev pub is_region : ℕ → Row → Bool
 is_region before line = nat_lt before MOST_REGIONS && is_some (region_read line)
 
--- the plan that a vehicle type names is there, or a segment, whose row is as wide as that of a type
-abbrev pub has_plan : Row → Bool
-has_plan line = is_some (plan_read (part types.COLUMNS plans.COLUMNS line))
+-- the plan is there whose row begins in this column, behind that of what names it
+abbrev pub has_plan : ℕ → Row → Bool
+has_plan at line = is_some (plan_read (part at plans.COLUMNS line))
 
 abbrev pub is_type : ℕ → Row → Bool
-is_type before line = nat_lt before MOST_TYPES && (has_plan line && is_some (type_read (part 0 types.COLUMNS line)))
+is_type before line = nat_lt before MOST_TYPES && (has_plan types.COLUMNS line && is_some (type_read (part 0 types.COLUMNS line)))
 
 -- ---- segments, each after the one before it
 
 -- the plan of a segment, where it is there, and the segment's number
 abbrev pub segment_name : Row → Option (List ℕ × ℕ)
-segment_name line = if has_plan line then option_map (λ e. (e.0, e.1)) (segment_read (part 0 segments.COLUMNS line)) else None
+segment_name line = if has_plan segments.COLUMNS line then option_map (λ e. (e.0, e.1)) (segment_read (part 0 segments.COLUMNS line)) else None
 
 -- it is the one after this in a plan
 abbrev pub comes_after : Option (List ℕ × ℕ) → List ℕ × ℕ → Bool

@@ -20,6 +20,9 @@ use sqlite::{Alter, Connection, Row};
 /// Where the row of a segment stands in its line.
 const SEGMENT_AT: usize = 0;
 
+/// Where that of its plan stands.
+const PLAN_AT: usize = SEGMENT_AT + segments::COLUMNS;
+
 /// A segment by its plan, where that is there, and its number in it.
 #[derive(Clone, Copy)]
 struct SegmentName<'a> {
@@ -31,7 +34,7 @@ struct SegmentName<'a> {
 fn segment_name(line: &Row) -> Option<SegmentName<'_>>
     ensures { option_map (λ e. (e.plan.now, e.number)) result ≡ segment_name line.now }
 {
-    if !has_plan(line) {
+    if !has_plan(line, PLAN_AT) {
         return None;
     }
     match read_segment(Part::of(line, SEGMENT_AT, segments::COLUMNS)) {

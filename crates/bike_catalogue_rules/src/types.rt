@@ -18,14 +18,14 @@ use sqlite::{Alter, Connection, Row};
 /// Where the row of a vehicle type stands in its line.
 const TYPE_AT: usize = 0;
 
-/// Where that of its plan stands. In the line of a segment it stands in the same column, since both rows are of one width.
+/// Where that of its plan stands.
 const PLAN_AT: usize = TYPE_AT + types::COLUMNS;
 
-/// Whether the plan is there that a segment or a vehicle type names.
-pub(crate) fn has_plan(line: &Row) -> bool
-    ensures { result ≡ has_plan line.now }
+/// Whether the plan is there whose row begins in this column, behind that of the segment or vehicle type which names it.
+pub(crate) fn has_plan(line: &Row, at: usize) -> bool
+    ensures { result ≡ has_plan at line.now }
 {
-    read_plan(Part::of(line, PLAN_AT, plans::COLUMNS)).is_some()
+    read_plan(Part::of(line, at, plans::COLUMNS)).is_some()
 }
 
 /// A row of `types` spells a vehicle type, its default plan is there, and there is room for it.
@@ -40,7 +40,7 @@ impl LineTest for TypeTest {
     fn is_good(&self, before: u64, line: &Row) -> Result<bool, StatementFault> {
         Ok(
             before < u64::from(MOST_TYPES)
-                && has_plan(line)
+                && has_plan(line, PLAN_AT)
                 && read_type(Part::of(line, TYPE_AT, types::COLUMNS)).is_some(),
         )
     }
