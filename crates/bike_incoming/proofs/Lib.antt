@@ -2,3 +2,4 @@ pub mod Once
 pub mod Receiving
 pub mod Spelled
 pub mod Objects
+pub mod Keys

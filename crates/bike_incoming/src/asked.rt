@@ -83,15 +83,12 @@ fn read_object(alloc: Global, bytes: &[u8]) -> Result<Option<Value>, AllocError>
     }
 }
 
-/// The request of that caller with the command and the key that a body has; one that is missing, of another kind or out of
-/// its bounds is a bad field.
+/// The request of that caller with the command and the key that a body has. A command that is missing, of another kind or out of its
+/// bounds is a bad field.
 #[tactic(auto, unfolding(crate::specs::Asked::request_of))]
-fn applied(caller: Caller, command: Option<Command>, key: Option<RequestKey>) -> Asked
-    ensures { (body : Data) → key ≡ key_in body → result ≡ application_of (request_of caller command body) }
+fn applied(caller: Caller, command: Option<Command>, key: RequestKey) -> Asked
+    ensures { (body : Data) → key_in body ≡ Some key → result ≡ application_of (request_of caller command body) }
 {
-    let Some(key) = key else {
-        return Asked::Reject(Rejection::BadField);
-    };
     match command {
         Some(command) => Asked::Apply(Request {
             caller,
@@ -102,21 +99,8 @@ fn applied(caller: Caller, command: Option<Command>, key: Option<RequestKey>) ->
     }
 }
 
-/// The request of that caller whose key the body has. An error is a want of memory.
-fn apply(
-    alloc: Global,
-    caller: Caller,
-    command: Option<Command>,
-    body: &Value,
-) -> Result<Asked, AllocError>
-    ensures { IfOk result (λ asked. asked ≡ application_of (request_of caller command (view body.now))) }
-{
-    // The key is read first, and a command is freed in one function alone: proofs of what is freed are the longest.
-    let key = key_in(alloc, body)?;
-    Ok(applied(caller, command, key))
-}
-
 /// A rider starts a rental.
+#[tactic(auto, using(crate::proofs::Keys::without_key))]
 fn ask_rider(alloc: Global, method: &[u8], part: &str, body: &[u8]) -> Result<Asked, AllocError>
     ensures asked { IfOk result (λ asked. asked ≡ asked_by_rider method.now part.now body.now) }
     ensures memory { OnErr result (MayAct method.now (rider_in part.now)) }
@@ -130,11 +114,15 @@ fn ask_rider(alloc: Global, method: &[u8], part: &str, body: &[u8]) -> Result<As
     let Some(object) = read_object(alloc, body)? else {
         return Ok(Asked::Reject(Rejection::BadRequest));
     };
+    let Some(key) = key_in(alloc, &object)? else {
+        return Ok(Asked::Reject(Rejection::BadField));
+    };
     let command = read_start(alloc, rider, &object)?;
-    apply(alloc, Caller::Rider(rider), command, &object)
+    Ok(applied(Caller::Rider(rider), command, key))
 }
 
 /// A station reports what was done at one of its docks.
+#[tactic(auto, using(crate::proofs::Keys::without_key))]
 fn ask_dock(
     alloc: Global,
     route: Route,
@@ -155,11 +143,15 @@ fn ask_dock(
         return Ok(Asked::Reject(Rejection::BadRequest));
     };
     let station = Ident::of(alloc, station)?;
+    let Some(key) = key_in(alloc, &object)? else {
+        return Ok(Asked::Reject(Rejection::BadField));
+    };
     let command = read_dock_command(alloc, route, &station, &object)?;
-    apply(alloc, Caller::Dock(station), command, &object)
+    Ok(applied(Caller::Dock(station), command, key))
 }
 
 /// A truck's crew reports what it did.
+#[tactic(auto, using(crate::proofs::Keys::without_key))]
 fn ask_crew(
     alloc: Global,
     route: Route,
@@ -179,11 +171,15 @@ fn ask_crew(
     let Some(object) = read_object(alloc, body)? else {
         return Ok(Asked::Reject(Rejection::BadRequest));
     };
+    let Some(key) = key_in(alloc, &object)? else {
+        return Ok(Asked::Reject(Rejection::BadField));
+    };
     let command = read_crew_command(route, truck, &object);
-    apply(alloc, Caller::Crew(truck), command, &object)
+    Ok(applied(Caller::Crew(truck), command, key))
 }
 
 /// The office sends a command.
+#[tactic(auto, using(crate::proofs::Keys::without_key))]
 fn ask_office(alloc: Global, method: &[u8], body: &[u8]) -> Result<Asked, AllocError>
     ensures asked { IfOk result (λ asked. asked ≡ asked_by_office method.now body.now) }
     ensures memory { OnErr result (IsPost method.now) }
@@ -194,8 +190,11 @@ fn ask_office(alloc: Global, method: &[u8], body: &[u8]) -> Result<Asked, AllocE
     let Some(object) = read_object(alloc, body)? else {
         return Ok(Asked::Reject(Rejection::BadRequest));
     };
+    let Some(key) = key_in(alloc, &object)? else {
+        return Ok(Asked::Reject(Rejection::BadField));
+    };
     let command = read_office(alloc, &object)?;
-    apply(alloc, Caller::Office, command, &object)
+    Ok(applied(Caller::Office, command, key))
 }
 
 /// What a request asks for whose path takes that route, with that part in the place of its parameter.
