@@ -1,5 +1,5 @@
 -- A name with what has it beside it: the station and the region of its identifier, or the vehicle type and the plan.
-use Rattle.std.proofs.Common.{◌≡◌, ℕ, ℤ, List, [], ◌∷◌, ◌++◌, length, Bool, true, false, ◌&&◌, Option, Some, is_some, refl, ap, ◌∙◌}
+use Rattle.std.proofs.Common.{◌≡◌, ℕ, ◌+◌, ℤ, List, [], ◌∷◌, ◌++◌, length, Bool, true, false, ◌&&◌, Option, Some, is_some, refl, ap, ◌∙◌}
 use Rattle.std.specs.Prelude.{take}
 use Rattle.std.specs.FinMap as fin
 use Rattle.sqlite_value.specs.declared.value.Value.TheVariants.{Text}
@@ -16,6 +16,7 @@ use Rattle.bike_book.specs.declared.columns.plans.TheConstants as plans
 use Rattle.bike_book.specs.declared.columns.types.TheConstants as types
 use Rattle.bike_book.specs.declared.columns.regions.TheConstants as regions
 use Rattle.bike_book.specs.declared.columns.stations.TheConstants as stations
+use Rattle.bike_book.specs.declared.columns.more_names.TheConstants as more_names
 use Rattle.bike_book.proofs.Keys.{text_key, texts}
 use Rattle.bike_readings.specs.Readings.{plan_read, type_read, region_read, station_read, name_read}
 use Rattle.bike_readings.specs.ReadOff.{station_in, operator_of}
@@ -81,43 +82,43 @@ module _ (t : Tables) (up : AreInOrder t) (wide : AreWide t) (row : Row) (has : 
   id_is = ap (λ (r : Row). column r 1) (name_reading.sound row e is).0
 
   -- the row itself
-  own_name : (rest : Row) → name_read (part 0 4 (row ++ rest)) ≡ Some e
-  own_name rest = ap name_read (own_part 4 row rest (wide.more_names row has)) ∙ is
+  own_name : (rest : Row) → name_read (part 0 more_names.COLUMNS (row ++ rest)) ≡ Some e
+  own_name rest = ap name_read (own_part more_names.COLUMNS row rest (wide.more_names row has)) ∙ is
 
-  stations_wide : length (beside 12 t.stations) ≡ 12
-  stations_wide = beside_wide 12 t.stations wide.stations (column row 1) e.1 id_is
+  stations_wide : length (beside stations.COLUMNS t.stations) ≡ stations.COLUMNS
+  stations_wide = beside_wide stations.COLUMNS t.stations wide.stations (column row 1) e.1 id_is
 
-  regions_wide : length (beside 2 t.regions) ≡ 2
-  regions_wide = beside_wide 2 t.regions wide.regions (column row 1) e.1 id_is
+  regions_wide : length (beside regions.COLUMNS t.regions) ≡ regions.COLUMNS
+  regions_wide = beside_wide regions.COLUMNS t.regions wide.regions (column row 1) e.1 id_is
 
-  types_wide : length (beside 6 t.types) ≡ 6
-  types_wide = beside_wide 6 t.types wide.types (column row 1) e.1 id_is
+  types_wide : length (beside types.COLUMNS t.types) ≡ types.COLUMNS
+  types_wide = beside_wide types.COLUMNS t.types wide.types (column row 1) e.1 id_is
 
-  plans_wide : length (beside 5 t.plans) ≡ 5
-  plans_wide = beside_wide 5 t.plans wide.plans (column row 1) e.1 id_is
+  plans_wide : length (beside plans.COLUMNS t.plans) ≡ plans.COLUMNS
+  plans_wide = beside_wide plans.COLUMNS t.plans wide.plans (column row 1) e.1 id_is
 
-  station_there : is_some (station_read (part 4 12 (places_line t row))) ≡ fin.contains_key s.stations e.1
+  station_there : is_some (station_read (part more_names.COLUMNS stations.COLUMNS (places_line t row))) ≡ fin.contains_key s.stations e.1
   station_there =
-      ap (λ (r : Row). is_some (station_read r)) (second_part 4 12 row (beside 12 t.stations) (beside 2 t.regions) (wide.more_names row has) stations_wide)
-      ∙ is_there station_in station_key station_read (λ r. mapped_some station_part (station_read r)) 12 t.stations (up Stations) refl (column row 1) e.1 id_is
+      ap (λ (r : Row). is_some (station_read r)) (second_part more_names.COLUMNS stations.COLUMNS row (beside stations.COLUMNS t.stations) (beside regions.COLUMNS t.regions) (wide.more_names row has) stations_wide)
+      ∙ is_there station_in station_key station_read (λ r. mapped_some station_part (station_read r)) stations.COLUMNS t.stations (up Stations) refl (column row 1) e.1 id_is
 
-  region_there : is_some (region_read (part 16 2 (places_line t row))) ≡ fin.contains_key s.regions e.1
+  region_there : is_some (region_read (part (more_names.COLUMNS + stations.COLUMNS) regions.COLUMNS (places_line t row))) ≡ fin.contains_key s.regions e.1
   region_there =
-      ap (λ (r : Row). is_some (region_read r)) (third_part 4 12 2 row (beside 12 t.stations) (beside 2 t.regions) (wide.more_names row has) stations_wide regions_wide)
-      ∙ is_there region_read region_key region_read (λ r. refl) 2 t.regions (up Regions) refl (column row 1) e.1 id_is
+      ap (λ (r : Row). is_some (region_read r)) (third_part more_names.COLUMNS stations.COLUMNS regions.COLUMNS row (beside stations.COLUMNS t.stations) (beside regions.COLUMNS t.regions) (wide.more_names row has) stations_wide regions_wide)
+      ∙ is_there region_read region_key region_read (λ r. refl) regions.COLUMNS t.regions (up Regions) refl (column row 1) e.1 id_is
 
-  type_there : is_some (type_read (part 4 6 (offers_line t row))) ≡ fin.contains_key s.types e.1
+  type_there : is_some (type_read (part more_names.COLUMNS types.COLUMNS (offers_line t row))) ≡ fin.contains_key s.types e.1
   type_there =
-      ap (λ (r : Row). is_some (type_read r)) (second_part 4 6 row (beside 6 t.types) (beside 5 t.plans) (wide.more_names row has) types_wide)
-      ∙ is_there type_read type_key type_read (λ r. refl) 6 t.types (up Types) refl (column row 1) e.1 id_is
+      ap (λ (r : Row). is_some (type_read r)) (second_part more_names.COLUMNS types.COLUMNS row (beside types.COLUMNS t.types) (beside plans.COLUMNS t.plans) (wide.more_names row has) types_wide)
+      ∙ is_there type_read type_key type_read (λ r. refl) types.COLUMNS t.types (up Types) refl (column row 1) e.1 id_is
 
-  named_plan_there : is_some (plan_read (part 10 5 (offers_line t row))) ≡ fin.contains_key s.plans e.1
+  named_plan_there : is_some (plan_read (part (more_names.COLUMNS + types.COLUMNS) plans.COLUMNS (offers_line t row))) ≡ fin.contains_key s.plans e.1
   named_plan_there =
-      ap (λ (r : Row). is_some (plan_read r)) (third_part 4 6 5 row (beside 6 t.types) (beside 5 t.plans) (wide.more_names row has) types_wide plans_wide)
+      ap (λ (r : Row). is_some (plan_read r)) (third_part more_names.COLUMNS types.COLUMNS plans.COLUMNS row (beside types.COLUMNS t.types) (beside plans.COLUMNS t.plans) (wide.more_names row has) types_wide plans_wide)
       ∙ plan_there t up row 1 e.1 id_is
 
   pub place_is : (n : ℕ) → has_place n (places_line t row) ≡ place_named s e.0 e.1
-  place_is n = ap (of_kind is_place_there (places_line t row)) (own_name (beside 12 t.stations ++ beside 2 t.regions)) ∙ go e.0 where
+  place_is n = ap (of_kind is_place_there (places_line t row)) (own_name (beside stations.COLUMNS t.stations ++ beside regions.COLUMNS t.regions)) ∙ go e.0 where
     go : (kind : NameKind) → is_place_there kind (places_line t row) ≡ place_named s kind e.1
     go named.System = refl
     go named.Station = station_there
@@ -127,7 +128,7 @@ module _ (t : Tables) (up : AreInOrder t) (wide : AreWide t) (row : Row) (has : 
     go named.Region = region_there
 
   pub offer_is : (n : ℕ) → has_offer n (offers_line t row) ≡ offer_named s e.0 e.1
-  offer_is n = ap (of_kind is_offer_there (offers_line t row)) (own_name (beside 6 t.types ++ beside 5 t.plans)) ∙ go e.0 where
+  offer_is n = ap (of_kind is_offer_there (offers_line t row)) (own_name (beside types.COLUMNS t.types ++ beside plans.COLUMNS t.plans)) ∙ go e.0 where
     go : (kind : NameKind) → is_offer_there kind (offers_line t row) ≡ offer_named s kind e.1
     go named.System = refl
     go named.Station = refl

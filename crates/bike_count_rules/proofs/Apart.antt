@@ -18,6 +18,11 @@ use Rattle.bike_rows.proofs.SortLemmas.{AreApartAll}
 use Rattle.bike_rows.proofs.TreeLemmas.{by_key_total}
 use Rattle.bike_book.proofs.Keys.{value_cmp-number_value}
 use Rattle.bike_book.specs.Tables.{Tables, Docks, Bikes, Counts}
+use Rattle.bike_book.specs.declared.columns.types.TheConstants as types
+use Rattle.bike_book.specs.declared.columns.stations.TheConstants as stations
+use Rattle.bike_book.specs.declared.columns.docks.TheConstants as docks
+use Rattle.bike_book.specs.declared.columns.bikes.TheConstants as bikes
+use Rattle.bike_book.specs.declared.columns.counts.TheConstants as counts
 use Rattle.bike_readings.specs.Rules.{AreInOrder}
 use Rattle.bike_judges.specs.Lines.{count_dock_line, count_bike_line, count_line}
 use Rattle.bike_judges.proofs.ApartLines.{shown_apart, one_tied, two_tied}
@@ -41,11 +46,11 @@ module _ (o a k b n p c l d m : Value) (tie : row_cmp (o ∷ a ∷ k ∷ b ∷ n
 
 -- Each row has all columns.
 pub record AreWide (t : Tables) : Type 0 where
-  pub stations : (r : Row) → Has t.stations r → length r ≡ 12
-  pub types : (r : Row) → Has t.types r → length r ≡ 6
-  pub docks : (r : Row) → Has t.docks r → length r ≡ 3
-  pub bikes : (r : Row) → Has t.bikes r → length r ≡ 8
-  pub counts : (r : Row) → Has t.counts r → length r ≡ 4
+  pub stations : (r : Row) → Has t.stations r → length r ≡ stations.COLUMNS
+  pub types : (r : Row) → Has t.types r → length r ≡ types.COLUMNS
+  pub docks : (r : Row) → Has t.docks r → length r ≡ docks.COLUMNS
+  pub bikes : (r : Row) → Has t.bikes r → length r ≡ bikes.COLUMNS
+  pub counts : (r : Row) → Has t.counts r → length r ≡ counts.COLUMNS
 
 module _ (t : Tables) (up : AreInOrder t) (wide : AreWide t) where
   abbrev pub all_lines : List Row

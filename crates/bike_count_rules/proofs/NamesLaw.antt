@@ -1,5 +1,5 @@
 -- The lines of counts by themselves tell whether counts are read and their station and type are there.
-use Rattle.std.proofs.Common.{◌≡◌, ℕ, List, [], ◌∷◌, ◌++◌, length, map, Bool, false, ◌&&◌, Option, Some, None, is_some, refl, sym, ap, ap₂, ◌∙◌}
+use Rattle.std.proofs.Common.{◌≡◌, ℕ, ◌+◌, List, [], ◌∷◌, ◌++◌, length, map, Bool, false, ◌&&◌, Option, Some, None, is_some, refl, sym, ap, ap₂, ◌∙◌}
 use Rattle.std.specs.Prelude.{take, drop, option_map, option_and_then}
 use Rattle.std.specs.FinMap as fin
 use Rattle.std.proofs.Math.Seq.{drop-append_seam}
@@ -12,6 +12,7 @@ use Rattle.bike_operator.specs.Operator.{Station}
 use Rattle.bike_book.specs.Tables.{Tables, Stations, Types}
 use Rattle.bike_book.specs.declared.columns.types.TheConstants as types
 use Rattle.bike_book.specs.declared.columns.stations.TheConstants as stations
+use Rattle.bike_book.specs.declared.columns.counts.TheConstants as counts
 use Rattle.bike_book.specs.Rows.{count_row}
 use Rattle.bike_book.proofs.Keys.{texts}
 use Rattle.bike_readings.specs.Readings.{count_read, station_read, type_read}
@@ -64,23 +65,23 @@ module _ (t : Tables) (up : AreInOrder t) (wide : AreWide t) where
   -- the partners beside counts of this station and type
   module _ (id kind : List ℕ) where
     abbrev front : Row
-    front = or_nulls 12 (station_under id)
+    front = or_nulls stations.COLUMNS (station_under id)
 
     abbrev back : Row
-    back = or_nulls 6 (type_under kind)
+    back = or_nulls types.COLUMNS (type_under kind)
 
-    front_wide : length front ≡ 12
-    front_wide = partner_length 12 refl (station_under id) (λ x q. wide.stations x (under_has 1 (Text id ∷ []) t.stations x q).0)
+    front_wide : length front ≡ stations.COLUMNS
+    front_wide = partner_length stations.COLUMNS refl (station_under id) (λ x q. wide.stations x (under_has 1 (Text id ∷ []) t.stations x q).0)
 
-    back_wide : length back ≡ 6
-    back_wide = partner_length 6 refl (type_under kind) (λ x q. wide.types x (under_has 1 (Text kind ∷ []) t.types x q).0)
+    back_wide : length back ≡ types.COLUMNS
+    back_wide = partner_length types.COLUMNS refl (type_under kind) (λ x q. wide.types x (under_has 1 (Text kind ∷ []) t.types x q).0)
 
-    front_reads : is_some (station_read (take 12 (front ++ back))) ≡ fin.contains_key (operator_of t).stations id
-    front_reads = ap (λ (x : Row). is_some (station_read x)) (take_front 12 front back front_wide) ∙ ap is_some (read_partner station_read 12 refl (station_under id)) ∙ sym (station_there id)
+    front_reads : is_some (station_read (take stations.COLUMNS (front ++ back))) ≡ fin.contains_key (operator_of t).stations id
+    front_reads = ap (λ (x : Row). is_some (station_read x)) (take_front stations.COLUMNS front back front_wide) ∙ ap is_some (read_partner station_read stations.COLUMNS refl (station_under id)) ∙ sym (station_there id)
 
-    back_reads : is_some (type_read (take 6 (drop 12 (front ++ back)))) ≡ fin.contains_key (operator_of t).types kind
+    back_reads : is_some (type_read (take types.COLUMNS (drop stations.COLUMNS (front ++ back)))) ≡ fin.contains_key (operator_of t).types kind
     back_reads =
-        ap (λ (x : Row). is_some (type_read x)) (ap (take 6) (drop_front 12 front back front_wide) ∙ take_all 6 back back_wide) ∙ ap is_some (read_partner type_read 6 refl (type_under kind))
+        ap (λ (x : Row). is_some (type_read x)) (ap (take types.COLUMNS) (drop_front stations.COLUMNS front back front_wide) ∙ take_all types.COLUMNS back back_wide) ∙ ap is_some (read_partner type_read types.COLUMNS refl (type_under kind))
         ∙ sym (type_there kind)
 
   -- where counts are read: their station and their type are there
@@ -94,5 +95,5 @@ module _ (t : Tables) (up : AreInOrder t) (wide : AreWide t) where
   -- and where they aren't, the test fails
   pub unread_fails : (r : Row) → Has t.counts r → count_read r ≡ None → is_named (named_line r) ≡ false
   unread_fails r has none =
-      ap (λ (o : Option (List ℕ × List ℕ × ℕ × ℕ)). is_some o && (is_some (station_read (part 4 12 (named_line r))) && is_some (type_read (part 16 6 (named_line r)))))
-      (ap count_read (take_front 4 r (or_nulls 12 (partner 1 (map (column r) (0 ∷ [])) t.stations) ++ or_nulls 6 (partner 1 (map (column r) (1 ∷ [])) t.types)) (wide.counts r has)) ∙ none)
+      ap (λ (o : Option (List ℕ × List ℕ × ℕ × ℕ)). is_some o && (is_some (station_read (part counts.COLUMNS stations.COLUMNS (named_line r))) && is_some (type_read (part (counts.COLUMNS + stations.COLUMNS) types.COLUMNS (named_line r)))))
+      (ap count_read (take_front counts.COLUMNS r (or_nulls stations.COLUMNS (partner 1 (map (column r) (0 ∷ [])) t.stations) ++ or_nulls types.COLUMNS (partner 1 (map (column r) (1 ∷ [])) t.types)) (wide.counts r has)) ∙ none)

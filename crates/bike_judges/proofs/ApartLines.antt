@@ -1,5 +1,5 @@
 -- No two lines of the tables that mix tie: those of one table have keys apart, and those of two tables have two places.
-use Rattle.std.proofs.Common.{◌≡◌, inl, inr, ℕ, ◌<◌, ◌≤◌, List, [], ◌∷◌, ◌++◌, length, map, pos, false, refl, sym, ap, ap₂, subst, ◌∙◌, arith}
+use Rattle.std.proofs.Common.{◌≡◌, inl, inr, ℕ, ◌-◌, ◌<◌, ◌≤◌, List, [], ◌∷◌, ◌++◌, length, map, pos, false, refl, sym, ap, ap₂, subst, ◌∙◌, arith}
 use Rattle.std.specs.Prelude.{take}
 use Rattle.std.specs.Cmp.{ranked}
 use Rattle.std.specs.List.{IsDistinct}
@@ -19,6 +19,10 @@ use Rattle.bike_rows.proofs.SortLemmas.{AreApartAll}
 use Rattle.bike_rows.proofs.TreeLemmas.{by_key_total}
 use Rattle.bike_book.proofs.Keys.{value_cmp-number_value}
 use Rattle.bike_book.specs.Tables.{TableName, Tables, rows_in, keys_of, Stations, Docks, Bikes, Trucks, Orders}
+use Rattle.bike_book.specs.declared.columns.stations.TheConstants as stations
+use Rattle.bike_book.specs.declared.columns.docks.TheConstants as docks
+use Rattle.bike_book.specs.declared.columns.bikes.TheConstants as bikes
+use Rattle.bike_book.specs.declared.columns.trucks.TheConstants as trucks
 use Rattle.bike_readings.specs.Rules.{AreInOrder}
 use Rattle.bike_judges.specs.Lines.{line, station_line, station_dock_line, station_bike_line, truck_line, truck_bike_line, order_line, order_bike_line}
 
@@ -96,8 +100,8 @@ module _ (t : Tables) (up : AreInOrder t) (whole : AreWhole t) where
       wide : (row : Row) → Has (rows_in t name) row → 1 ≤ length row
       wide row h = let it = whole name row h in omega (arith, it, one)
 
-  docks : AreApartAll (by_key_total 3) (map station_dock_line t.docks)
-  docks =
+  docks_apart : AreApartAll (by_key_total 3) (map station_dock_line t.docks)
+  docks_apart =
       shown_apart station_dock_line 3 2 t.docks (up Docks)
       (λ r s h k tie. two_tied r s (whole Docks r h) (whole Docks s k) (owners _ _ _ _ _ _ tie) (own_keys _ _ _ _ _ _ tie))
 
@@ -119,8 +123,8 @@ module _ (t : Tables) (up : AreInOrder t) (whole : AreWhole t) where
 
   pub trucks_apart : AreApartAll (by_key_total 3) (map truck_line t.trucks ++ map truck_bike_line t.bikes)
   trucks_apart =
-      apart_append (by_key_total 3) (map truck_line t.trucks) (map truck_bike_line t.bikes) (heads Trucks refl 6) (numbered Bikes refl (at 6) 1 0)
-      (at_two (at 0) (at 6) zero_value (at 0) 0 1 6 0 t.trucks t.bikes (omega arith))
+      apart_append (by_key_total 3) (map truck_line t.trucks) (map truck_bike_line t.bikes) (heads Trucks refl (bikes.COLUMNS - trucks.COLUMNS)) (numbered Bikes refl (at 6) 1 0)
+      (at_two (at 0) (at 6) zero_value (at 0) 0 1 (bikes.COLUMNS - trucks.COLUMNS) 0 t.trucks t.bikes (omega arith))
 
   pub order_bikes_apart : AreApartAll (by_key_total 3) (map order_line t.orders ++ map order_bike_line t.bikes)
   order_bikes_apart =
@@ -130,9 +134,9 @@ module _ (t : Tables) (up : AreInOrder t) (whole : AreWhole t) where
   pub stations_apart : AreApartAll (by_key_total 3) ((map station_line t.stations ++ map station_dock_line t.docks) ++ map station_bike_line t.bikes)
   stations_apart =
       apart_append (by_key_total 3) (map station_line t.stations ++ map station_dock_line t.docks) (map station_bike_line t.bikes)
-      (apart_append (by_key_total 3) (map station_line t.stations) (map station_dock_line t.docks) (heads Stations refl 0) docks (at_two (at 0) (at 0) zero_value (at 1) 0 1 0 9 t.stations t.docks (omega arith)))
-      (numbered Bikes refl (at 3) 2 4)
+      (apart_append (by_key_total 3) (map station_line t.stations) (map station_dock_line t.docks) (heads Stations refl 0) docks_apart (at_two (at 0) (at 0) zero_value (at 1) 0 1 0 (stations.COLUMNS - docks.COLUMNS) t.stations t.docks (omega arith)))
+      (numbered Bikes refl (at 3) 2 (stations.COLUMNS - bikes.COLUMNS))
       (λ x y h g. elim (has_append (map station_line t.stations) (map station_dock_line t.docks) x h) [
-        | inl first ↦ at_two (at 0) (at 3) zero_value (at 0) 0 2 0 4 t.stations t.bikes (omega arith) x y first g
-        | inr second ↦ at_two (at 0) (at 3) (at 1) (at 0) 1 2 9 4 t.docks t.bikes (omega arith) x y second g
+        | inl first ↦ at_two (at 0) (at 3) zero_value (at 0) 0 2 0 (stations.COLUMNS - bikes.COLUMNS) t.stations t.bikes (omega arith) x y first g
+        | inr second ↦ at_two (at 0) (at 3) (at 1) (at 0) 1 2 (stations.COLUMNS - docks.COLUMNS) (stations.COLUMNS - bikes.COLUMNS) t.docks t.bikes (omega arith) x y second g
       ])

@@ -1,9 +1,13 @@
 -- The queries that answer the rows of three tables, mixed.
-use Rattle.std.proofs.Common.{ℕ, List, [], ◌∷◌, pos, refl}
+use Rattle.std.proofs.Common.{ℕ, ◌-◌, List, [], ◌∷◌, pos, refl}
 use Rattle.sqlite_value.specs.declared.value.Value.TheVariants.{Int}
 use Rattle.sqlite_sql.specs.Term.{Term, lit, col}
 use Rattle.bike_rows.proofs.SelectLaws.{rows_merged_of_three, TiesOnlyByKey, NeverTies}
 use Rattle.bike_book.specs.Tables.{Stations, Docks, Bikes, Counts}
+use Rattle.bike_book.specs.declared.columns.stations.TheConstants as stations
+use Rattle.bike_book.specs.declared.columns.docks.TheConstants as docks
+use Rattle.bike_book.specs.declared.columns.bikes.TheConstants as bikes
+use Rattle.bike_book.specs.declared.columns.counts.TheConstants as counts
 use Rattle.bike_schema.specs.Layouts.{layout_of}
 use Rattle.bike_judges.specs.Lines.{station_line, station_dock_line, station_bike_line, count_dock_line, count_bike_line, count_line}
 use Rattle.bike_judges.specs.declared.query.Query.TheVariants as query
@@ -33,10 +37,10 @@ abbrev pub station_terms : List Term
 station_terms = line_terms (col 1 1 ∷ lit (Int (pos 0)) ∷ lit (Int (pos 0)) ∷ []) Stations 0
 
 abbrev pub station_dock_terms : List Term
-station_dock_terms = line_terms (col 1 1 ∷ lit (Int (pos 1)) ∷ col 1 2 ∷ []) Docks 9
+station_dock_terms = line_terms (col 1 1 ∷ lit (Int (pos 1)) ∷ col 1 2 ∷ []) Docks (stations.COLUMNS - docks.COLUMNS)
 
 abbrev pub station_bike_terms : List Term
-station_bike_terms = line_terms (col 1 4 ∷ lit (Int (pos 2)) ∷ col 1 0 ∷ []) Bikes 4
+station_bike_terms = line_terms (col 1 4 ∷ lit (Int (pos 2)) ∷ col 1 0 ∷ []) Bikes (stations.COLUMNS - bikes.COLUMNS)
 
 pub stations_lines : {text : List ℕ} → IsMixOfThree Stations station_terms Docks station_dock_terms Bikes station_bike_terms (1 ∷ 2 ∷ 3 ∷ []) text → AsksLines text query.Stations
 stations_lines is db has =
@@ -62,13 +66,13 @@ count_bike_and_count : NeverTies 5 count_bike_line count_line
 count_bike_and_count r s tie = let same = fourth_ties _ _ _ _ _ _ _ _ _ _ tie in let high = one_zero in cc
 
 abbrev pub count_dock_terms : List Term
-count_dock_terms = line_terms (col 1 1 ∷ lit (Int (pos 0)) ∷ col 1 2 ∷ lit (Int (pos 0)) ∷ lit (Int (pos 0)) ∷ []) Docks 5
+count_dock_terms = line_terms (col 1 1 ∷ lit (Int (pos 0)) ∷ col 1 2 ∷ lit (Int (pos 0)) ∷ lit (Int (pos 0)) ∷ []) Docks (bikes.COLUMNS - docks.COLUMNS)
 
 abbrev pub count_bike_terms : List Term
 count_bike_terms = line_terms (col 1 4 ∷ lit (Int (pos 1)) ∷ col 1 2 ∷ lit (Int (pos 1)) ∷ col 1 0 ∷ []) Bikes 0
 
 abbrev pub count_terms : List Term
-count_terms = line_terms (col 1 1 ∷ lit (Int (pos 1)) ∷ col 1 2 ∷ lit (Int (pos 0)) ∷ lit (Int (pos 0)) ∷ []) Counts 4
+count_terms = line_terms (col 1 1 ∷ lit (Int (pos 1)) ∷ col 1 2 ∷ lit (Int (pos 0)) ∷ lit (Int (pos 0)) ∷ []) Counts (bikes.COLUMNS - counts.COLUMNS)
 
 pub counts_lines : {text : List ℕ} → IsMixOfThree Docks count_dock_terms Bikes count_bike_terms Counts count_terms (1 ∷ 2 ∷ 3 ∷ 4 ∷ 5 ∷ []) text → AsksLines text query.Counts
 counts_lines is db has =

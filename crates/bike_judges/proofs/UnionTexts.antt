@@ -1,9 +1,12 @@
 -- The queries that answer the rows of two tables, mixed.
-use Rattle.std.proofs.Common.{ℕ, List, [], ◌∷◌, pos, refl}
+use Rattle.std.proofs.Common.{ℕ, ◌-◌, List, [], ◌∷◌, pos, refl}
 use Rattle.sqlite_value.specs.declared.value.Value.TheVariants.{Int}
 use Rattle.sqlite_sql.specs.Term.{Term, lit, col}
 use Rattle.bike_rows.proofs.SelectLaws.{rows_merged, TiesOnlyByKey, NeverTies}
 use Rattle.bike_book.specs.Tables.{Docks, Bikes, Trucks, Orders}
+use Rattle.bike_book.specs.declared.columns.docks.TheConstants as docks
+use Rattle.bike_book.specs.declared.columns.bikes.TheConstants as bikes
+use Rattle.bike_book.specs.declared.columns.trucks.TheConstants as trucks
 use Rattle.bike_schema.specs.Layouts.{layout_of}
 use Rattle.bike_judges.specs.Lines.{dock_line, docked_line, truck_line, truck_bike_line, order_line, order_bike_line}
 use Rattle.bike_judges.specs.declared.query.Query.TheVariants as query
@@ -21,7 +24,7 @@ dock_and_docked : NeverTies 4 dock_line docked_line
 dock_and_docked r s tie = third_apart _ _ _ _ _ _ _ _ zero_one tie
 
 abbrev pub dock_terms : List Term
-dock_terms = line_terms (col 1 1 ∷ col 1 2 ∷ lit (Int (pos 0)) ∷ lit (Int (pos 0)) ∷ []) Docks 5
+dock_terms = line_terms (col 1 1 ∷ col 1 2 ∷ lit (Int (pos 0)) ∷ lit (Int (pos 0)) ∷ []) Docks (bikes.COLUMNS - docks.COLUMNS)
 
 abbrev pub docked_terms : List Term
 docked_terms = line_terms (col 1 4 ∷ col 1 5 ∷ lit (Int (pos 1)) ∷ col 1 0 ∷ []) Bikes 0
@@ -41,7 +44,7 @@ truck_and_truck_bike : NeverTies 3 truck_line truck_bike_line
 truck_and_truck_bike r s tie = places_apart _ _ _ _ _ _ zero_one tie
 
 abbrev pub truck_terms : List Term
-truck_terms = line_terms (col 1 0 ∷ lit (Int (pos 0)) ∷ lit (Int (pos 0)) ∷ []) Trucks 6
+truck_terms = line_terms (col 1 0 ∷ lit (Int (pos 0)) ∷ lit (Int (pos 0)) ∷ []) Trucks (bikes.COLUMNS - trucks.COLUMNS)
 
 abbrev pub truck_bike_terms : List Term
 truck_bike_terms = line_terms (col 1 7 ∷ lit (Int (pos 1)) ∷ col 1 0 ∷ []) Bikes 0

@@ -13,6 +13,7 @@ use Rattle.bike_rows.specs.View.{row_with, partner}
 use Rattle.bike_operator.specs.Operator.{Station}
 use Rattle.bike_book.specs.Tables.{TableName, Tables, rows_in, Stations, Docks}
 use Rattle.bike_book.specs.declared.columns.stations.TheConstants as stations
+use Rattle.bike_book.specs.declared.columns.docks.TheConstants as docks
 use Rattle.bike_book.proofs.Keys.{texts}
 use Rattle.bike_schema.specs.Layouts.{layout_of}
 use Rattle.bike_readings.specs.Readings.{station_read, dock_read}
@@ -50,7 +51,7 @@ module _ (t : Tables) (up : AreInOrder t) (wide : AreWide t) where
   pub station_found : (id : List ℕ) → fin.get (operator_of t).stations id ≡ option_map (λ e. e.1) (option_and_then station_in (row_with 1 (Text id ∷ []) t.stations))
   station_found id = found_at texts station_in station_key t.stations (up Stations) id tt
 
-  pub station_wide : (id : List ℕ) (r : Row) → row_with 1 (Text id ∷ []) t.stations ≡ Some r → length r ≡ 12
+  pub station_wide : (id : List ℕ) (r : Row) → row_with 1 (Text id ∷ []) t.stations ≡ Some r → length r ≡ stations.COLUMNS
   station_wide id r is = wide Stations r (under_has 1 (Text id ∷ []) t.stations r is).0
 
   abbrev pub joined_dock : Row → Row
@@ -61,8 +62,8 @@ module _ (t : Tables) (up : AreInOrder t) (wide : AreWide t) where
   line_reads row d is =
       let made = (dock_reading.sound row d is).0 in
       let at = row_with 1 (Text d.0 ∷ []) t.stations in
-      ap (λ (r : Row). is_good_dock (joined_dock r)) made ∙ ap (λ (o : Option (List ℕ × ℕ × Bool)). has_dock o (station_read (take 12 (or_nulls 12 at)))) (ap dock_read (sym made) ∙ is)
-      ∙ ap (has_dock (Some d)) (read_partner station_read 12 refl at (station_wide d.0))
+      ap (λ (r : Row). is_good_dock (joined_dock r)) made ∙ ap (λ (o : Option (List ℕ × ℕ × Bool)). has_dock o (station_read (take stations.COLUMNS (or_nulls stations.COLUMNS at)))) (ap dock_read (sym made) ∙ is)
+      ∙ ap (has_dock (Some d)) (read_partner station_read stations.COLUMNS refl at (station_wide d.0))
 
   dock_true : (d : List ℕ × ℕ × Bool) (o : Option (List ℕ × Station × ℤ × ℕ)) → has_dock (Some d) o ≡ true → (x : List ℕ × Station × ℤ × ℕ) × (o ≡ Some x) × (d.1 ≤ x.1.row.docks)
   dock_true d None is = absurd cc
@@ -88,11 +89,11 @@ module _ (t : Tables) (up : AreInOrder t) (wide : AreWide t) where
   test_good row below has passes = go (dock_read row) refl where
     go : (o : Option (List ℕ × ℕ × Bool)) → dock_read row ≡ o → IsSomeAnd o (IsGoodDock (operator_of t) below)
     go None e =
-        let front : part 0 3 (joined_dock row) ≡ row = take_front 3 row (or_nulls 12 (partner 1 (map (column row) (0 ∷ [])) t.stations)) (wide Docks row has) in
-        let none : dock_read (part 0 3 (joined_dock row)) ≡ None = ap dock_read front ∙ e in
-        absurd (never (dock_read (part 0 3 (joined_dock row))) none passes)
+        let front : part 0 docks.COLUMNS (joined_dock row) ≡ row = take_front docks.COLUMNS row (or_nulls stations.COLUMNS (partner 1 (map (column row) (0 ∷ [])) t.stations)) (wide Docks row has) in
+        let none : dock_read (part 0 docks.COLUMNS (joined_dock row)) ≡ None = ap dock_read front ∙ e in
+        absurd (never (dock_read (part 0 docks.COLUMNS (joined_dock row))) none passes)
       where
-        never : (o : Option (List ℕ × ℕ × Bool)) → o ≡ None → has_dock o (station_read (part 3 12 (joined_dock row))) ≡ true → ⊥
+        never : (o : Option (List ℕ × ℕ × Bool)) → o ≡ None → has_dock o (station_read (part docks.COLUMNS stations.COLUMNS (joined_dock row))) ≡ true → ⊥
         never None none is = cc
         never (Some x) none is = cc
     go (Some d) e =
@@ -118,4 +119,4 @@ module _ (t : Tables) (up : AreInOrder t) (wide : AreWide t) where
 
   -- a line begins with the key of its row
   pub dock_key : (row : Row) → Has t.docks row → take 2 (joined_dock row) ≡ take 2 row
-  dock_key row has = take-append-le 2 row (or_nulls 12 (partner 1 (map (column row) (0 ∷ [])) t.stations)) (let wide3 = wide Docks row has in omega (arith, wide3))
+  dock_key row has = take-append-le 2 row (or_nulls stations.COLUMNS (partner 1 (map (column row) (0 ∷ [])) t.stations)) (let wide3 = wide Docks row has in omega (arith, wide3))

@@ -7,6 +7,7 @@ use Rattle.bike_readings.specs.Readings.{station_read}
 use Rattle.bike_readings.specs.ReadOff.{moment_of}
 use Rattle.sqlite.specs.Effect.{Database}
 use Rattle.bike_book.specs.Tables.{Docks, Stations}
+use Rattle.bike_book.specs.declared.columns.stations.TheConstants as stations
 use Rattle.bike_schema.specs.Tables.{tables_of, IsOurs}
 use Rattle.bike_readings.proofs.RulesLaws.{stored_in_order}
 use Rattle.bike_judges.specs.Judging.{key_row}
@@ -62,8 +63,8 @@ rows_judged db ours now asked same found before zero told =
 
 are_accounts : AreAccounts begins more good key owner 0
 are_accounts = record {
-  heads = λ row. not_item row (station_read (part 3 12 (station_line row)));
-  owner_is = λ row a. opens row (station_read (part 3 12 (station_line row))) a;
+  heads = λ row. not_item row (station_read (part 3 stations.COLUMNS (station_line row)));
+  owner_is = λ row a. opens row (station_read (part 3 stations.COLUMNS (station_line row))) a;
   key_is = λ a. refl;
   keeps = λ a x. refl;
   others = others_same;

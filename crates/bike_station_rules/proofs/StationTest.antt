@@ -1,5 +1,5 @@
 -- The account of a station with all lines of docks and bicycles says what is demanded of its numbers.
-use Rattle.std.proofs.Common.{◌≡◌, inl, inr, ℕ, ℤ, pos, List, [], ◌∷◌, ◌++◌, length, map, fold, Bool, true, false, cond, not, ◌&&◌, ◌||◌, ◌==◌, Option, Some, None, is_none, find, refl, sym, ap, ◌∙◌}
+use Rattle.std.proofs.Common.{◌≡◌, inl, inr, ℕ, ◌-◌, ℤ, pos, List, [], ◌∷◌, ◌++◌, length, map, fold, Bool, true, false, cond, not, ◌&&◌, ◌||◌, ◌==◌, Option, Some, None, is_none, find, refl, sym, ap, ◌∙◌}
 use Rattle.std.specs.Prelude.{take, replicate, option_and_then}
 use Rattle.std.specs.List.{filter_map, list_any}
 use Rattle.std.specs.Option.{IsSomeAnd}
@@ -25,6 +25,9 @@ use Rattle.bike_places.proofs.MapLemmas.{texts_order, tied}
 use Rattle.bike_places.proofs.StoredCountLemmas.{count_same}
 use Rattle.bike_book.specs.Rows.{number_value}
 use Rattle.bike_book.specs.Tables.{Tables, Stations, Docks, Bikes}
+use Rattle.bike_book.specs.declared.columns.stations.TheConstants as stations
+use Rattle.bike_book.specs.declared.columns.docks.TheConstants as docks
+use Rattle.bike_book.specs.declared.columns.bikes.TheConstants as bikes
 use Rattle.bike_book.proofs.Keys.{numbers}
 use Rattle.bike_readings.specs.Readings.{dock_read, station_read}
 use Rattle.bike_readings.proofs.CatalogueRows.{dock_reading, station_reading}
@@ -98,8 +101,8 @@ module _ (id : List ℕ) (n : ℕ) where
   key_of_broken d = cond d.2 (Some (dock_key d.0 d.1)) None
 
   -- a row of docks says that the dock is broken
-  dock_says : (r : Row) → length r ≡ 3 → says_broken id n (station_dock_line r) ≡ of_key (broken_in r)
-  dock_says r wide = ap (λ (x : Row). is_bit n (of_owner (Text id) (station_dock_line r) (broken_dock (dock_read x)))) (take_front 3 r (nulls 9) wide) ∙ go (dock_read r) refl where
+  dock_says : (r : Row) → length r ≡ docks.COLUMNS → says_broken id n (station_dock_line r) ≡ of_key (broken_in r)
+  dock_says r wide = ap (λ (x : Row). is_bit n (of_owner (Text id) (station_dock_line r) (broken_dock (dock_read x)))) (take_front docks.COLUMNS r (nulls (stations.COLUMNS - docks.COLUMNS)) wide) ∙ go (dock_read r) refl where
     go : (o : Option (List ℕ × ℕ × Bool)) → dock_read r ≡ o → is_bit n (of_owner (Text id) (station_dock_line r) (broken_dock (dock_read r))) ≡ of_key (broken_in r)
     go None e = none_of_owner (Text id) (station_dock_line r) n (broken_dock (dock_read r)) (ap broken_dock e) ∙ sym (ap (λ (q : Option (List ℕ × ℕ × Bool)). of_key (option_and_then key_of_broken q)) e)
     go (Some d) e = by d.2 refl where
@@ -124,8 +127,8 @@ module _ (id : List ℕ) (n : ℕ) where
   and_by false c m is = refl
 
   -- a row of bicycles says that the dock holds one
-  bike_says : (r : Row) → length r ≡ 8 → says_taken id n (station_bike_line r) ≡ of_read is_in (bike_in r)
-  bike_says r wide = ap (λ (x : Row). is_bit n (of_owner (Text id) (station_bike_line r) (docked_in x))) (take_front 8 r (nulls 4) wide) ∙ go (bike_in r) refl where
+  bike_says : (r : Row) → length r ≡ bikes.COLUMNS → says_taken id n (station_bike_line r) ≡ of_read is_in (bike_in r)
+  bike_says r wide = ap (λ (x : Row). is_bit n (of_owner (Text id) (station_bike_line r) (docked_in x))) (take_front bikes.COLUMNS r (nulls (stations.COLUMNS - bikes.COLUMNS)) wide) ∙ go (bike_in r) refl where
     go : (o : Option (ℕ × Bike)) → bike_in r ≡ o → is_bit n (of_owner (Text id) (station_bike_line r) (docked_in r)) ≡ of_read is_in (bike_in r)
     go None e =
         none_of_owner (Text id) (station_bike_line r) n (docked_in r) (ap (λ (q : Option (ℕ × Bike)). option_and_then (λ (x : ℕ × Bike). dock_of x.1.place) q) e) ∙ sym (ap (of_read is_in) e)
@@ -240,8 +243,8 @@ module _ (t : Tables) (up : AreInOrder t) (wide : AreWide t) where
   abbrev pub with_all : ℕ → Row → Bool
   with_all n row = is_good_with begins more good key (take 1) all_items n (begins (station_line row))
 
-  head_reads : (row : Row) → Has t.stations row → part 3 12 (station_line row) ≡ row
-  head_reads row has = take_front 12 row [] (wide Stations row has)
+  head_reads : (row : Row) → Has t.stations row → part 3 stations.COLUMNS (station_line row) ≡ row
+  head_reads row has = take_front stations.COLUMNS row [] (wide Stations row has)
 
   opens : (row : Row) → Has t.stations row → (n : ℕ) → with_all n row ≡ is_good_with begins more good key (take 1) all_items n (station_opening (station_line row) (station_read row))
   opens row has n = ap (λ (x : Row). is_good_with begins more good key (take 1) all_items n (station_opening (station_line row) (station_read x))) (head_reads row has)
