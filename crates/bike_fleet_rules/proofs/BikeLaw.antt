@@ -23,6 +23,7 @@ use Rattle.bike_operator.specs.Sound.{HasDock}
 use Rattle.bike_book.specs.Tables.{Tables, Types, Stations, Bikes, Trucks, Rentals, Orders}
 use Rattle.bike_book.specs.declared.columns.types.TheConstants as types
 use Rattle.bike_book.specs.declared.columns.stations.TheConstants as stations
+use Rattle.bike_book.specs.declared.columns.bikes.TheConstants as bikes
 use Rattle.bike_book.specs.declared.columns.trucks.TheConstants as trucks
 use Rattle.bike_book.specs.declared.columns.rentals.TheConstants as rentals
 use Rattle.bike_book.specs.declared.columns.orders.TheConstants as orders
@@ -93,11 +94,11 @@ module _ (t : Tables) (up : AreInOrder t) (wide : AreWide t) where
       let p = partner 1 (column row 1 ∷ []) t.types in
       let q = partner 1 (column row 3 ∷ []) t.stations in
       let row_wide = wide Bikes row has in
-      let p_wide = partner_wide type_read t.types 6 (column row 1) (wide Types) in
-      let q_wide = partner_wide station_read t.stations 12 (column row 3) (wide Stations) in
-      let own = own_part 8 row (or_nulls 6 p ++ or_nulls 12 q) row_wide in
-      let kind = ap type_read (first_of_line 8 6 12 row p q row_wide p_wide q_wide) ∙ or_nulls_read type_read t.types 6 p refl in
-      let station = ap station_read (second_of_line 8 6 12 row p q row_wide p_wide q_wide) ∙ or_nulls_read station_read t.stations 12 q refl in
+      let p_wide = partner_wide type_read t.types types.COLUMNS (column row 1) (wide Types) in
+      let q_wide = partner_wide station_read t.stations stations.COLUMNS (column row 3) (wide Stations) in
+      let own = own_part bikes.COLUMNS row (or_nulls types.COLUMNS p ++ or_nulls stations.COLUMNS q) row_wide in
+      let kind = ap type_read (first_of_line bikes.COLUMNS types.COLUMNS stations.COLUMNS row p q row_wide p_wide q_wide) ∙ or_nulls_read type_read t.types types.COLUMNS p refl in
+      let station = ap station_read (second_of_line bikes.COLUMNS types.COLUMNS stations.COLUMNS row p q row_wide p_wide q_wide) ∙ or_nulls_read station_read t.stations stations.COLUMNS q refl in
       λ i. is_bike_named n (bike_read (own i)) (kind i) (station i)
 
   uses_is : (n : ℕ) (row : Row) → Has t.bikes row → bike_uses n (uses_line row) ≡ is_bike_used (bike_read row) (rental_of row) (order_of row)
@@ -106,11 +107,11 @@ module _ (t : Tables) (up : AreInOrder t) (wide : AreWide t) where
       let p = partner 1 (column row 5 ∷ []) t.rentals in
       let q = partner 1 (column row 7 ∷ []) t.orders in
       let row_wide = wide Bikes row has in
-      let p_wide = partner_wide rental_read t.rentals 10 (column row 5) (wide Rentals) in
-      let q_wide = partner_wide order_read t.orders 8 (column row 7) (wide Orders) in
-      let own = own_part 8 row (or_nulls 10 p ++ or_nulls 8 q) row_wide in
-      let rental = ap rental_read (first_of_line 8 10 8 row p q row_wide p_wide q_wide) ∙ or_nulls_read rental_read t.rentals 10 p refl in
-      let order = ap order_read (second_of_line 8 10 8 row p q row_wide p_wide q_wide) ∙ or_nulls_read order_read t.orders 8 q refl in
+      let p_wide = partner_wide rental_read t.rentals rentals.COLUMNS (column row 5) (wide Rentals) in
+      let q_wide = partner_wide order_read t.orders orders.COLUMNS (column row 7) (wide Orders) in
+      let own = own_part bikes.COLUMNS row (or_nulls rentals.COLUMNS p ++ or_nulls orders.COLUMNS q) row_wide in
+      let rental = ap rental_read (first_of_line bikes.COLUMNS rentals.COLUMNS orders.COLUMNS row p q row_wide p_wide q_wide) ∙ or_nulls_read rental_read t.rentals rentals.COLUMNS p refl in
+      let order = ap order_read (second_of_line bikes.COLUMNS rentals.COLUMNS orders.COLUMNS row p q row_wide p_wide q_wide) ∙ or_nulls_read order_read t.orders orders.COLUMNS q refl in
       λ i. is_bike_used (bike_read (own i)) (rental i) (order i)
 
   trucks_is : (n : ℕ) (row : Row) → Has t.bikes row → bike_trucks n (trucks_line row) ≡ is_bike_borne (bike_read row) (truck_of row)
@@ -118,9 +119,9 @@ module _ (t : Tables) (up : AreInOrder t) (wide : AreWide t) where
   trucks_is n row has =
       let p = partner 1 (column row 6 ∷ []) t.trucks in
       let row_wide = wide Bikes row has in
-      let p_wide = or_nulls_wide 2 p (partner_wide truck_read t.trucks 2 (column row 6) (wide Trucks)) in
-      let own = own_part 8 row (or_nulls 2 p) row_wide in
-      let truck = ap truck_read (last_part 8 2 row (or_nulls 2 p) row_wide p_wide) ∙ or_nulls_read truck_read t.trucks 2 p refl in
+      let p_wide = or_nulls_wide trucks.COLUMNS p (partner_wide truck_read t.trucks trucks.COLUMNS (column row 6) (wide Trucks)) in
+      let own = own_part bikes.COLUMNS row (or_nulls trucks.COLUMNS p) row_wide in
+      let truck = ap truck_read (last_part bikes.COLUMNS trucks.COLUMNS row (or_nulls trucks.COLUMNS p) row_wide p_wide) ∙ or_nulls_read truck_read t.trucks trucks.COLUMNS p refl in
       λ i. is_bike_borne (bike_read (own i)) (truck i)
 
   -- ---- what partners tell

@@ -25,6 +25,7 @@ use Rattle.bike_book.specs.Tables.{Tables, Types, Stations, Trucks, Orders}
 use Rattle.bike_book.specs.declared.columns.types.TheConstants as types
 use Rattle.bike_book.specs.declared.columns.stations.TheConstants as stations
 use Rattle.bike_book.specs.declared.columns.trucks.TheConstants as trucks
+use Rattle.bike_book.specs.declared.columns.orders.TheConstants as orders
 use Rattle.bike_book.specs.Rows.{end_text, order_row}
 use Rattle.bike_readings.specs.Readings.{type_read, station_read, truck_read, order_read}
 use Rattle.bike_readings.proofs.FleetRows.{order_reading}
@@ -90,11 +91,11 @@ module _ (t : Tables) (up : AreInOrder t) (wide : AreWide t) where
       let p = partner 1 (column row 1 ∷ []) t.trucks in
       let q = partner 1 (column row 4 ∷ []) t.types in
       let row_wide = wide Orders row has in
-      let p_wide = partner_wide truck_read t.trucks 2 (column row 1) (wide Trucks) in
-      let q_wide = partner_wide type_read t.types 6 (column row 4) (wide Types) in
-      let own = own_part 8 row (or_nulls 2 p ++ or_nulls 6 q) row_wide in
-      let truck = ap truck_read (first_of_line 8 2 6 row p q row_wide p_wide q_wide) ∙ or_nulls_read truck_read t.trucks 2 p refl in
-      let kind = ap type_read (second_of_line 8 2 6 row p q row_wide p_wide q_wide) ∙ or_nulls_read type_read t.types 6 q refl in
+      let p_wide = partner_wide truck_read t.trucks trucks.COLUMNS (column row 1) (wide Trucks) in
+      let q_wide = partner_wide type_read t.types types.COLUMNS (column row 4) (wide Types) in
+      let own = own_part orders.COLUMNS row (or_nulls trucks.COLUMNS p ++ or_nulls types.COLUMNS q) row_wide in
+      let truck = ap truck_read (first_of_line orders.COLUMNS trucks.COLUMNS types.COLUMNS row p q row_wide p_wide q_wide) ∙ or_nulls_read truck_read t.trucks trucks.COLUMNS p refl in
+      let kind = ap type_read (second_of_line orders.COLUMNS trucks.COLUMNS types.COLUMNS row p q row_wide p_wide q_wide) ∙ or_nulls_read type_read t.types types.COLUMNS q refl in
       λ i. is_order_named n (order_read (own i)) (truck i) (kind i)
 
   ends_is : (n : ℕ) (row : Row) → Has t.orders row → order_ends n (ends_line row) ≡ are_ends_there (order_read row) (station_of 2 row) (station_of 3 row)
@@ -103,11 +104,11 @@ module _ (t : Tables) (up : AreInOrder t) (wide : AreWide t) where
       let p = partner 1 (column row 2 ∷ []) t.stations in
       let q = partner 1 (column row 3 ∷ []) t.stations in
       let row_wide = wide Orders row has in
-      let p_wide = partner_wide station_read t.stations 12 (column row 2) (wide Stations) in
-      let q_wide = partner_wide station_read t.stations 12 (column row 3) (wide Stations) in
-      let own = own_part 8 row (or_nulls 12 p ++ or_nulls 12 q) row_wide in
-      let from = ap station_read (first_of_line 8 12 12 row p q row_wide p_wide q_wide) ∙ or_nulls_read station_read t.stations 12 p refl in
-      let to = ap station_read (second_of_line 8 12 12 row p q row_wide p_wide q_wide) ∙ or_nulls_read station_read t.stations 12 q refl in
+      let p_wide = partner_wide station_read t.stations stations.COLUMNS (column row 2) (wide Stations) in
+      let q_wide = partner_wide station_read t.stations stations.COLUMNS (column row 3) (wide Stations) in
+      let own = own_part orders.COLUMNS row (or_nulls stations.COLUMNS p ++ or_nulls stations.COLUMNS q) row_wide in
+      let from = ap station_read (first_of_line orders.COLUMNS stations.COLUMNS stations.COLUMNS row p q row_wide p_wide q_wide) ∙ or_nulls_read station_read t.stations stations.COLUMNS p refl in
+      let to = ap station_read (second_of_line orders.COLUMNS stations.COLUMNS stations.COLUMNS row p q row_wide p_wide q_wide) ∙ or_nulls_read station_read t.stations stations.COLUMNS q refl in
       λ i. are_ends_there (order_read (own i)) (from i) (to i)
 
   -- ---- what partners tell

@@ -16,6 +16,8 @@ use Rattle.bike_operator.specs.declared.records.Bike.{Bike}
 use Rattle.bike_operator.specs.Operator.{Rider, Station}
 use Rattle.bike_book.specs.Tables.{Tables, Riders, Bikes, Plans, Stations}
 use Rattle.bike_book.specs.declared.columns.regions.TheConstants as regions
+use Rattle.bike_book.specs.declared.columns.stations.TheConstants as stations
+use Rattle.bike_book.specs.declared.columns.bikes.TheConstants as bikes
 use Rattle.bike_book.specs.declared.columns.trucks.TheConstants as trucks
 use Rattle.bike_book.proofs.Keys.{numbers, number_key, texts, text_key}
 use Rattle.bike_readings.specs.Readings.{rider_read, bike_read, plan_read, station_read}
@@ -96,7 +98,7 @@ module _ (t : Tables) (up : AreInOrder t) where
 
   -- ---- bicycles, of lines with their trucks
 
-  module _ (wide : AreWide 8 t.bikes) where
+  module _ (wide : AreWide bikes.COLUMNS t.bikes) where
     abbrev no_bikes : BikeSet
     no_bikes = record { rentals = [] }
 
@@ -114,7 +116,7 @@ module _ (t : Tables) (up : AreInOrder t) where
       as_rental (Some b) = refl
 
       front : (a : BikeSet) (r : Row) → Has t.bikes r → with_bike a (bike_line r) ≡ more_bikes a r
-      front a r has = ap (more_bikes a) (take_at r (or_nulls 2 (partner 1 (column r 6 ∷ []) t.trucks)) 8 (wide r has))
+      front a r has = ap (more_bikes a) (take_at r (or_nulls trucks.COLUMNS (partner 1 (column r 6 ∷ []) t.trucks)) bikes.COLUMNS (wide r has))
 
       each : (n : ℕ) → value_at (fold with_bike no_bikes (lines_of query.BikeTrucks t)).rentals n ≡ bike_rental t n
       each n =
@@ -139,7 +141,7 @@ module _ (t : Tables) (up : AreInOrder t) where
 
   -- ---- stations, of lines with their regions
 
-  module _ (wide : AreWide 12 t.stations) where
+  module _ (wide : AreWide stations.COLUMNS t.stations) where
     abbrev no_stations : StationSet
     no_stations = record { idents = set.empty }
 
@@ -153,7 +155,7 @@ module _ (t : Tables) (up : AreInOrder t) where
     pub stations_known : set.contains (fold with_station no_stations (lines_of query.StationRows t)).idents ≡ has_station t
     stations_known = λ i id. each id i where
       front : (a : StationSet) (r : Row) → Has t.stations r → with_station a (station_line r) ≡ more_stations a r
-      front a r has = ap (more_stations a) (take_at r (or_nulls 2 (partner 1 (column r 11 ∷ []) t.regions)) 12 (wide r has))
+      front a r has = ap (more_stations a) (take_at r (or_nulls regions.COLUMNS (partner 1 (column r 11 ∷ []) t.regions)) stations.COLUMNS (wide r has))
 
       each : (id : List ℕ) → set.contains (fold with_station no_stations (lines_of query.StationRows t)).idents id ≡ has_station t id
       each id =

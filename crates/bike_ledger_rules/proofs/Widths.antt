@@ -11,6 +11,10 @@ use Rattle.bike_rows.proofs.ListLemmas.{map_has}
 use Rattle.bike_rows.proofs.OrderLemmas.{order_has}
 use Rattle.bike_rows.proofs.TreeLemmas.{by_key_total}
 use Rattle.bike_book.specs.Tables.{Stations, Bikes, Rentals, Entries}
+use Rattle.bike_book.specs.declared.columns.stations.TheConstants as stations
+use Rattle.bike_book.specs.declared.columns.bikes.TheConstants as bikes
+use Rattle.bike_book.specs.declared.columns.rentals.TheConstants as rentals
+use Rattle.bike_book.specs.declared.columns.entries.TheConstants as entries
 use Rattle.bike_schema.specs.Layouts.{layout_of}
 use Rattle.bike_schema.specs.Tables.{tables_of, HasTables}
 use Rattle.bike_ledger_rules.proofs.RiderFolds.{AreWide}
@@ -23,14 +27,14 @@ wide width keys layout db it each r has =
     ap (λ (x : Row). length x) row.2 ∙ each row.0
 
 module _ (db : Database) (has : HasTables db) where
-  pub rentals_wide : AreWide 10 (tables_of db).rentals
-  rentals_wide = wide 10 1 (layout_of Rentals) db (has Rentals) (λ r. refl)
+  pub rentals_wide : AreWide rentals.COLUMNS (tables_of db).rentals
+  rentals_wide = wide rentals.COLUMNS 1 (layout_of Rentals) db (has Rentals) (λ r. refl)
 
-  pub entries_wide : AreWide 6 (tables_of db).entries
-  entries_wide = wide 6 1 (layout_of Entries) db (has Entries) (λ r. refl)
+  pub entries_wide : AreWide entries.COLUMNS (tables_of db).entries
+  entries_wide = wide entries.COLUMNS 1 (layout_of Entries) db (has Entries) (λ r. refl)
 
-  pub stations_wide : AreWide 12 (tables_of db).stations
-  stations_wide = wide 12 1 (layout_of Stations) db (has Stations) (λ r. refl)
+  pub stations_wide : AreWide stations.COLUMNS (tables_of db).stations
+  stations_wide = wide stations.COLUMNS 1 (layout_of Stations) db (has Stations) (λ r. refl)
 
-  pub bikes_wide : AreWide 8 (tables_of db).bikes
-  bikes_wide = wide 8 1 (layout_of Bikes) db (has Bikes) (λ r. refl)
+  pub bikes_wide : AreWide bikes.COLUMNS (tables_of db).bikes
+  bikes_wide = wide bikes.COLUMNS 1 (layout_of Bikes) db (has Bikes) (λ r. refl)
