@@ -12,6 +12,7 @@ import json
 import os
 import re
 import shutil
+import signal
 import socket
 import subprocess
 import threading
@@ -726,6 +727,28 @@ def test_gateway_feeds_that_are_still_good(program):
         assert (status, head["Date"], head["ETag"], readers(head)) == (200, second["Date"], second["ETag"], told), (
             status, head.items()
         )
+
+
+@needs("nginx")
+def test_gateway_feeds_after_a_quiet_time(program):
+    """Of many that ask at once for a feed whose time is over none gets the old one, though the program takes its time."""
+    city(program)
+    with Server(program) as server, Gateway(program, {"metro": server.port}, ttl=1) as gateway:
+        _, _, before = gateway.ask("GET", FEED)
+        time.sleep(2.2)
+        found = []
+        clients = [threading.Thread(target=lambda: found.append(gateway.ask("GET", FEED))) for _ in range(8)]
+        os.kill(server.child.pid, signal.SIGSTOP)
+        try:
+            for client in clients:
+                client.start()
+            time.sleep(0.5)
+        finally:
+            os.kill(server.child.pid, signal.SIGCONT)
+        for client in clients:
+            client.join(SECONDS)
+        assert [status for status, _, _ in found] == [200] * 8, found
+        assert all(body["last_updated"] > before["last_updated"] for _, _, body in found), (before, found)
 
 
 @needs("nginx")
