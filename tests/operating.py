@@ -731,7 +731,7 @@ def test_gateway_feeds_that_are_still_good(program):
 
 @needs("nginx")
 def test_gateway_feeds_after_a_quiet_time(program):
-    """Of many that ask at once for a feed whose time is over none gets the old one, though the program takes its time."""
+    """Of many that ask at once for a feed whose time is over none gets the old one, though the program is slow."""
     city(program)
     with Server(program) as server, Gateway(program, {"metro": server.port}, ttl=1) as gateway:
         _, _, before = gateway.ask("GET", FEED)
