@@ -12,18 +12,20 @@ import os
 import random
 import re
 import shutil
+import signal
 import socket
 import sqlite3
 import subprocess
 import sys
 import threading
 import time
+import unittest.mock
 from pathlib import Path
 
 from package import sections_of
 from shared import (
-    CITY, FEEDS, FOREIGN, HEADER, SOUND, STORE_FAILED, TOP, Program, Server, accepted, changed, loaded, office, put,
-    ran, removed, requests_of, rows_of, taken,
+    CITY, FEEDS, FOREIGN, HEADER, SOUND, STORE_FAILED, TOP, Program, Server, accepted, changed, killed, loaded, office,
+    put, ran, removed, requests_of, rows_of, taken,
 )
 
 SCRIPT = TOP / "deploy/bikeshare-doctor"
@@ -270,6 +272,29 @@ def test_logs(program):
     assert words_of(other) == ["another's log"], looked_at(other)
 
 
+def test_a_log_that_was_left_behind(program):
+    """An earlier copy is put at FILE, and the log of before is forgotten beside it. Where `check` refuses the two, the
+    log is named, and FILE is sound once that is away. A FILE that is damaged itself isn't called whole."""
+    file = city_file(program)
+    copy = taken(file)[""]
+    for count in 40, 400, 2000:
+        put({"": copy}, file)
+        killed(program, requests_of([f"add-rider\t{rider}" for rider in range(100, 100 + count)]))
+        log = taken(file)["-wal"]
+        put({"": copy, "-wal": log}, file)
+        if count == 40:
+            # This log has all that the copy lacks.
+            is_alike(program, file, None)
+            continue
+        by_hand = f"If FILE was restored or put there by hand, move {file}-wal away, keep it, and start again. Else"
+        is_alike(program, file, "store failed", "without it whole: the log beside it is another's", by_hand)
+        put({"": copy}, file)
+        is_alike(program, file, None)
+        put({"": copy[:4096] + b"\xff" * 2048 + copy[6144:], "-wal": log}, file)
+        (found,) = looked_at(file)
+        assert found.word == "store failed" and "Keep FILE and its log, and restore a copy" in found.text, found
+
+
 def test_beside_the_file(program):
     """A -journal that holds something, and a log's name that is no file."""
     file = city_file(program)
@@ -383,10 +408,42 @@ def test_the_port(program):
         assert program.run("serve", "other.db", "--port", str(server.port)) == (6, b"", b"read failed\n")
         status, lines = told(Path(program.folder, "other.db"), "--port", server.port)
         assert status == 1 and [it.startswith(f"port {server.port}: read failed: ") for it in lines] == [True], lines
+        assert f"That is another city ({program.folder}/city.db): give this one another port." in lines[0], lines
+        os.kill(server.child.pid, signal.SIGSTOP)
+        stopped = told(Path(program.folder, "other.db"), "--port", server.port)[1][0]
+        assert "another city" in stopped and stopped.endswith("so it answers nobody."), stopped
     assert not doctor.findings_of_port(server.port) and not doctor.findings_of_port(0)
     with socket.create_server(("", 0)) as everywhere:
         (found,) = doctor.findings_of_port(everywhere.getsockname()[1])
         assert "taken" in found.text, found
+    listening = "import socket, time; it = socket.create_server(('127.0.0.1', 0)); print(it.getsockname()[1]"
+    listening = [sys.executable, "-c", f"{listening}, flush=True); time.sleep(60)"]
+    with subprocess.Popen(listening, stdout=subprocess.PIPE) as other:
+        (found,) = doctor.findings_of_port(int(other.stdout.readline()))
+        other.kill()
+    assert found.text.endswith("End that one, or give the city another port."), found
+
+
+def test_the_port_of_its_own_service(program):
+    """That the city's own service has FILE open and listens is no fault, unless it is stopped or hangs at its disk."""
+    file = city_file(program)
+    with Server(program, seconds=60) as server:
+        pid, words = server.child.pid, (file, "--port", server.port)
+        status, lines = told(*words)
+        assert (status, len(lines)) == (0, 1) and lines[0].startswith(f"port {server.port}: process {pid} ("), lines
+        assert "that is this city's own service: nothing is wrong." in lines[0], lines
+        assert told(*words, "unsound", "bikes", "8")[0] == 1
+        os.kill(pid, signal.SIGSTOP)
+        status, lines = told(*words)
+        assert (status, len(lines)) == (1, 2), lines
+        assert all(f"Process {pid} is stopped" in it and "nothing is wrong" not in it for it in lines), lines
+        assert "That is this city's own service." in lines[1], lines
+        os.kill(pid, signal.SIGCONT)
+        assert told(*words)[0] == 0
+        for states, hint in ((["D"] * 11, "waits for its disk"), (["D", *"S" * 10], ""), (["D"] * 10 + ["S"], "")):
+            with unittest.mock.patch.object(doctor, "state_of", lambda pid, left=iter(states): next(left)):
+                told_of = doctor.standstill_of([pid])
+            assert hint in told_of and bool(hint) == bool(told_of), (states, told_of)
 
 
 # ---- what needs root
@@ -416,6 +473,7 @@ def test_a_user_without_rights(program):
     removed(f"{file}-wal")
     for folder_owner, file_owner, mode, hint in (
         (NOBODY, 0, 0o600, str(file)), (NOBODY, NOBODY, 0o400, str(file)), (0, NOBODY, 0o600, f"{home}, which"),
+        (0, 0, 0o644, str(file)),
     ):
         os.chown(home, folder_owner, folder_owner)
         os.chown(file, file_owner, file_owner)
@@ -423,6 +481,8 @@ def test_a_user_without_rights(program):
         if os.access("/usr/bin/python3", os.X_OK):
             status, said = ran("/usr/bin/python3", "-I", Path(program.folder, "script"), file, user=NOBODY)
             assert status == 1 and ": store failed: " in said and hint in said, (hint, status, said)
+            copies = said.count("To look at it, copy FILE and its log to a folder of your own.")
+            assert copies == (0 if (file_owner, mode) == (0, 0o600) else 1), said
         if folder_owner == NOBODY:
             (found,) = looked_at(file)
             assert found.word == "store failed" and hint in found.text, found

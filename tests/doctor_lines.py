@@ -240,18 +240,28 @@ def test_lines_that_cannot_be_taken_back(program):
 
 
 def test_moments_of_lines(program):
-    """A moment more than a day ahead of the clock, or before the line above, is told. The program accepts both."""
+    """A moment more than a minute ahead of the clock, or before the line above, is told. The program accepts both."""
 
     def found_at(*moments):
         data = "".join(f"{it}\toffice\tk{at}\tadd-rider\t{at}\n" for at, it in enumerate(moments, 1)).encode()
         return data, [it.where for it in doctor.findings_of_lines(data, NOW) if it.word == FOR_GOOD]
 
-    assert found_at(NOW, NOW, NOW + 86_400)[1] == []
-    assert found_at(NOW, NOW + 86_401)[1] == ["line 2, moment"]
+    assert found_at(NOW, NOW, NOW + 60)[1] == []
+    assert found_at(NOW, NOW + 61)[1] == ["line 2, moment"]
     assert found_at(NOW, NOW - 1, NOW)[1] == ["line 2, moment"]
     data, places = found_at(1_700_000_000, 17_000_000_300, 1_700_000_600, 1_700_000_700)
     assert places == ["line 2, moment", "line 3, moment"], places
     assert "2508-09-16T06:18:20Z" in doctor.findings_of_lines(data, NOW)[0].text
+    for ahead, words, zone in (
+        (90, "90 seconds", None), (1800, "30 minutes", "UTC+0:30"), (2400, "40 minutes", None),
+        (3600, "60 minutes", "UTC+1"), (7200 - 540, "111 minutes", "UTC+2"), (7200 - 660, "109 minutes", None),
+        (7230, "2 hours", "UTC+2"), (19_700, "5 hours", "UTC+5:30"), (50_400, "14 hours", "UTC+14"),
+        (52_200, "14 hours", None), (86_400, "24 hours", None), (200_000, "2 days", None), (10**8, "3 years", None),
+    ):
+        (it,) = doctor.findings_of_lines(found_at(NOW + ahead)[0], NOW)
+        assert f", {words} ahead of this machine's clock." in it.text, (ahead, it)
+        hint = f"Correct the digits. It may be local time ({zone}) taken for UTC." if zone else "Correct the digits."
+        assert it.text.endswith(hint), (ahead, it)
     assert program.run(given=data) == (0, b"ok\n" * 4, b"")
 
 

@@ -12,6 +12,7 @@ import html.parser
 import http.server
 import json
 import re
+import shutil
 import subprocess
 import sys
 import threading
@@ -192,6 +193,32 @@ def test_the_tour_wants_an_empty_folder_and_a_program(program):
     status, lines, said = tour(program, "results", 1, file="nothing")
     assert status == 1 and not lines and said.startswith("run: there is no program "), (status, lines, said)
     assert Path(program.folder, "mine").read_text() == "mine"
+
+
+def test_where_the_program_is(program):
+    """Where none is named it is the built one, that of a release's folder, or the package's; where none of these is
+    there all three are told. One that is named is taken."""
+    folder = Path(program.folder, "release")
+    shutil.copytree(TOP / "examples", folder / "examples", ignore=shutil.ignore_patterns("__pycache__"))
+    places = [folder / "crates/bikeshare/out/bikeshare", folder / "bikeshare", Path("/usr/bin/bikeshare")]
+
+    def said_by(script, *words):
+        status, out, said = Program(sys.executable, program.folder).run(folder / "examples" / script, *words)
+        return status, (out + said).decode()
+
+    if not places[-1].exists():
+        for status, said in (said_by("city/run", "--folder", "none"), said_by("map/show", "none")):
+            assert status == 1 and all(str(it) in said for it in places), (status, said)
+    for place in reversed(places[:-1]):
+        place.parent.mkdir(parents=True, exist_ok=True)
+        place.write_text(f"#!/bin/sh\necho {place} >&2\nexit 3\n")
+        place.chmod(0o755)
+        status, said = said_by("city/run")
+        assert status == 1 and said.endswith(f"run: init city.db: status 3, it said {place}\n"), (status, said)
+        found = next(filter(Path.is_file, loaded(folder / "examples/map/show").PROGRAMS))
+        assert found == place, found
+    status, said = said_by("city/run", program.file, "--folder", "results", "--trips", "1")
+    assert status == 0, said
 
 
 def test_the_tour_tells_a_wrong_answer(program):
