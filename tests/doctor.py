@@ -7,10 +7,12 @@ says where it isn't.
 
 import contextlib
 import http.server
+import itertools
 import json
 import os
 import random
 import re
+import resource
 import shutil
 import signal
 import socket
@@ -24,8 +26,8 @@ from pathlib import Path
 
 from package import sections_of
 from shared import (
-    CITY, FEEDS, FOREIGN, HEADER, SOUND, STORE_FAILED, TOP, Program, Server, accepted, changed, killed, loaded, office,
-    put, ran, removed, requests_of, rows_of, taken,
+    CITY, FEEDS, FOREIGN, HEADER, READY, SOUND, STORE_FAILED, TOP, Program, Server, accepted, changed, killed, loaded,
+    office, put, ran, removed, requests_of, rows_of, taken,
 )
 
 SCRIPT = TOP / "deploy/bikeshare-doctor"
@@ -322,16 +324,66 @@ def test_a_file_that_is_not_there(program):
 
 
 def test_a_log_without_its_file(program):
-    """Where FILE is gone, or has 0 bytes, and its log holds frames, no word is to run: that log is the only copy."""
-    whole = taken(killed_city(program))
+    """Where FILE is gone, or has 0 bytes, and its log may hold a frame, whatever its head, no word is to run: that log
+    is the only copy. Beside a shorter one the program makes a city."""
+    log = taken(killed_city(program))["-wal"]
+    removed(program.folder, "killed.db")
     file = Path(program.folder, "city.db")
-    for parts in ({"-wal": whole["-wal"]}, {"": b"", "-wal": whole["-wal"]}):
-        put(parts, file)
-        found = looked_at(file)
-        assert [it.word for it in found] == ["store failed"] and "its log" in found[0].text, found
+    heads = {"good frames": log, "damaged head": bytes(4) + log[4:], "a damaged head": random.Random(3).randbytes(6000)}
+    for (hint, data), size, has_file in itertools.product(heads.items(), (0, 31, 32, 567, 568, 5000), (False, True)):
+        removed(file)
+        put({"": b"", "-wal": data[:size]} if has_file else {"-wal": data[:size]}, file)
+        (found,) = looked_at(file)
+        if size < 568:
+            wanted = ("an empty city", "holds nothing") if has_file else ("store failed", "others make an empty city")
+            assert found.word == wanted[0] and wanted[1] in found.text and "Is it" not in found.text, (size, found)
+            assert program.run("init", "city.db") == READY, (hint, size)
+            continue
+        assert found.word == "store failed" and hint in found.text and "its log " in found.text, (hint, size, found)
+        assert f"{size:,} bytes" in found.text and "keep it" in found.text and "others" not in found.text, found
         for words in (("check",), ("lines",), ("init",)):
-            assert program.run(*words, "city.db") == STORE_FAILED, words
-        assert taken(file)["-wal"] == whole["-wal"]
+            assert program.run(*words, "city.db") == STORE_FAILED, (hint, size, words)
+        assert taken(file)["-wal"] == data[:size]
+    # Beside an empty FILE a -journal has sqlite3 opened by its hint, and that would take the log away.
+    put({"": b"", "-wal": log, "-journal": b"x"}, file)
+    (found,) = looked_at(file)
+    assert "keep it" in found.text and "by sqlite3" not in found.text, found
+
+
+def test_a_file_of_one_byte(program):
+    """Beside it the program reads a log that holds all pages, and passes one with a damaged head over. The latter is
+    told all the same."""
+    log = taken(killed_city(program))["-wal"]
+    file = Path(program.folder, "city.db")
+    for data, word, ended in (
+        (log, None, SOUND), (log[:20_000], "store failed", STORE_FAILED), (log[:568], "store failed", STORE_FAILED),
+        (bytes(4) + log[4:], "an empty city", SOUND),
+    ):
+        removed(file)
+        put({"": b"x", "-wal": data}, file)
+        found = looked_at(file)
+        assert [it.word for it in found] == ([word] if word else []), (len(data), found)
+        assert word != "an empty city" or "keep it" in found[0].text, found
+        assert program.run("check", "city.db") == ended, (word, data[:4])
+
+
+def test_a_file_that_cannot_be_made(program):
+    """What stands where FILE would be made and keeps the program from it is told, and so where FILE has 0 bytes."""
+    for number, (name, made) in enumerate((
+        ("-wal", Path.mkdir), ("-wal", os.mkfifo), ("-wal", lambda it: it.symlink_to("nowhere")),
+        ("-journal", lambda it: it.write_bytes(b"x")),
+    )):
+        folder = Path(program.folder, f"folder{number}")
+        folder.mkdir()
+        file = folder / "city.db"
+        made(Path(f"{file}{name}"))
+        (found,) = looked_at(file)
+        assert found.word == "store failed" and "none can be made: " in found.text and name in found.text, found
+        assert program.run("init", str(file)) == STORE_FAILED, name
+        file.write_bytes(b"")
+        (found,) = looked_at(file)
+        assert found.word == "store failed" and (name in found.text or name in found.where), found
+        assert program.run("init", str(file)) == STORE_FAILED, name
 
 
 def test_a_city_ahead_of_the_clock(program):
@@ -446,6 +498,31 @@ def test_the_port_of_its_own_service(program):
             assert hint in told_of and bool(hint) == bool(told_of), (states, told_of)
 
 
+def test_descriptors(program):
+    """With --port it is told where serve may have fewer descriptors than it needs; else they aren't seen."""
+    file = city_file(program)
+
+    def limited(most, *words):
+        return ran("sh", "-c", f'ulimit -n {most}; exec "$@"', "sh", *words, cwd=program.folder)
+
+    assert limited(1015, program.file, "serve", file, "--port", "0") == (6, "read failed\n")
+    for most in 256, 1015:
+        status, said = limited(most, sys.executable, SCRIPT, file, "--port", "0")
+        assert status == 1 and said.startswith(f"descriptors: read failed: {most:,} are allowed"), said
+        assert "1,016" in said and said.count("\n") == 1, said
+    status, said = limited(1016, sys.executable, SCRIPT, file, "--port", "0")
+    assert status == 0 and "the clock" in said and "descriptors" not in said, said
+    with program.started("serve", str(file), "--port", "0", preexec_fn=lambda: limit_descriptors(1016)) as server:
+        assert server.stdout.readline().startswith(b"listening ")
+    status, said = limited(256, sys.executable, SCRIPT, file)
+    assert status == 0 and "the clock, descriptors" in said, said
+
+
+def limit_descriptors(most):
+    """Of this process, and of those that it becomes."""
+    resource.setrlimit(resource.RLIMIT_NOFILE, (most, most))
+
+
 # ---- what needs root
 
 
@@ -494,6 +571,47 @@ def test_a_user_without_rights(program):
     assert nobody.run("lines", str(file), user=NOBODY, group=NOBODY, extra_groups=[]) == STORE_FAILED
 
 
+def test_a_folder_without_rights(program):
+    """Where nobody may not write, or read, a folder, an absent FILE can't be made there, and that is told to nobody,
+    and to root of nobody's folder."""
+    nobody = as_nobody(program)
+    if nobody is None:
+        return
+    home = Path(program.folder, "home")
+    home.mkdir()
+    file = home / "city.db"
+    script = ("/usr/bin/python3", "-I", Path(program.folder, "script"), file)
+    is_tried = os.access("/usr/bin/python3", os.X_OK)
+    for owner, mode, hint in (
+        (0, 0o755, "Give a folder that the user nobody may write"), (NOBODY, 0o555, f"chmod u+rwx {home}"),
+        (NOBODY, 0o333, f"chmod u+rwx {home}"),
+    ):
+        os.chown(home, owner, owner)
+        os.chmod(home, mode)
+        said = [ran(*script, user=NOBODY, group=NOBODY, extra_groups=[])[1]] if is_tried else []
+        said += [it.text for it in looked_at(file)] if owner == NOBODY else []
+        for it in said:
+            assert f"none can be made: {home}, which is " in it and hint in it, (mode, it)
+        assert nobody.run("init", str(file), user=NOBODY, group=NOBODY, extra_groups=[]) == STORE_FAILED, mode
+        removed(file)
+    log = Path(f"{file}-wal")
+    log.write_bytes(b"x" * 567)
+    os.chmod(log, 0o600)
+    os.chmod(home, 0o755)
+    (found,) = looked_at(file)
+    assert f"none can be made: {log} can't be read" in found.text, found
+    assert nobody.run("init", str(file), user=NOBODY, group=NOBODY, extra_groups=[]) == STORE_FAILED
+    removed(file)
+    (found,) = looked_at(file)
+    assert "others make an empty city" in found.text, found
+    assert nobody.run("init", str(file), user=NOBODY, group=NOBODY, extra_groups=[]) == READY
+    # A folder that can be written and not read: it couldn't be opened to be flushed.
+    os.chmod(home, 0o333)
+    (found,) = looked_at(file)
+    assert found.word == "store failed" and f"chmod u+rwx {home}" in found.text, found
+    assert nobody.run("check", str(file), user=NOBODY, group=NOBODY, extra_groups=[]) == STORE_FAILED
+
+
 def mounted(program, *commands):
     """Runs commands of the shell where only they see what they mount: what they said, or none where none may mount."""
     if not shutil.which("unshare") or ran("unshare", "-m", "mount", "-t", "tmpfs", "none", "/mnt")[0]:
@@ -512,12 +630,17 @@ def test_a_disk_that_is_full_or_read_only(program):
         "cp city.db fixed", "mount -o remount,ro fixed",
         "$DOCTOR full/city.db", '"$BIKESHARE" lines full/city.db < /dev/null',
         "$DOCTOR fixed/city.db", '"$BIKESHARE" lines fixed/city.db < /dev/null', '"$BIKESHARE" check fixed/city.db',
+        "$DOCTOR fixed/new.db", '"$BIKESHARE" init fixed/new.db', "$DOCTOR full/new.db",
+        '"$BIKESHARE" init full/new.db',
     )
     if said is None:
         return
-    assert len(said) == 5 and said[1] == said[3] == said[4] == "store failed", said
+    assert len(said) == 10 and said[1] == said[3] == said[4] == "store failed", said
     assert said[0].startswith("full/city.db: store failed: the disk of ") and "full, or nearly" in said[0], said
     assert said[2].startswith("fixed/city.db: store failed: ") and "read-only" in said[2], said
+    assert "none can be made: " in said[5] and "read-only" in said[5] and "others" not in said[5], said
+    assert said[7].endswith("check, feed, day and raise need one.") and "full, or nearly" in said[8], said
+    assert said[6] == said[9] == "store failed", said
 
 
 # ---- the program's lines

@@ -62,6 +62,21 @@ def test_fields_have_the_names_of_the_documents(program):
         assert [name for name, _ in doctor.fields_of(word)] == wanted, (word, wanted)
 
 
+def test_hints_on_money(program):
+    """Only where money is wanted it is told that this is in hundredths."""
+    line = f"{NOW}\toffice\tk\t"
+    for command, is_money in (
+        ("add-plan\tday\tDay\t2.50\tfalse\tBy day\t-", True), ("top-up\t17\t2,50", True), ("refund\t1\t2.0", True),
+        ("add-plan\tday\tDay\t2\tfalse\tBy day\t30:-2.5:5:-", True), ("add-docks\ta1\t2.0", False),
+        ("add-station\ta1\tHarbour\t41.8\t12.4\t2.0", False), ("mark-dock\ta1\t1.5\tbroken", False),
+        ("add-plan\tday\tDay\t2\tfalse\tBy day\t0.5:25:5:-", False), ("add-truck\t3\t2,5", False),
+    ):
+        (found,) = doctor.findings_of_lines((line + command).encode(), NOW)
+        assert ("hundredths" in found.text) == is_money and found.word == BAD_FIELD, (command, found)
+    (found,) = doctor.findings_of_table((HEADER + "c2,Corso,45,9.1,2.0\n").encode())
+    assert "hundredths" not in found.text, found
+
+
 # ---- request lines
 
 ASKED = b"1700000000\toffice\tk\t"
@@ -190,7 +205,9 @@ DOUBTFUL = (
     ("base_url", "foo", "http"), ("base_url", "BASE_URL", "http"), ("base_url", "ftp://x.example", "http"),
     ("base_url", "https://x.example/", "ends in /"),
     ("base_url", "https://x.example/gbfs/3.0", "put behind"), ("base_url", "https://x.example?a=1", "put behind"),
-    ("base_url", "https://", "ends in /"),
+    ("base_url", "http://", "names no host"), ("base_url", "https:///gbfs/3.0", "names no host"),
+    ("base_url", "HTTPS://x.example", "Write https in small letters"),
+    ("base_url", "Http://x.example/", "Write http in small letters"),
     ("base_url", "http://127.0.0.1:8080", "this machine"), ("base_url", "http://localhost", "this machine"),
     ("base_url", "http://[::1]:8080", "this machine"),
     ("base_url", "https://:8080", "names no host"), ("language", "e-", "BCP 47"), ("language", "xx", "BCP 47"),
