@@ -623,6 +623,7 @@ def planted():
         ((*station, "name", 0, "text"), " ", "station_information", "doubtful"),
         ((*plan, "description", 0, "text"), "", "system_pricing_plans", "doubtful"),
         ((*about, "opening_hours"), "always", "system_information, data.opening_hours", "doubtful"),
+        ((*about, "opening_hours"), f"{'1' * 5000}:00", "system_information, data.opening_hours", "doubtful"),
         (("system_regions", "data"), [], "system_regions, data", "GBFS"),
         (("system_regions",), "{", "system_regions", "not read"),
         ((*region, "url"), "HERE/nowhere.json", "system_regions", "not read"),
@@ -651,6 +652,8 @@ def test_feeds(program):
     at_sea = {**feeds["station_information"]["data"]["stations"][0], "lat": 0, "lon": 0.0}
     found = found_in(feeds, ("station_information", "data", "stations", 0), at_sea)
     assert found == [("station_information", "doubtful")], found
+    found = found_in(feeds, ("station_information", "data", "stations", 0, "station_id"), [1])
+    assert ("station_information, data.stations[0].station_id", "GBFS") in found, found
     double = "HERE//gbfs/3.0/system_regions.json"
     assert ("gbfs", "doubtful") in found_in(feeds, ("gbfs", "data", "feeds", 5, "url"), double)
     other = {"name": "system_alerts", "url": "HERE/gbfs/3.0/system_regions.json"}

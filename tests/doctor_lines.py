@@ -203,6 +203,7 @@ DOUBTFUL = (
     ("name", "\u2060\u3164", "can be seen"), ("name", "Met\\nro", "U+000A"), ("name", "Metro\x1b[1m", "U+001B"),
     ("opening_hours", "whenever", "opening_hours"), ("opening_hours", "Mo-Fr 25:00-99:00", "99:00"),
     ("opening_hours", "Mo-Fr 06:00-22:60", "22:60"), ("opening_hours", "27:00-28:00", "27:00"),
+    ("opening_hours", "8:00-100:00", "100:00"),
     ("opening_hours", "-", "opening_hours"),
     ("feed_contact_email", "not-an-email", "address"), ("feed_contact_email", "a@b", "address"),
     ("timezone", "Mars/Base", "time zone"),
