@@ -668,7 +668,8 @@ def test_what_is_said_of_feeds(program):
     closed = status[2]
     assert (closed["is_installed"], closed["num_vehicles_disabled"], closed["num_docks_disabled"]) == (False, 1, 1)
     blank, unseen = ([{"text": it, "language": "en"}] for it in (" ", "\u200b"))
-    exchanged = {**places[0], "lat": places[0]["lon"], "lon": places[0]["lat"]}
+    feeds["system_information"]["data"]["timezone"] = "Europe/Rome"
+    exchanged = [{**it, "lat": it["lon"], "lon": it["lat"]} for it in places]
     in_two_cases = json.loads(json.dumps(feeds["station_information"]).replace('"de"', '"DE"'))
     twice = json.dumps(feeds["system_regions"]).replace('"ttl":', '"ttl": 60, "ttl":')
     information, words = ("station_information", "data", "stations"), ("system_information", "data", "languages")
@@ -676,7 +677,8 @@ def test_what_is_said_of_feeds(program):
         (information, [{**it, "name": name} for it, name in zip(places, (blank, unseen, places[2]["name"]))],
          ("station_information: doubtful: ", " nothing can be seen: a1, b2.")),
         ((*words[:2], "name"), blank, ("system_information: doubtful: ", " nothing can be seen: name.")),
-        ((*information, 0), exchanged, ("station_information: doubtful: a1: ", "exchanged")),
+        ((*information, 0), exchanged[0], ("station_information: doubtful: a1: ", "exchanged")),
+        (information, exchanged, ("station_information: doubtful: a1: the stations lie far from Europe/Rome",)),
         ((*information, 0, "lat"), 46.9, ("station_information: doubtful: a1: ", "the station lies 555 km from")),
         ((*information, 0, "capacity"), 0, ("station_status: GBFS: num_docks_", " above the capacity: a1 (1 and 0)."),
          ("station_status: GBFS: num_vehicles_", " above the capacity: a1 (1 and 0).")),
@@ -703,7 +705,7 @@ def test_the_address_of_feeds(program):
     for host in "http://127.0.0.1:8080", "https://gbfs", "https://metro.example/bikes":
         for end in "", "/", "/gbfs", "/gbfs/", "/gbfs/3.0", "/gbfs/3.0/", "/gbfs/3.0/gbfs.json", "/gbfs/3.0/gbfs.json/":
             assert doctor.address_of_gbfs(host + end) == f"{host}/gbfs/3.0/gbfs.json", (host, end)
-    for url in "https://metro.example/v3/gbfs.json", "https://metro.example/gbfs?key=1":
+    for url in "https://metro.example/v3/gbfs.json", "https://metro.example/gbfs?at=/":
         assert doctor.address_of_gbfs(url) == url
 
 
