@@ -717,8 +717,13 @@ def feeds_of_city(program):
     port, now = free_port(), int(time.time())
     system = CITY[0].replace("8080", str(port))
     more = ["add-region\tnorth\tNorth", "set-region\ta1\tnorth", "add-station\tb2\tBridge\t41.9\t12.5\t500"]
-    more += ["add-name\tstation\ta1\tde\tHafen", "add-name\tplan\tbasic\tzh-Hant\t港"]
+    more += ["add-name\tstation\ta1\tde\tHafen", "add-name\tplan\tbasic\tzh\t港"]
     more += ["add-type\tcargo\tCargo\tcargo_bicycle\telectric_assist\t60000\tbasic"]
+    # A station that is closed, with a broken dock that holds a bicycle, which is counted twice, and a bicycle that is
+    # gone.
+    more += ["add-station\tc3\tCanal\t41.91\t12.51\t2", "add-bike\t8\tcity", "add-bike\t9\tcargo", "retire-bike\t9"]
+    more += ["open-order\t3\t*\tc3\tcity\t1", "load\t3\t2\t8", "unload\t3\t2\t8\tto\t1", "close-order\t2"]
+    more += ["mark-dock\tc3\t1\tbroken", "set-station\tc3\tfalse\tfalse\tfalse"]
     accepted(program, [system, *CITY[1:], *more], at=now, key="f")
     with program.started("serve", "city.db", "--port", str(port)) as server:
         assert server.stdout.readline() == f"listening 127.0.0.1:{port}\n".encode()
@@ -763,6 +768,10 @@ def planted():
         ((*station, "name"), "Harbour", "station_information, data.stations[0].name", "GBFS"),
         ((*station, "name", 0, "language"), None, "station_information, data.stations[0].name[0]", "GBFS"),
         ((*station, "capacity"), 2.5, "station_information, data.stations[0].capacity", "GBFS"),
+        ((*station, "name"), [], "station_information, data.stations[0].name", "GBFS"),
+        ((*station, "name", 1, "language"), "en", "station_information, data.stations[0].name", "GBFS"),
+        ((*station, "lat"), 46.9, "station_information", "doubtful"),
+        ((*station, "capacity"), 9, "station_status", "GBFS"),
         ((*station, "rental_methods"), ["CASH"], "station_information, data.stations[0].rental_methods[0]", "GBFS"),
         ((*status, "is_renting"), 1, "station_status, data.stations[0].is_renting", "GBFS"),
         ((*status, "num_vehicles_available"), None, "station_status, data.stations[0]", "GBFS"),
@@ -780,15 +789,24 @@ def planted():
         ((*kind, "default_pricing_plan_id"), "gold", "vehicle_types", "missing"),
         ((*station, "region_id"), "south", "station_information", "missing"),
         ((*about, "languages"), ["en", "de"], "system_pricing_plans", "missing"),
+        ((*about, "languages"), ["en", "de", "zh", "de"], "system_information", "GBFS"),
+        ((*about, "languages"), ["de", "en", "zh"], "system_information", "doubtful"),
+        ((*about, "languages"), ["en", "de", "zh", "zh-Hant"], "system_information", "doubtful"),
         (("system_regions", "last_updated"), old, "system_regions", "silent"),
         (("station_status", "last_updated"), moment_in(-86_000), "station_status", "GBFS"),
         ((*status, "last_reported"), soon, "station_status", "GBFS"),
         ((*status, "num_docks_available"), None, "station_status", "GBFS"),
-        ((*status, "num_vehicles_available"), 7, "station_status", "GBFS"),
+        ((*status, "num_vehicles_available"), 2, "station_status", "GBFS"),
+        ((*status, "num_docks_available"), 2, "station_status", "GBFS"),
+        ((*status, "num_vehicles_disabled"), 2, "station_status", "GBFS"),
+        ((*status, "num_docks_disabled"), 0, "station_status", "GBFS"),
+        ((*status, "vehicle_types_available", 0, "vehicle_type_id"), "city", "station_status", "GBFS"),
+        ((*segment, "end"), 30, "system_pricing_plans", "GBFS"),
         ((*status, "vehicle_types_available", 0, "count"), 7, "station_status", "GBFS"),
         ((*station, "name", 0, "text"), " ", "station_information", "doubtful"),
         ((*plan, "description", 0, "text"), "", "system_pricing_plans", "doubtful"),
         ((*about, "opening_hours"), "always", "system_information, data.opening_hours", "doubtful"),
+        ((*about, "opening_hours"), f"{'1' * 5000}:00", "system_information, data.opening_hours", "doubtful"),
         (("system_regions", "data"), [], "system_regions, data", "GBFS"),
         (("system_regions",), "{", "system_regions", "not read"),
         ((*region, "url"), "HERE/nowhere.json", "system_regions", "not read"),
@@ -802,7 +820,7 @@ def test_feeds(program):
     assert said[:2] == [(0, []), (0, [])], said
     status, strict = said[2]
     assert status == 1 and all(": left out: " in it for it in strict), strict
-    assert any("license_id" in it for it in strict) and any("zh-Hant" in it for it in strict), strict
+    assert any("license_id" in it for it in strict), strict
     for path, value, where, word in planted():
         found = found_in(feeds, path, value)
         if word is None:
@@ -817,10 +835,61 @@ def test_feeds(program):
     at_sea = {**feeds["station_information"]["data"]["stations"][0], "lat": 0, "lon": 0.0}
     found = found_in(feeds, ("station_information", "data", "stations", 0), at_sea)
     assert found == [("station_information", "doubtful")], found
+    found = found_in(feeds, ("station_information", "data", "stations", 0, "station_id"), [1])
+    assert ("station_information, data.stations[0].station_id", "GBFS") in found, found
     double = "HERE//gbfs/3.0/system_regions.json"
     assert ("gbfs", "doubtful") in found_in(feeds, ("gbfs", "data", "feeds", 5, "url"), double)
     other = {"name": "system_alerts", "url": "HERE/gbfs/3.0/system_regions.json"}
     assert ("gbfs", "GBFS") in found_in(feeds, ("gbfs", "data", "feeds", 3), other)
+
+
+def test_what_is_said_of_feeds(program):
+    """What feeds have that their forms allow: each is said in one sentence, with the identifiers."""
+    feeds, _ = feeds_of_city(program)
+    places, status = (feeds[it]["data"]["stations"] for it in ("station_information", "station_status"))
+    assert [it["station_id"] for it in places] == ["a1", "b2", "c3"] == [it["station_id"] for it in status]
+    closed = status[2]
+    assert (closed["is_installed"], closed["num_vehicles_disabled"], closed["num_docks_disabled"]) == (False, 1, 1)
+    blank, unseen = ([{"text": it, "language": "en"}] for it in (" ", "\u200b"))
+    feeds["system_information"]["data"]["timezone"] = "Europe/Rome"
+    exchanged = [{**it, "lat": it["lon"], "lon": it["lat"]} for it in places]
+    in_two_cases = json.loads(json.dumps(feeds["station_information"]).replace('"de"', '"DE"'))
+    twice = json.dumps(feeds["system_regions"]).replace('"ttl":', '"ttl": 60, "ttl":')
+    information, words = ("station_information", "data", "stations"), ("system_information", "data", "languages")
+    for path, value, *wanted in (
+        (information, [{**it, "name": name} for it, name in zip(places, (blank, unseen, places[2]["name"]))],
+         ("station_information: doubtful: ", " nothing can be seen: a1, b2.")),
+        ((*words[:2], "name"), blank, ("system_information: doubtful: ", " nothing can be seen: name.")),
+        ((*information, 0), exchanged[0], ("station_information: doubtful: a1: ", "exchanged")),
+        (information, exchanged, ("station_information: doubtful: a1: the stations lie far from Europe/Rome",)),
+        ((*information, 0, "lat"), 46.9, ("station_information: doubtful: a1: ", "the station lies 555 km from")),
+        ((*information, 0, "capacity"), 0, ("station_status: GBFS: num_docks_", " above the capacity: a1 (1 and 0)."),
+         ("station_status: GBFS: num_vehicles_", " above the capacity: a1 (1 and 0).")),
+        ((*information, 2, "capacity"), 4, ("station_status: GBFS: ", " below the capacity: c3 (3 and 4).")),
+        (("station_status", "data", "stations", 1, "num_docks_available"), 501,
+         ("station_status: GBFS: num_docks_", " above the capacity: b2 (501 and 500).")),
+        (("system_regions",), twice, ("system_regions: GBFS: an object has ttl twice",)),
+        (("gbfs", "data", "feeds", 5), feeds["gbfs"]["data"]["feeds"][4],
+         ("gbfs: GBFS: it lists system_pricing_plans twice",)),
+        (("station_information",), in_two_cases, ("system_information: doubtful: DE: ", "validators"),
+         ("system_information: doubtful: DE and de: ", "one language"), ("station_information: missing: ", "DE")),
+    ):
+        changed_feeds = json.loads(json.dumps(feeds))
+        set_at(changed_feeds, path, value)
+        with served(changed_feeds) as here:
+            said = [f"{it.where}: {it.word}: {it.text}" for it in doctor.findings_of_feeds(here, time.time())]
+        assert len(said) == len(wanted), (path, said)
+        for parts in wanted:
+            assert any(it.startswith(parts[0]) and parts[-1] in it for it in said), (parts, said)
+
+
+def test_the_address_of_feeds(program):
+    """URL may be the feed gbfs, or its folders and the host, with or without slashes at its end."""
+    for host in "http://127.0.0.1:8080", "https://gbfs", "https://metro.example/bikes":
+        for end in "", "/", "/gbfs", "/gbfs/", "/gbfs/3.0", "/gbfs/3.0/", "/gbfs/3.0/gbfs.json", "/gbfs/3.0/gbfs.json/":
+            assert doctor.address_of_gbfs(host + end) == f"{host}/gbfs/3.0/gbfs.json", (host, end)
+    for url in "https://metro.example/v3/gbfs.json", "https://metro.example/gbfs?at=/":
+        assert doctor.address_of_gbfs(url) == url
 
 
 def found_in(feeds, path, value, **how):

@@ -204,6 +204,7 @@ LASTING = ("language", "currency")
 DOUBTFUL = (
     ("base_url", "foo", "http"), ("base_url", "BASE_URL", "http"), ("base_url", "ftp://x.example", "http"),
     ("base_url", "https://x.example/", "ends in /"),
+    ("base_url", "https://x.example/gbfs/", "put behind"), ("base_url", "https://x.example/gbfs/3.0//", "put behind"),
     ("base_url", "https://x.example/gbfs/3.0", "put behind"), ("base_url", "https://x.example?a=1", "put behind"),
     ("base_url", "http://", "names no host"), ("base_url", "https:///gbfs/3.0", "names no host"),
     ("base_url", "HTTPS://x.example", "Write https in small letters"),
@@ -213,8 +214,13 @@ DOUBTFUL = (
     ("base_url", "https://:8080", "names no host"), ("language", "e-", "BCP 47"), ("language", "xx", "BCP 47"),
     ("language", "english", "BCP 47"),
     ("language", "EN", "only in its case"), ("language", "de-ch", "only in its case"),
-    ("language", "zh-hant", "only in its case"), ("name", " ", "spaces"),
-    ("name", "\\t", "spaces"), ("name", " Metro", "begins or ends"), ("opening_hours", "whenever", "opening_hours"),
+    ("language", "zh-hant", "validators"), ("language", "zh-Hant", "validators"), ("language", "es-419", "validators"),
+    ("language", "de-CH-1996", "validators"), ("language", "x-bikes", "validators"), ("name", " ", "spaces"),
+    ("name", "\\t", "spaces"), ("name", " Metro", "begins or ends"), ("name", "\u200b", "can be seen"),
+    ("name", "\u2060\u3164", "can be seen"), ("name", "Met\\nro", "U+000A"), ("name", "Metro\x1b[1m", "U+001B"),
+    ("opening_hours", "whenever", "opening_hours"), ("opening_hours", "Mo-Fr 25:00-99:00", "99:00"),
+    ("opening_hours", "Mo-Fr 06:00-22:60", "22:60"), ("opening_hours", "27:00-28:00", "27:00"),
+    ("opening_hours", "8:00-100:00", "100:00"),
     ("opening_hours", "-", "opening_hours"),
     ("feed_contact_email", "not-an-email", "address"), ("feed_contact_email", "a@b", "address"),
     ("timezone", "Mars/Base", "time zone"),
@@ -224,8 +230,7 @@ DOUBTFUL = (
 # And ones of which nothing is found.
 FREE_OF_DOUBT = (
     ("base_url", "http://bikes.example:8080"), ("base_url", "https://example.org/bikes"), ("language", "de-CH"),
-    ("language", "zh-Hant"), ("language", "es-419"),
-    ("language", "de-CH-1996"), ("language", "haw"), ("name", "24"),
+    ("language", "haw"), ("name", "24"), ("name", "\u2067Metro\u2069"), ("opening_hours", "Fr 20:00-26:00"),
     ("opening_hours", "Mo-Fr 06:00-22:00; Sa,Su,PH 08:00-20:00"),
     ("opening_hours", "sunrise-sunset"), ("opening_hours", 'Apr-Oct 06:00-24:00 "in summer"'),
     ("feed_contact_email", "o'neil+gbfs@mail.example.org"),
@@ -254,6 +259,22 @@ def test_lines_that_cannot_be_taken_back(program):
     wanted = {(f"line 1, {it}", FOR_GOOD if it in LASTING else FOR_NOW) for it in worst}
     assert found == wanted | {("line 2, language", FOR_GOOD), ("line 2, name", FOR_GOOD)}, found
     assert program.run(given=lines.encode()) == (0, b"ok\nok\n", b"")
+
+
+def test_further_names_of_lines(program):
+    """A further name of the system is told once for each language that is accepted, as change-system leaves it. Of
+    other things a tag is told that validators refuse."""
+    commands = ["add-name\tsystem\tmetro\tde\tRad"]
+    commands += ["change-system\tRoma\t24/7\tx@example.org\tEtc/UTC\thttps://x.example\t60"]
+    commands += ["add-name\tsystem\tmetro\tde\tRoma", "add-name\tsystem\tmetro\ten\tRoma"]
+    commands += ["add-plan\tday\tDay\t250\tfalse\tBy day\t-", "add-name\tplan\tday\tfr\tJour"]
+    commands += ["add-name\tplan\tday\tzh-Hant\t日"]
+    lines = f"{system_line()}\n".encode() + requests_of(commands, at=NOW, key="n")
+    found = doctor.findings_of_lines(lines, NOW)
+    assert [place_of(it) for it in found] == [("line 2, name", FOR_GOOD), ("line 8, language", FOR_GOOD)], found
+    assert "change-system doesn't change it" in found[0].text and "en, de-CH" in found[1].text, found
+    answers = program.run(given=lines)[1].splitlines()
+    assert answers == [*[b"ok"] * 3, *[b"refused\t10\talready_there"] * 2, *[b"ok"] * 3], answers
 
 
 def test_moments_of_lines(program):
@@ -399,12 +420,16 @@ def test_what_is_said_of_tables(program):
         (HEADER + "c2,Corso,45,9.1,600\n", "row 1 (line 2), docks", "1 to 500"),
         (HEADER + "c2,Corso, 45,9.1,10\n", "row 1 (line 2), lat", "isn't written so"),
         (HEADER + ROW + ROW, "row 2 (line 3), station_id", "row 1 (line 2)"),
-        (HEADER + 'q1,"a\nb",45,9.1,10\nc2,"   ",45,9.1,10\n', "row 2 (line 4), name", "spaces"),
+        (HEADER + ROW + '\nc2,"   ",45,9.1,10\n', "row 2 (line 4), name", "spaces"),
+        (HEADER + 'q1,"a\nb",45,9.1,10\n', "row 1 (line 2), name", "U+000A"),
+        (HEADER + "c2,\u200b,45,9.1,10\n", "row 1 (line 2), name", "can be seen"),
         (HEADER + "c1,Canal,0,0,10\n", "row 1 (line 2), lat and lon", "0, 0"),
         (HEADER + ROW + "c2,a,45,9.2,1\nc3,b,45.1,9,1\nc4,c,9.1,45,1\n", "row 4 (line 5), lat and lon", "exchanged"),
     ):
         found = doctor.findings_of_table(table if isinstance(table, bytes) else table.encode())
         assert [it.where for it in found] == [where] and word in found[0].text, (table, found)
+    found = doctor.findings_of_table((HEADER + 'q1,"a\nb",45,9.1,10\nc2,"   ",45,9.1,10\n').encode())
+    assert [it.where for it in found] == ["row 1 (line 2), name", "row 2 (line 4), name"], found
     many = HEADER + "".join(f"s{number},Station,45,9,1\n" for number in range(1, 5002))
     found = doctor.findings_of_table(many.encode())
     assert [place_of(it) for it in found] == [("row 5001 (line 5002)", "limit_reached")], found
