@@ -262,8 +262,8 @@ def test_lines_that_cannot_be_taken_back(program):
 
 
 def test_further_names_of_lines(program):
-    """A further name of the system is told once for each language that is accepted, as change-system leaves it. Of
-    other things a tag is told that validators refuse."""
+    """Where change-system gives another name, it is told that those in further languages stay; and a tag is told that
+    validators refuse."""
     commands = ["add-name\tsystem\tmetro\tde\tRad"]
     commands += ["change-system\tRoma\t24/7\tx@example.org\tEtc/UTC\thttps://x.example\t60"]
     commands += ["add-name\tsystem\tmetro\tde\tRoma", "add-name\tsystem\tmetro\ten\tRoma"]
@@ -271,8 +271,11 @@ def test_further_names_of_lines(program):
     commands += ["add-name\tplan\tday\tzh-Hant\t日"]
     lines = f"{system_line()}\n".encode() + requests_of(commands, at=NOW, key="n")
     found = doctor.findings_of_lines(lines, NOW)
-    assert [place_of(it) for it in found] == [("line 2, name", FOR_GOOD), ("line 8, language", FOR_GOOD)], found
-    assert "change-system doesn't change it" in found[0].text and "en, de-CH" in found[1].text, found
+    assert [place_of(it) for it in found] == [("line 3, name", FOR_GOOD), ("line 8, language", FOR_GOOD)], found
+    assert "further languages (de) stay" in found[0].text and "en, de-CH" in found[1].text, found
+    alike = requests_of(["change-system\tMetro\t24/7\tx@example.org\tEtc/UTC\thttps://x.example\t60"], at=NOW, key="m")
+    first = f"{system_line()}\n".encode() + requests_of(commands[:1], at=NOW, key="n")
+    assert doctor.findings_of_lines(first + alike, NOW) == []
     answers = program.run(given=lines)[1].splitlines()
     assert answers == [*[b"ok"] * 3, *[b"refused\t10\talready_there"] * 2, *[b"ok"] * 3], answers
 
