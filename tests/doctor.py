@@ -866,6 +866,8 @@ def test_what_is_said_of_feeds(program):
         ((*information, 0, "capacity"), 0, ("station_status: GBFS: num_docks_", " above the capacity: a1 (1 and 0)."),
          ("station_status: GBFS: num_vehicles_", " above the capacity: a1 (1 and 0).")),
         ((*information, 2, "capacity"), 4, ("station_status: GBFS: ", " below the capacity: c3 (3 and 4).")),
+        (("station_status", "data", "stations", 1, "num_vehicles_disabled"), 1,
+         ("station_status: GBFS: the vehicles and num_docks_available ", " above the capacity: b2 (501 and 500).")),
         (("station_status", "data", "stations", 1, "num_docks_available"), 501,
          ("station_status: GBFS: num_docks_", " above the capacity: b2 (501 and 500).")),
         (("system_regions",), twice, ("system_regions: GBFS: an object has ttl twice",)),

@@ -731,24 +731,56 @@ def test_gateway_feeds_that_are_still_good(program):
 
 @needs("nginx")
 def test_gateway_feeds_after_a_quiet_time(program):
-    """Of many that ask at once for a feed whose time is over none gets the old one, though the program is slow."""
+    """Of many that ask at once, the program being slow, none gets a feed whose time was over more than five seconds
+    before. One whose time was over since is given while a new one is fetched."""
     city(program)
     with Server(program) as server, Gateway(program, {"metro": server.port}, ttl=1) as gateway:
-        _, _, before = gateway.ask("GET", FEED)
-        time.sleep(2.2)
-        found = []
-        clients = [threading.Thread(target=lambda: found.append(gateway.ask("GET", FEED))) for _ in range(8)]
-        os.kill(server.child.pid, signal.SIGSTOP)
-        try:
-            for client in clients:
-                client.start()
-            time.sleep(0.5)
-        finally:
-            os.kill(server.child.pid, signal.SIGCONT)
+        for quiet, is_old in (2.2, True), (7.2, False):
+            _, _, before = gateway.ask("GET", FEED)
+            time.sleep(quiet)
+            found = asked_of_a_slow_program(server, gateway, 8)
+            assert [status for status, _, _ in found] == [200] * 8, found
+            old = [body["last_updated"] for _, _, body in found].count(before["last_updated"])
+            assert old == (7 if is_old else 0), (old, before, found)
+
+
+@needs("nginx")
+def test_gateway_feeds_leave_room_for_requests(program):
+    """However many ask at once for a feed whose time is long over, requests find their connections to the program."""
+    city(program)
+    with Server(program) as server, Gateway(program, {"metro": server.port}, ttl=1) as gateway:
+        assert gateway.told("GET", FEED) == (200, "")
+        time.sleep(7.2)
+        found = asked_of_a_slow_program(server, gateway, 150, "office:anna")
+        assert [status for status, _, _ in found] == [200] * 151, [status for status, _, _ in found]
+
+
+def asked_of_a_slow_program(server, gateway, count, caller=None):
+    """What so many get, each from an address of its own, who ask for a feed while the program stands still for half a
+    second; and at the end what a caller gets who asks for a rider meanwhile."""
+
+    def ask(address):
+        with contextlib.closing(
+            http.client.HTTPConnection("127.0.0.1", gateway.port, timeout=SECONDS, source_address=(address, 0))
+        ) as client:
+            client.request("GET", FEED, headers={"Host": "metro.example"})
+            answer = client.getresponse()
+            found.append((answer.status, answer.headers, json.loads(answer.read())))
+
+    found, last = [], []
+    clients = [threading.Thread(target=ask, args=(f"127.0.1.{number + 1}",)) for number in range(count)]
+    if caller:
+        clients.append(threading.Thread(target=lambda: last.append(gateway.ask("GET", "/riders/17", caller))))
+    os.kill(server.child.pid, signal.SIGSTOP)
+    try:
         for client in clients:
-            client.join(SECONDS)
-        assert [status for status, _, _ in found] == [200] * 8, found
-        assert all(body["last_updated"] > before["last_updated"] for _, _, body in found), (before, found)
+            client.start()
+        time.sleep(0.5)
+    finally:
+        os.kill(server.child.pid, signal.SIGCONT)
+    for client in clients:
+        client.join(SECONDS)
+    return found + last
 
 
 @needs("nginx")
