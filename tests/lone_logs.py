@@ -2,7 +2,8 @@
 whole city: no word begins anew over it.
 
 A log of 568 bytes or more may hold a commit: its header, and a frame of the smallest page. Where its FILE is missing
-or has 0 bytes every word says `store failed`, makes no FILE and leaves the log; with FILE put back the city is whole.
+or has at most one byte every word says `store failed`, makes no FILE and leaves the log; with FILE put back the city is
+whole.
 Where FILE's first page is damaged a word says `store failed` and changes nothing, or the log has that page, and then
 the city is what it was.
 """
@@ -50,7 +51,7 @@ def is_whole(program, state):
 def test_no_word_begins_anew_over_a_log(program):
     for is_young in True, False:
         parts, state = left(program.file, is_young)
-        for name, rest in ("missing", {}), ("empty", {"": b""}):
+        for name, rest in ("missing", {}), ("empty", {"": b""}), ("a byte", {"": b"S"}):
             put({**rest, "-wal": parts["-wal"]}, program.folder, "city.db")
             before = beside(program)
             for word, *more in EACH_WORD:

@@ -1,5 +1,6 @@
-"""Words that only look. `check`, `feed` and `day` change nothing: no byte of FILE, and not its journal mode. They make
-no table, and leave no log where there was none. They and `raise` make no FILE. A file that is refused gets no log.
+"""Words that only look. `check`, `feed` and `day` change nothing: no byte of FILE and of its log, whatever these hold,
+and not FILE's journal mode. They make no table, and leave no log where there was none. They and `raise` make no FILE. A
+file that is refused gets no log, and a log whose header is damaged is refused by every word.
 """
 
 import contextlib
@@ -9,6 +10,7 @@ import sqlite3
 from pathlib import Path
 
 import adoption
+import lone_logs
 from days import ENTRIES, RENTALS
 from shared import (
     DONE, FOREIGN, HEADER, NO_SYSTEM, READY, SOUND, STORE_FAILED, Server, changed, held, office, put, quickly, removed,
@@ -75,9 +77,14 @@ def test_databases_of_others(program):
         parts = {part: data for part, data in taken(file).items() if part in ("", "-wal")}
     put(parts, file)
     rows = held(file)
-    for name, (words, empty) in LOOKS.items():
-        assert asks(program, words, file.name) == empty, name
-        assert held(file) == rows and file.read_bytes() == parts[""], name
+    stays(program, file.name)
+    assert held(file) == rows
+    log = parts["-wal"]
+    for name, other in damages(log):
+        if name != "header":
+            with told_with(name):
+                put({"": parts[""], "-wal": other}, file)
+                stays(program, file.name)
 
 
 @quickly
@@ -90,6 +97,8 @@ def test_files_of_a_byte_or_none(program):
             stays(program, file.name)
         removed(file)
         put({"": data}, file)
+        before = beside(program)
+        assert program.run("raise", file.name) == STORE_FAILED and beside(program) == before, data
         assert program.run("lines", file.name, given=b"") == (0, b"", b"") and held(file), data
         removed(file)
 
@@ -105,10 +114,106 @@ def test_a_city(program):
         assert beside(program) == before, (words, "something was changed")
     with Server(program) as server:
         assert server.ask(office("o1", "add-rider\t40")) == DONE
-    rows, before = held(file), {part: taken(file)[part] for part in ("", "-wal")}
+    rows, before = held(file), beside(program)
     for words, _ in LOOKS.values():
         assert asks(program, words, file.name)[0] == 0, words
-        assert held(file) == rows and {part: taken(file)[part] for part in before} == before, words
+        assert beside(program) == before, (words, "something was changed")
+    assert held(file) == rows
+
+
+def damages(log):
+    """A log in which something is damaged, with a name for what is: its header, or else what stands behind."""
+    page = 24 + int.from_bytes(log[8:12], "big")
+    for at in 0, 1, 3, 5, 9, 14, 17, 22, 24, 31:
+        yield "header", log[:at] + bytes([log[at] ^ 0x40]) + log[at + 1 :]
+    yield "header", b"\1" * 32 + log[32:]
+    # The engine itself leaves a first byte of 0 while it writes a header anew.
+    yield "begun anew", b"\0" + log[1:]
+    for at in 33, 40, 41, 50, 60, 32 + page + 8, 32 + page + 100:
+        if at < len(log):
+            yield f"byte {at}", log[:at] + bytes([log[at] ^ 0x40]) + log[at + 1 :]
+    for size in 568, 600, 32 + page - 1, 32 + page, 32 + page + 9:
+        if size < len(log):
+            yield f"cut to {size}", log[:size]
+    # The gate behind the last frame stands open, as if the next one had been written.
+    for end in 32, 32 + page:
+        if end + page <= len(log):
+            yield f"open at {end}", log[: end + 8] + log[16:24] + log[end + 16 :]
+
+
+def killed_city(file):
+    """FILE and its log after a kill, of a young city, whose log holds all, and of one that has a log of the newest
+    requests alone."""
+    for is_young in True, False:
+        yield is_young, lone_logs.left(file, is_young)[0]
+
+
+@quickly
+def test_a_damaged_log(program):
+    """What stands behind its header is passed over where it is damaged, and a damaged header is refused; no byte is
+    changed."""
+    for is_young, parts in killed_city(program.file):
+        for name, log in damages(parts["-wal"]):
+            put({"": parts[""], "-wal": log}, program.folder, "city.db")
+            before = beside(program)
+            for words, _ in LOOKS.values():
+                with told_with(f"{'young' if is_young else 'grown'}, {name}, {words}"):
+                    ended = asks(program, words, "city.db")
+                    if name == "header":
+                        assert ended == STORE_FAILED, ended
+                    else:
+                        assert ended[0] in (0, 1), ended
+                    assert beside(program) == before, "something was changed"
+
+
+@quickly
+def test_a_log_with_a_damaged_header(program):
+    """Each word refuses it, and changes nothing; with its bytes put back the city is whole. One that is too short to
+    hold a request is passed over."""
+    parts, state = lone_logs.left(program.file, False)
+    for number, log in enumerate(log for name, log in damages(parts["-wal"]) if name == "header"):
+        put({"": parts[""], "-wal": log}, program.folder, "city.db")
+        before = beside(program)
+        words = adoption.EACH_WORD if number == 0 else [adoption.EACH_WORD[number % len(adoption.EACH_WORD)]]
+        for word, *more in words:
+            with told_with(f"{number}, {word}"):
+                ended = program.run(word, "city.db", *more, given=lone_logs.INPUT)
+                assert ended == STORE_FAILED, ended
+                assert beside(program) == before, "something was changed"
+    put(parts, program.folder, "city.db")
+    lone_logs.is_whole(program, state)
+    for size, wanted in (lone_logs.LEAST_LOG, STORE_FAILED), (lone_logs.LEAST_LOG - 1, READY):
+        put({"": parts[""], "-wal": b"\1" * size}, program.folder, "city.db")
+        assert program.run("init", "city.db") == wanted, size
+
+
+@quickly
+def test_a_log_that_is_begun_anew(program):
+    """A header that the engine had begun to write anew is no damage: FILE has all by then."""
+    with Server(program) as server:
+        assert server.ask(office("o1", "add-rider\t40")) == DONE
+    file = Path(program.folder, "city.db")
+    rows = held(file)
+    assert program.run("lines", file.name, given=b"") == (0, b"", b"")
+    log = lone_logs.left(program.file, True)[0]["-wal"]
+    for anew in b"\0" + log[1:], b"\0" * 32 + log[32:]:
+        put({"": file.read_bytes(), "-wal": anew}, file)
+        before = beside(program)
+        assert program.run("check", file.name) == SOUND and beside(program) == before
+        assert program.run("lines", file.name, given=b"") == (0, b"", b"") and held(file) == rows
+
+
+@quickly
+def test_a_byte_beside_a_log(program):
+    """Every word refuses a FILE of one byte beside a log that may hold requests, whether the log is good or not."""
+    log = lone_logs.left(program.file, True)[0]["-wal"]
+    for other in log, b"\1" * len(log), b"\0" + log[1:]:
+        put({"": b"S", "-wal": other}, program.folder, "city.db")
+        before = beside(program)
+        for word, *more in adoption.EACH_WORD:
+            with told_with(word):
+                assert program.run(word, "city.db", *more, given=lone_logs.INPUT) == STORE_FAILED
+                assert beside(program) == before, "something was changed"
 
 
 def gets_no_log(program, file, wanted, words):

@@ -18,6 +18,7 @@ import itertools
 import os
 import random
 import sqlite3
+import struct
 import subprocess
 from pathlib import Path
 
@@ -568,9 +569,21 @@ def test_pages_in_other_places(program):
     holds(program, city, changes, as_sqlite_reads, "pages")
 
 
+def has_bad_header(log):
+    """Whether a log that may hold a request has a header that fails its checksum, and the engine wasn't about to write
+    it anew, which it tells by a first byte of 0."""
+    one = two = 0
+    words = struct.unpack("<6I" if log[3:4] == b"\x82" else ">6I", log[:24].ljust(24, b"\0"))
+    for at in 0, 2, 4:
+        one = (one + words[at] + two) & 0xFFFFFFFF
+        two = (two + words[at + 1] + one) & 0xFFFFFFFF
+    is_good = log[:4] in (b"\x37\x7f\6\x82", b"\x37\x7f\6\x83") and struct.pack(">2I", one, two) == log[24:32]
+    return len(log) >= 568 and log[0] != 0 and not is_good
+
+
 def test_logs_that_are_changed(program):
     """A log that is damaged ends where the damage is, so the city is that after a front of the requests; or a fault is
-    named."""
+    named, as it is where its header is damaged. No byte of FILE and of the log is changed."""
     _, (main, log) = made(program)
     pick = random.Random(f"{SEED} log")
     count = 400 if TRIED == "all" else int(TRIED) // 2
@@ -589,9 +602,10 @@ def test_logs_that_are_changed(program):
         beside = file.with_name(file.name + "-wal")
         beside.write_bytes(bytes_of_log)
         ended = program.run("check", file.name)
-        if ended not in (SOUND, STORE_FAILED) or file.read_bytes() != main:
-            stands = "the file stands" if file.read_bytes() == main else "the file was changed"
-            wrong.append(f"{name}: {ended}, {stands}")
+        if ended not in ((STORE_FAILED,) if has_bad_header(bytes_of_log) else (SOUND, STORE_FAILED)):
+            wrong.append(f"{name}: {ended}")
+        if (file.read_bytes(), beside.read_bytes()) != (main, bytes_of_log):
+            wrong.append(f"{name}: FILE or its log was changed")
         again = program.run("check", file.name)
         if again != ended:
             wrong.append(f"{name}: first {ended} and then {again}")

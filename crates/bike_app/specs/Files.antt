@@ -3,9 +3,12 @@ use Rattle.std.specs.Prelude.{◌≡◌, ◌⊎◌, ℕ, Bool, true, false, List
 use Rattle.std.specs.Io.KnownBytes.{Keeps}
 use Rattle.sqlite_disk.specs.declared.Disk as disk
 use Rattle.sqlite_disk.specs.declared.Files.{Files}
+use Rattle.sqlite_disk.specs.declared.start.Start as start
 use Rattle.sqlite_wal.specs.Reads.{AreClean}
 use Rattle.sqlite_wal.specs.Recovery.{Image}
+use Rattle.sqlite_wal.specs.Files.{image_at}
 use Rattle.sqlite_store.specs.declared.store.FileStore.{FileStore}
+use Rattle.sqlite_store.specs.FileStore.{files}
 use Rattle.sqlite.specs.Held.{Held}
 use Rattle.sqlite.specs.Start.{FindsIn}
 use Rattle.sqlite.specs.State.{HasCleanDisk}
@@ -24,8 +27,11 @@ use Rattle.bike_console.specs.declared.end.Fault.{Fault}
 use Rattle.bike_console.specs.declared.end.Fault.TheVariants.{StoreFailed}
 use Rattle.bike_console.specs.declared.closing.Remains.{Remains}
 use Rattle.bike_console.specs.declared.closing.Remains.TheVariants as remains
-use Rattle.bike_console.specs.Files.{FindsBlank, IsOpeningFault, IsRefused}
-use Rattle.bike_app.specs.Words.{Does, DoesInMemory}
+use Rattle.bike_console.specs.declared.look.KeptFiles.{KeptFiles}
+use Rattle.bike_console.specs.Files.{IsOpeningFault, IsRefused}
+use Rattle.bike_console.specs.Looks.{AreSeen, Shown, shown}
+use Rattle.bike_read_only.specs.Files.{IsStill}
+use Rattle.bike_app.specs.Words.{Does}
 
 -- There is no connection to a file of these bytes, for the reason that the end tells. Nothing was read, and nothing written.
 pub record IsUntouched {D : Type 0} {g : disk.Ghosts D} (image : Image) (conn : Option (Held (FileStore D g))) (input ahead old new : Option (List ℕ)) (end : Result ℕ Fault) : Type 0 where
@@ -65,7 +71,7 @@ settles Lines = true
 settles (Import name at) = true
 settles _ = false
 
--- Nothing was opened, read or written: there is no file at the path, and none may be made, or a log stands there without its file.
+-- Nothing was opened, read or written: there is no file at the path, or none that is to be raised, and none may be made, or a log stands there without its file.
 pub record IsNotThere (input ahead old new : Option (List ℕ)) (end : Result ℕ Fault) : Type 0 where
   pub read : Keeps input ahead
   pub wrote : Keeps old new
@@ -80,28 +86,38 @@ pub record EndsSettled {D : Type 0} (g : disk.Ghosts D) (image : Image) (input a
   pub does : HasCleanDisk (file_state last) → DoesOverFile image input ahead old new task clock last end
   pub alone : AreClean g files.log files.db → IsCopied last files
 
--- The task only looks, the file is blank, and it was done over a database in memory.
-pub record LooksAtBlank {D : Type 0} (g : disk.Ghosts D) (image : Image) (input ahead old new : Option (List ℕ)) (task : FileTask) (clock : Option ℕ)
-    (end : Result ℕ Fault) : Type 0 where
-  pub looks : settles task ≡ false
-  pub files : Files D
-  pub blank : FindsBlank g image files
-  pub does : DoesInMemory input ahead old new task clock end
+module _ {D S : Type 0} (g : disk.Ghosts D) (s : start.Ghosts S) where
+  -- The task was done over a connection to the bytes that were found; a database file that it reads itself holds what it held.
+  pub record LooksThrough (found : Image) (input ahead old new : Option (List ℕ)) (task : FileTask) (clock : Option ℕ) (end : Result ℕ Fault) : Type 0 where
+    pub last : Held (FileStore (Shown g s) (shown g s))
+    pub does : HasCleanDisk (file_state last) → DoesOverFile found input ahead old new task clock last end
+    pub log_still : IsStill g s (files last.store).0
+    pub db_still : IsStill g s (files last.store).1
 
-module _ {D : Type 0} {g : disk.Ghosts D} (image : Image) (input ahead old new : Option (List ℕ)) (task : FileTask) (clock : Option ℕ) where
+  -- WHAT A WORD DOES THAT ONLY LOOKS: the files hold what they held, now and after a crash, and it was done over the bytes that were found, or there is no
+  -- connection to these for the reason that the end tells.
+  pub record LooksOver (input ahead old new : Option (List ℕ)) (task : FileTask) (clock : Option ℕ) (end : Result ℕ Fault) : Type 0 where
+    pub looks : settles task ≡ false
+    pub kept : KeptFiles D
+    pub found : Image
+    pub seen : AreSeen g s kept found
+    pub told : IsUntouched {D = Shown g s} {g = shown g s} found None input ahead old new end ⊎ LooksThrough found input ahead old new task clock end
+
+module _ {D S : Type 0} {g : disk.Ghosts D} (s : start.Ghosts S) (input ahead old new : Option (List ℕ)) (task : FileTask) (clock : Option ℕ) where
   -- The task was done over a connection, and its log couldn't be brought into the file.
   pub record EndsUnsettled (store : FileStore D g) (end : Result ℕ Fault) : Type 0 where
     pub last : Held (FileStore D g)
     pub was : Result ℕ Fault
-    pub does : HasCleanDisk (file_state last) → DoesOverFile image input ahead old new task clock last was
+    pub does : HasCleanDisk (file_state last) → DoesOverFile (image_at s) input ahead old new task clock last was
     pub kept : IsClosed last store
     pub told : end ≡ Err StoreFailed
 
   -- HOW A WORD OVER A FILE ENDS: by what is left of its connection
   abbrev pub EndsOnFile : Option (Remains D g) → Result ℕ Fault → Type 0
-  EndsOnFile None end = IsNotThere input ahead old new end ⊎ (IsUntouched {D = D} {g = g} image None input ahead old new end ⊎ LooksAtBlank g image input ahead old new task clock end)
-  EndsOnFile (Some (remains.Open c)) end = HasCleanDisk (file_state c) → DoesOverFile image input ahead old new task clock c end
-  EndsOnFile (Some (remains.Settled files)) end = EndsSettled g image input ahead old new task clock files end
+  EndsOnFile None end =
+      IsNotThere input ahead old new end ⊎ (IsUntouched {D = D} {g = g} (image_at s) None input ahead old new end ⊎ LooksOver g s input ahead old new task clock end)
+  EndsOnFile (Some (remains.Open c)) end = HasCleanDisk (file_state c) → DoesOverFile (image_at s) input ahead old new task clock c end
+  EndsOnFile (Some (remains.Settled files)) end = EndsSettled g (image_at s) input ahead old new task clock files end
   EndsOnFile (Some (remains.Unsettled store)) end = EndsUnsettled store end
 
 -- the database file is the whole database by itself

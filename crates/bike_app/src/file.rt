@@ -11,12 +11,10 @@ ghost use Rattle.bike_command_line.specs.Program.{IsWithinOnFile};
 ghost use Rattle.bike_app.specs.Words.{IsRaise, MayStand};
 ghost use Rattle.bike_app.specs.Files.{DoesOverFile, EndsOnFile, IsAlone, IsUntouched, LeavesRaised, settles};
 
-use crate::words::{run_words, run_words_in_memory};
+use crate::words::run_words;
 use bike_adoption::Watch;
 use bike_command_line::FileTask;
-use bike_console::{
-    Fault, NewLog, Remains, may_be_blank, open_blank, open_file, prepare_file, settle,
-};
+use bike_console::{Fault, NewLog, Remains, Wanted, open_file, open_to_look, prepare_file, settle};
 use bike_fixed::Moment;
 use sqlite::{Connection, FileFrom, FileStore, Start};
 use std::io::{Read, Write};
@@ -58,11 +56,12 @@ pub fn run_file<F: Start, R: Read, W: Write, P: Watch>(
     }
 }
 
-/// Whether the task makes the database file where there is none.
-fn may_make(task: &FileTask<'_>) -> bool {
+/// What the task wants of the path.
+fn wanted_of(task: &FileTask<'_>) -> Wanted {
     match task {
-        FileTask::Init | FileTask::Lines | FileTask::Import { .. } => true,
-        FileTask::Check | FileTask::Feed { .. } | FileTask::Day { .. } | FileTask::Raise => false,
+        FileTask::Init | FileTask::Lines | FileTask::Import { .. } => Wanted::AnyFile,
+        FileTask::Check | FileTask::Feed { .. } | FileTask::Day { .. } => Wanted::FileThere,
+        FileTask::Raise => Wanted::FileInUse,
     }
 }
 
@@ -76,9 +75,8 @@ fn settles(task: &FileTask<'_>) -> bool
     }
 }
 
-/// Does a task that only looks over the blank file at a path: over a database in memory, since a file that the engine opens gets its
-/// first page. `StoreFailed` where the file isn't blank.
-fn look_at_blank<F: Start, R: Read, W: Write>(
+/// Does a task that only looks over the database file at a path. `None` is what is left of it.
+fn look_at_file<F: Start, R: Read, W: Write, P: Watch>(
     rt: &HostRuntime,
     task: &FileTask<'_>,
     clock: Option<Moment>,
@@ -86,32 +84,32 @@ fn look_at_blank<F: Start, R: Read, W: Write>(
     start: F,
     reader: &mut R,
     writer: &mut W,
+    watch: &mut P,
 ) -> (Option<Remains<FileFrom<F>>>, Result<u64, Fault>)
     requires within { IsWithinOnFile task.now }
     requires looks { settles task.now ≡ false }
     ensures none { IsNone result.0 }
-    ensures done { EndsOnFile (image_at F.Start) (R.remaining reader.old) (R.remaining reader.new)
+    ensures done { EndsOnFile F.Start (R.remaining reader.old) (R.remaining reader.new)
         (W.contents writer.old) (W.contents writer.new) task.now clock result.0 result.1 }
 {
-    match open_blank(rt, path, start) {
-        Ok(Some(found)) => {
-            let end = run_words_in_memory(rt.alloc(), task, clock, reader, writer);
-            drop(found);
+    match open_to_look(rt, path, start) {
+        Ok((conn, kept)) => {
+            let (conn, end) = run_words(rt.alloc(), task, clock, conn, reader, writer, watch);
+            drop(conn);
+            drop(kept);
             (None, end)
         }
-        // It was written to since its length was looked at, or its log may hold commits.
-        Ok(None) => (None, Err(Fault::StoreFailed)),
         Err(fault) => (None, Err(fault)),
     }
 }
 
 /// Does the task over the database file at a path, as `run_file` does, from the path on to the closing. Tasks that only look, and
-/// `Raise`, make no file: where there is none that is `StoreFailed`. Tasks that only look leave a file of at most one byte as it is: it
-/// is a database in which nothing was made yet. A log that may hold commits and has no file, or an empty one, is
-/// `StoreFailed` for all tasks, and stays. Tasks that may change the database bring the log into the file at their end, so that after a
-/// number the file is the whole database by itself; where that fails, they end with `StoreFailed`, and the file and its log are the
-/// database together. Tasks that only look, and a file that is refused, leave no log where there was none. Gives back what is left of the
-/// connection, none where no file was opened, and how the task ended.
+/// `Raise`, make no file: where there is none that is `StoreFailed`, and for `Raise` a file of at most one byte too. Tasks that only look
+/// change no byte of the file and of its log. A log that may hold commits is `StoreFailed` for all tasks, and stays, where it has no
+/// file, or one of at most one byte, or its header is damaged. Tasks that may change the database bring the log into the file at
+/// their end, so that after a number the file is the whole database by itself; where that fails, they end with `StoreFailed`, and the file
+/// and its log are the database together. Tasks that only look, and a file that is refused, leave no log where there was none. Gives
+/// back what is left of the connection, none where no file was opened or it was only looked at, and how the task ended.
 pub fn run_on_file<F: Start, R: Read, W: Write, P: Watch>(
     rt: &HostRuntime,
     task: &FileTask<'_>,
@@ -123,29 +121,24 @@ pub fn run_on_file<F: Start, R: Read, W: Write, P: Watch>(
     watch: &mut P,
 ) -> (Option<Remains<FileFrom<F>>>, Result<u64, Fault>)
     requires within { IsWithinOnFile task.now }
-    ensures done { EndsOnFile (image_at F.Start) (R.remaining reader.old) (R.remaining reader.new)
+    ensures done { EndsOnFile F.Start (R.remaining reader.old) (R.remaining reader.new)
         (W.contents writer.old) (W.contents writer.new) task.now clock result.0 result.1 }
     ensures alone { IfOk result.1 (λ count. settles task.now ≡ true → IsAlone result.0) }
 {
-    if let Err(fault) = prepare_file(rt, path, may_make(task)) {
+    if let Err(fault) = prepare_file(rt, path, wanted_of(task)) {
         return (None, Err(fault));
     }
-    if !settles(task) && may_be_blank(rt, path) {
-        return look_at_blank(rt, task, clock, path, start, reader, writer);
+    if !settles(task) {
+        return look_at_file(rt, task, clock, path, start, reader, writer, watch);
     }
     let made = NewLog::beside(rt, path);
     let (conn, end) = run_file(rt, task, clock, path, start, reader, writer, watch);
     match conn {
         None => (None, end),
         Some(conn) => {
-            if settles(task) {
-                let (remains, end) = settle(conn, end);
-                made.remove_where_open(rt, &remains);
-                return (Some(remains), end);
-            }
-            // Its connection still has the lock of the file.
-            made.remove(rt);
-            (Some(Remains::Open(conn)), end)
+            let (remains, end) = settle(conn, end);
+            made.remove_where_open(rt, &remains);
+            (Some(remains), end)
         }
     }
 }

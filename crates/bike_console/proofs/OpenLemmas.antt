@@ -1,11 +1,13 @@
 -- Why a file isn't open, where its length was asked for before the engine opened it.
-use Rattle.std.proofs.Common.{◌≡◌, inl, inr, Bool, true, false, ◌==◌, cond, Result, Ok, Err, IfOk, IfErr, refl, sym, ap₂, subst, ◌∙◌}
+use Rattle.std.proofs.Common.{◌≡◌, ℕ, ◌+◌, inl, inr, Bool, true, false, ◌==◌, cond, List, length, take, slice_index, not, IsTrue, ◌↔◌, Result, Ok, Err, IfOk, IfErr, refl, sym, ap₂, subst, arith, ◌∙◌}
+use Rattle.std.proofs.lemmas.List.{ext_get_or, length-take-le, get_or-take}
 use Rattle.std.proofs.lemmas.Result.{IfOk-weaker}
 use Rattle.sqlite_disk.specs.declared.Disk as disk
 use Rattle.sqlite_disk.specs.declared.Files.{Files}
 use Rattle.sqlite_disk.specs.declared.tally.Tally.{Tally}
-use Rattle.sqlite_disk.specs.Disk.{MoreFaults}
-use Rattle.sqlite_wal.specs.Recovery.{Image}
+use Rattle.sqlite_disk.specs.Disk.{Holds, MoreFaults}
+use Rattle.sqlite_wal.specs.Format.{part}
+use Rattle.sqlite_wal.specs.Recovery.{Image, header}
 use Rattle.sqlite_wal.specs.Files.{outcomes}
 use Rattle.sqlite_wal.specs.Reads.{AreClean, OnlyReads, tally_of_files}
 use Rattle.sqlite_store.specs.Report.{named}
@@ -25,7 +27,7 @@ use Rattle.bike_recognition.specs.Added.{has_added_unique}
 use Rattle.bike_console.specs.declared.end.Fault.{Fault}
 use Rattle.bike_console.specs.declared.end.Fault.TheVariants.{StoreFailed, Foreign}
 use Rattle.bike_console.specs.Ends.{open_fault}
-use Rattle.bike_console.specs.Files.{FindsBlank, IsBlank, IsLoneLog, IsUnopened, TellsWhy}
+use Rattle.bike_console.specs.Files.{IsLostLog, IsUnopened, TellsWhy}
 
 -- a fault of the disk is one of the store, whatever its name
 named_told : (old new : Tally) → StoreFailed ≡ open_fault (store_error (named old new))
@@ -44,29 +46,41 @@ module _ {D : Type 0} {g : disk.Ghosts D} (image : Image) (files now : Files D) 
   leaves_both : (left : Image) → outcomes g now.log now.db left → outcomes g files.log files.db left
   leaves_both left may = (log.crash left.log may.0, db.crash left.db may.1)
 
-  pub found_alone : (AreClean g now.log now.db → IsLoneLog (image_of g files)) → IsUnopened g image StoreFailed
-  found_alone lone = record {
+  pub found_lost : (AreClean g now.log now.db → IsLostLog (image_of g files)) → IsUnopened g image StoreFailed
+  found_lost lost = record {
     error = SqliteFailure code.CannotOpen;
     told_of = refl;
-    cause = inr (inr (record { files = files; bytes = bytes; now = now; lone = λ clean. subst IsLoneLog bytes (lone clean); keeps = leaves_both }));
+    cause = inr (inr (record { files = files; bytes = bytes; now = now; lost = λ clean. subst IsLostLog bytes (lost clean); keeps = leaves_both }));
   }
 
-  pub found_blank : (AreClean g now.log now.db → IsBlank (image_of g files)) → FindsBlank g image now
-  found_blank blank = record { files = files; bytes = bytes; blank = λ clean. subst IsBlank bytes (blank clean); keeps = leaves_both }
-
-  pub unread : (told : Fault) → told ≡ StoreFailed → MoreFaults (faults_of g files) (faults_of g now) → IsUnopened g image told
+  pub unread : (told : Fault) → told ≡ StoreFailed → (AreClean g now.log now.db → MoreFaults (faults_of g files) (faults_of g now)) → IsUnopened g image told
   unread told is more =
       let before = tally_of_files g (files.log, files.db) in
       let after = tally_left {g = g} (left.Files now) in
       record {
         error = store_error (named before after);
         told_of = is ∙ named_told before after;
-        cause = inr (inl (record { files = files; bytes = bytes; left = left.Files now; why = λ clean. inr (inr (inl (refl, more))); keeps = λ clean. leaves_both }));
+        cause = inr (inl (record { files = files; bytes = bytes; left = left.Files now; why = λ clean. inr (inr (inl (refl, more clean))); keeps = λ clean. leaves_both }));
       }
 
   -- the engine could not go on
   pub unopened : (told : Fault) (e : Error) (rest : Leftover D g) → told ≡ open_fault e → (IsCleanLeft rest → FailsToOpenFiles now rest e) → (IsCleanLeft rest → LeavesFiles now rest) → IsUnopened g image told
   unopened told e rest is why keeps = record { error = e; told_of = is; cause = inr (inl (record { files = now; bytes = bytes_now; left = rest; why = why; keeps = keeps })) }
+
+-- the first bytes of a log that are known are its header
+pub is_header : (log head : List ℕ) → length head ≡ 32 → Holds log 0 head → head ≡ header log
+unfolding part
+is_header log head long holds =
+    ext_get_or 0 head (take 32 log) (long ∙ sym (length-take-le 32 log (omega (arith, holds.within, long))))
+    (λ i within.
+    let same : 0 + i ≡ i = omega (arith) in
+    sym (subst (λ n. slice_index log n ≡ slice_index head i) same (holds.each i within))
+    ∙ sym (get_or-take 32 log i 0 (omega (arith, within, long))))
+
+-- whether it isn't so is told by the denial of what tells whether it is
+pub tells_not : (told : Bool) (P Q : Type 0) → (IsTrue told ↔ P) → (¬ P ↔ Q) → IsTrue (not told) ↔ Q
+tells_not true P Q tells denied = ((λ it. absurd (let never : true ≡ false = sym it in cc)), λ q. absurd (denied.1 q (tells.0 refl)))
+tells_not false P Q tells denied = ((λ it. denied.0 (λ p. absurd (let never : false ≡ true = tells.1 p in cc))), λ q. refl)
 
 -- what is so of a connection is so of it where it wasn't refused
 pub of_same : {X E : Type 0} (P : X → Type 0) (conn : X) (result : Result X E) → IfOk result (λ it. it ≡ conn) → P conn → IfOk result P

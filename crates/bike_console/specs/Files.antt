@@ -1,8 +1,9 @@
 -- Why a file isn't open.
-use Rattle.std.specs.Prelude.{◌≡◌, ◌⊎◌, ◌≤◌, ◌<◌, true, length, Result, Ok, Err}
+use Rattle.std.specs.Prelude.{◌≡◌, ◌≢◌, ◌⊎◌, ◌≤◌, ℕ, true, List, length, slice_index, Result, Ok, Err}
 use Rattle.sqlite_disk.specs.declared.Disk as disk
 use Rattle.sqlite_disk.specs.declared.Files.{Files}
-use Rattle.sqlite_wal.specs.Recovery.{Image}
+use Rattle.sqlite_wal.specs.Format.{IsSigned}
+use Rattle.sqlite_wal.specs.Recovery.{Image, header}
 use Rattle.sqlite_wal.specs.Reads.{AreClean}
 use Rattle.sqlite_store.specs.declared.store.FileStore.{FileStore}
 use Rattle.sqlite.specs.Held.{Held}
@@ -18,12 +19,10 @@ use Rattle.sqlite_trees.specs.Tree.{Trees}
 use Rattle.bike_operator.specs.Operator.{Operator}
 use Rattle.bike_schema.specs.Stands.{TreesStandFor}
 use Rattle.bike_recognition.specs.Added.{has_added_unique}
-use Rattle.bike_console.specs.declared.closing.Remains.{Remains}
-use Rattle.bike_console.specs.declared.closing.Remains.TheVariants.{Settled}
 use Rattle.bike_console.specs.declared.end.Fault.{Fault}
 use Rattle.bike_console.specs.declared.end.Fault.TheVariants.{OutOfMemory, StoreFailed, Foreign}
 use Rattle.bike_console.specs.Ends.{open_fault}
-use Rattle.bike_console.specs.declared.file.TheConstants.{LEAST_LOG}
+use Rattle.bike_console.specs.declared.log.TheConstants.{LEAST_LOG}
 
 -- memory was refused, or the file can't be opened, or is no database, or has an index on which a good request could fail
 abbrev pub IsOpeningFault : Fault → Type 0
@@ -37,25 +36,17 @@ IsBarred e = (e ≡ SqliteFailure code.CannotOpen) ⊎ ((e ≡ SqliteFailure cod
 abbrev pub TellsBarred : Fault → Type 0
 TellsBarred told = (e : Error) × (told ≡ open_fault e) × IsBarred e
 
--- A LOG ALONE: the database file is empty, and its log is long enough to hold a commit.
+-- A LOG ALONE: the database file has at most one byte, and its log is long enough to hold a commit.
 abbrev pub IsLoneLog : Image → Type 0
-IsLoneLog image = (length image.db ≡ 0) × (LEAST_LOG ≤ length image.log)
+IsLoneLog image = (length image.db ≤ 1) × (LEAST_LOG ≤ length image.log)
 
--- A BLANK FILE: the database file has at most one byte, and its log is too short to hold a commit.
-abbrev pub IsBlank : Image → Type 0
-IsBlank image = (length image.db ≤ 1) × (length image.log < LEAST_LOG)
+-- A DAMAGED LOG: it is long enough to hold a commit and its header fails its own test, though nobody was about to write that anew.
+abbrev pub IsDamagedLog : List ℕ → Type 0
+IsDamagedLog log = (LEAST_LOG ≤ length log) × ((slice_index log 0 ≢ 0) × (¬ IsSigned (header log)))
 
--- Files that hold these bytes were opened, and are a blank file. They were only read.
-pub record FindsBlank {D : Type 0} (g : disk.Ghosts D) (image : Image) (now : Files D) : Type 0 where
-  pub files : Files D
-  pub bytes : image_of g files ≡ image
-  pub blank : AreClean g now.log now.db → IsBlank image
-  pub keeps : LeavesFiles {g = g} files (left.Files now)
-
--- the files of a blank file, of which nothing was changed
-abbrev pub HoldsBlank : {D : Type 0} {g : disk.Ghosts D} → Image → Remains D g → Type 0
-HoldsBlank {g = g} image (Settled now) = FindsBlank g image now
-HoldsBlank image _ = ⊥
+-- the log may hold commits, and an engine begins anew over it
+abbrev pub IsLostLog : Image → Type 0
+IsLostLog image = IsLoneLog image ⊎ IsDamagedLog image.log
 
 module _ {D : Type 0} (g : disk.Ghosts D) (image : Image) where
   -- Files that hold these bytes were opened, and the engine could not go on. Where nothing else wrote to them, memory was refused, the disk failed
@@ -67,19 +58,19 @@ module _ {D : Type 0} (g : disk.Ghosts D) (image : Image) where
     pub why : IsCleanLeft left → FailsToOpenFiles files left e
     pub keeps : IsCleanLeft left → LeavesFiles files left
 
-  -- Files that hold these bytes were opened, and are a log alone. They were only read.
-  pub record FindsLogAlone : Type 0 where
+  -- Files that hold these bytes were opened, and an engine would begin anew over their log. They were only read.
+  pub record FindsLostLog : Type 0 where
     pub files : Files D
     pub bytes : image_of g files ≡ image
     pub now : Files D
-    pub lone : AreClean g now.log now.db → IsLoneLog image
+    pub lost : AreClean g now.log now.db → IsLostLog image
     pub keeps : LeavesFiles {g = g} files (left.Files now)
 
   -- what is told of a file that isn't open, and why
   pub record IsUnopened (told : Fault) : Type 0 where
     pub error : Error
     pub told_of : told ≡ open_fault error
-    pub cause : IsBarred error ⊎ (FailsOnFiles error ⊎ FindsLogAlone)
+    pub cause : IsBarred error ⊎ (FailsOnFiles error ⊎ FindsLostLog)
 
   -- Files that hold these bytes were opened, and in what was found there somebody added a UNIQUE index to a table of the product's.
   pub record HasAdded (told : Fault) : Type 0 where

@@ -2,3 +2,4 @@ pub mod Pieces
 pub mod Ends
 pub mod Files
 pub mod Closing
+pub mod Looks

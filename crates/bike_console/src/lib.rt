@@ -5,18 +5,20 @@
 #![tactic(auto)]
 
 mod blank;
-mod blank_file;
 mod closing;
 mod end;
 mod file;
+mod log;
+mod look;
 mod pieces;
 mod place;
 mod progress;
 
-pub use blank_file::open_blank;
 pub use closing::{Remains, settle};
 pub use end::{Fault, exit_code};
-pub use file::{LEAST_LOG, open_file};
+pub use file::open_file;
+pub use log::LEAST_LOG;
+pub use look::{KeptFiles, Looked, Sight, open_to_look};
 pub use pieces::{put, put_number};
-pub use place::{NewLog, may_be_blank, prepare_file};
+pub use place::{NewLog, Wanted, prepare_file};
 pub use progress::{Counted, Progress};

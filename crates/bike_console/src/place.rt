@@ -6,7 +6,7 @@ ghost use Rattle.bike_console.specs.Files.{IsOpeningFault};
 use crate::blank::make_file;
 use crate::closing::Remains;
 use crate::end::Fault;
-use crate::file::LEAST_LOG;
+use crate::log::LEAST_LOG;
 use sqlite_disk::Disk;
 use std::fs;
 use std::io::ErrorKind;
@@ -35,19 +35,41 @@ fn has_lone_log(rt: &HostRuntime, path: &str) -> Result<bool, Fault>
     }
 }
 
-/// Sees to a path before its database file is opened. Where there is none, it is made, if it may be; else that is `StoreFailed`, and
-/// nothing is made. So is a log that may hold commits and has no file: what it goes on from is gone, and a new file would take its
-/// place.
-pub fn prepare_file(rt: &HostRuntime, path: &str, may_make: bool) -> Result<(), Fault>
+/// Whether the database file at a path has at most one byte, so that nothing was made in it.
+fn is_blank(rt: &HostRuntime, path: &str) -> bool {
+    match fs::metadata(rt, path) {
+        Ok(found) => found.len() <= 1,
+        Err(_) => false,
+    }
+}
+
+/// What a task wants to find at the path of a database file.
+#[derive(Clone, Copy, Debug, PartialEq, Eq)]
+pub enum Wanted {
+    /// Any file, which is made where there is none.
+    AnyFile,
+    /// A file.
+    FileThere,
+    /// A file in which something was made.
+    FileInUse,
+}
+
+/// Sees to a path before its database file is opened. A file that is missing is made, if it may be; what is wanted and isn't found is
+/// `StoreFailed`, and nothing is made. So is a log that may hold commits and has no file: what it goes on from is gone, and a new file
+/// would take its place.
+pub fn prepare_file(rt: &HostRuntime, path: &str, wanted: Wanted) -> Result<(), Fault>
     ensures { IfErr result IsOpeningFault }
 {
     if !is_plain(path) {
         return Ok(());
     }
-    if is_missing(rt, path) {
-        if !may_make || has_lone_log(rt, path)? {
-            return Err(Fault::StoreFailed);
-        }
+    let is_found = match wanted {
+        Wanted::AnyFile => !is_missing(rt, path) || !has_lone_log(rt, path)?,
+        Wanted::FileThere => !is_missing(rt, path),
+        Wanted::FileInUse => !is_missing(rt, path) && !is_blank(rt, path),
+    };
+    if !is_found {
+        return Err(Fault::StoreFailed);
     }
     // Of a file that is there this takes away only the second name that a stop left it.
     make_file(rt, path);
@@ -66,22 +88,6 @@ fn log_name(rt: &HostRuntime, path: &str) -> Option<String> {
     }
 }
 
-/// Whether the database file at a path has at most one byte, beside a log that holds no commit, as their lengths say before they are
-/// opened.
-pub fn may_be_blank(rt: &HostRuntime, path: &str) -> bool {
-    match fs::metadata(rt, path) {
-        Ok(found) if is_plain(path) && found.len() <= 1 => {}
-        _ => return false,
-    }
-    let Some(log) = log_name(rt, path) else {
-        return false;
-    };
-    match fs::symlink_metadata(rt, log.as_str()) {
-        Ok(found) => found.len() < LEAST_LOG as u64,
-        Err(_) => true,
-    }
-}
-
 /// The name of the log of a database file that has none yet.
 #[derive(Drop)]
 pub struct NewLog {
@@ -89,11 +95,16 @@ pub struct NewLog {
 }
 
 impl NewLog {
+    /// No log.
+    pub(crate) fn none() -> NewLog {
+        NewLog { name: None }
+    }
+
     /// The log that an opening of this path would make; none where there is one, or where its name can't be told.
     pub fn beside(rt: &HostRuntime, path: &str) -> NewLog {
         match log_name(rt, path) {
             Some(name) if is_missing(rt, name.as_str()) => NewLog { name: Some(name) },
-            _ => NewLog { name: None },
+            _ => NewLog::none(),
         }
     }
 
@@ -102,7 +113,7 @@ impl NewLog {
     pub(crate) fn beside_database(rt: &HostRuntime, path: &str) -> NewLog {
         match fs::metadata(rt, path) {
             Ok(found) if found.len() > 1 => NewLog::beside(rt, path),
-            _ => NewLog { name: None },
+            _ => NewLog::none(),
         }
     }
 

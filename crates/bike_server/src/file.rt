@@ -11,7 +11,7 @@ ghost use Rattle.bike_server.specs.Files.{ListensOnFile, IsUnopened};
 ghost use Rattle.bike_server.specs.Serving.{StandsAfterRequests};
 
 use crate::server::listen;
-use bike_console::{Fault, NewLog, open_file, prepare_file};
+use bike_console::{Fault, NewLog, Wanted, open_file, prepare_file};
 use sqlite::{Connection, FileFrom, FileStore, Start};
 use std::io::Write;
 
@@ -36,7 +36,7 @@ pub fn listen_on_file<F: Start, W: Write>(
         → AllLeft (file_state last) (StandsAfterRequests s)) }
     ensures unopened { IsNone result.0 → IsUnopened (W.contents writer.old) (W.contents writer.new) result.1 }
 {
-    if let Err(fault) = prepare_file(rt, path, true) {
+    if let Err(fault) = prepare_file(rt, path, Wanted::AnyFile) {
         return (None, Err(fault));
     }
     let made = NewLog::beside(rt, path);

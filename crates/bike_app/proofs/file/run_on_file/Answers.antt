@@ -1,11 +1,10 @@
 use Rattle.std.proofs.lemmas.Result.{IfOk-weaker}
-use Rattle.sqlite_wal.specs.Files.{image_at}
 use Rattle.bike_app.proofs.FileLemmas.{closed_ends, closed_alone}
 use Rattle.bike_app.proofs.file.run_on_file.Goals as goal
 
 pub returns-then-settles-clause-done : goal.returns-then-settles-clause-done
 returns-then-settles-clause-done g c =
-    closed_ends (image_at g.F.Start) _ _ _ _ c.args.task.now c.args.clock c.in-Some.conn c.run_file-conn.result.1 (rw c.in-Some.is at c.run_file-conn.ensures.done)
+    closed_ends g.F.Start _ _ _ _ c.args.task.now c.args.clock c.in-Some.conn c.run_file-conn.result.1 (rw c.in-Some.is at c.run_file-conn.ensures.done)
     c.settle-remains.result.0 c.settle-remains.result.1 c.settle-remains.ensures
 
 pub returns-then-settles-clause-alone : goal.returns-then-settles-clause-alone
