@@ -20,7 +20,7 @@ use Rattle.bike_console.specs.Closing.{Closes}
 use Rattle.bike_console.specs.Files.{IsOpeningFault, IsUnopened}
 use Rattle.bike_console.specs.Looks.{IsUnseen, Sees, Shown, shown}
 use Rattle.bike_app.specs.Words.{Does}
-use Rattle.bike_app.specs.Files.{DoesOverFile, EndsOnFile, IsAlone, LooksOver, settles}
+use Rattle.bike_app.specs.Files.{DoesOverFile, EndsOnFile, IsAlone, IsUntouched, LooksOver, settles}
 
 module _ {D S : Type 0} {g : disk.Ghosts D} (s : start.Ghosts S) (input ahead old new : Option (List ℕ)) (task : FileTask) (clock : Option ℕ) (conn : Held (FileStore D g)) (end : Result ℕ Fault)
     (does : HasCleanDisk (file_state conn) → DoesOverFile (image_at s) input ahead old new task clock conn end) where
@@ -60,8 +60,9 @@ module _ {D S : Type 0} {g : disk.Ghosts D} {s : start.Ghosts S} (input ahead ol
 
   -- there is no connection to a file that was to be looked at
   pub unseen : (told : Fault) → IsOpeningFault told → IsUnopened g (image_at s) told ⊎ IsUnseen g s told → Keeps input ahead → Keeps old new
-      → EndsOnFile s input ahead old new task clock None (Err told)
+      → EndsOnFile {D = D} {g = g} s input ahead old new task clock None (Err told)
   unseen told is (inl unopened) read wrote = inr (inl (record { read = read; wrote = wrote; fault = told; told = refl; is = is; why = inl unopened }))
   unseen told is (inr it) read wrote =
-      let untouched = record { read = read; wrote = wrote; fault = told; told = refl; is = is; why = it.why } in
+      let untouched : IsUntouched {D = Shown g s} {g = shown g s} it.found None input ahead old new (Err told) =
+      record { read = read; wrote = wrote; fault = told; told = refl; is = is; why = it.why } in
       inr (inr (record { looks = looks; kept = it.kept; found = it.found; seen = it.seen; told = inl untouched }))

@@ -1,5 +1,5 @@
 -- Why a file isn't open, where its length was asked for before the engine opened it.
-use Rattle.std.proofs.Common.{◌≡◌, ℕ, ◌+◌, inl, inr, Bool, true, false, ◌==◌, cond, List, length, take, slice_index, not, IsTrue, ◌↔◌, Result, Ok, Err, IfOk, IfErr, refl, sym, ap₂, subst, arith, ◌∙◌}
+use Rattle.std.proofs.Common.{◌≡◌, ℕ, ◌+◌, inl, inr, Bool, true, false, ◌==◌, cond, List, length, take, slice_index, Result, Ok, Err, IfOk, IfErr, refl, sym, ap₂, subst, arith, ◌∙◌}
 use Rattle.std.proofs.lemmas.List.{ext_get_or, length-take-le, get_or-take}
 use Rattle.std.proofs.lemmas.Result.{IfOk-weaker}
 use Rattle.sqlite_disk.specs.declared.Disk as disk
@@ -76,11 +76,6 @@ is_header log head long holds =
     let same : 0 + i ≡ i = omega (arith) in
     sym (subst (λ n. slice_index log n ≡ slice_index head i) same (holds.each i within))
     ∙ sym (get_or-take 32 log i 0 (omega (arith, within, long))))
-
--- whether it isn't so is told by the denial of what tells whether it is
-pub tells_not : (told : Bool) (P Q : Type 0) → (IsTrue told ↔ P) → (¬ P ↔ Q) → IsTrue (not told) ↔ Q
-tells_not true P Q tells denied = ((λ it. absurd (let never : true ≡ false = sym it in cc)), λ q. absurd (denied.1 q (tells.0 refl)))
-tells_not false P Q tells denied = ((λ it. denied.0 (λ p. absurd (let never : false ≡ true = tells.1 p in cc))), λ q. refl)
 
 -- what is so of a connection is so of it where it wasn't refused
 pub of_same : {X E : Type 0} (P : X → Type 0) (conn : X) (result : Result X E) → IfOk result (λ it. it ≡ conn) → P conn → IfOk result P

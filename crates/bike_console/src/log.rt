@@ -1,6 +1,6 @@
 //! Logs that aren't opened, since the engine would begin anew over what they may hold.
 
-ghost use Rattle.std.specs.Prelude.{◌≡◌, ◌≤◌, ◌+◌, ◌↔◌, IfOk, IfErr, IsTrue};
+ghost use Rattle.std.specs.Prelude.{◌≡◌, ◌≢◌, ◌≤◌, ◌+◌, ◌↔◌, slice_index, IfOk, IfErr, IsTrue};
 ghost use Rattle.sqlite.specs.Files.{faults_of, image_of};
 ghost use Rattle.sqlite_disk.specs.Disk.{MoreFaults};
 ghost use Rattle.sqlite_wal.specs.Format.{be32, IsSigned};
@@ -45,6 +45,13 @@ fn is_signed(head: &[u8; 32]) -> bool
     sum.0 == word_at(head, 24) && sum.1 == word_at(head, 28)
 }
 
+/// Whether a log's header is damaged, and not one that the engine was about to write anew.
+fn is_broken(head: &[u8; 32]) -> bool
+    ensures { IsTrue result ↔ (slice_index head.now 0 ≢ 0) × (¬ IsSigned head.now) }
+{
+    head[0] != BEGUN_ANEW && !is_signed(head)
+}
+
 /// Whether the database file has at most one byte beside a log that may hold commits. Nothing tells then what the log goes on from.
 fn is_lone<D: Disk>(files: &mut Files<D>) -> Result<bool, Fault>
     requires log { IsTrue (D.Disk.is_usable files.old.log) }
@@ -86,7 +93,7 @@ fn is_damaged<D: Disk>(log: &mut D) -> Result<bool, Fault>
     }
     let mut head = [0; 32];
     match log.read_at(0, &mut head) {
-        Ok(()) => Ok(head[0] != BEGUN_ANEW && !is_signed(&head)),
+        Ok(()) => Ok(is_broken(&head)),
         Err(_) => Err(Fault::StoreFailed),
     }
 }
