@@ -124,6 +124,7 @@ pub fn run_on_file<F: Start, R: Read, W: Write, P: Watch>(
     ensures done { EndsOnFile F.Start (R.remaining reader.old) (R.remaining reader.new)
         (W.contents writer.old) (W.contents writer.new) task.now clock result.0 result.1 }
     ensures alone { IfOk result.1 (λ count. settles task.now ≡ true → IsAlone result.0) }
+    ensures looks { settles task.now ≡ false → IsNone result.0 }
 {
     if let Err(fault) = prepare_file(rt, path, wanted_of(task)) {
         return (None, Err(fault));
