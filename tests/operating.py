@@ -460,8 +460,8 @@ def test_the_gateways_lines_for_tls(program):
 
 
 class Gateway:
-    """nginx with deploy/nginx.conf on a free port, as a user without rights, before the servers of these cities. Where it
-    is public, its lines for TLS stand in place of those for trying it."""
+    """nginx with deploy/nginx.conf on a free port, as a user without rights, before the servers of these cities. Where
+    it is public, its lines for TLS stand in place of those for trying it."""
 
     def __init__(self, program, cities, tokens=None, ttl=30, is_public=False):
         self.port = free_port()
@@ -612,7 +612,7 @@ def test_gateway_requests(program):
 # What nginx can't read: heads of requests, and what ends a head.
 HOST, LAST = "Host: metro.example\r\n", "Connection: close\r\n\r\n"
 UNREADABLE = [
-    *(f"GET {path} HTTP/1.1\r\n{HOST}{LAST}" for path in ("/%zz", "/gbfs/3.0/%", "/%00", "/../riders/17", "riders", "")),
+    *(f"GET {path} HTTP/1.1\r\n{HOST}{LAST}" for path in ("/%zz", "/gbfs/3.0/%", "/%00", "/../riders", "riders", "")),
     *(f"{line}\r\n{HOST}{LAST}" for line in ("GARBAGE", "get / HTTP/1.1", "GET / HTTQ/1.1", "GET / HTTP/3.0")),
     "CONNECT metro.example:443 HTTP/1.1\r\n" + HOST + LAST, "OPTIONS * HTTP/1.1\r\n" + HOST + LAST,
     f"GET /{'a' * 9000} HTTP/1.1\r\n{HOST}{LAST}", f"GET / HTTP/1.1\r\n{HOST}X: {'a' * 9000}\r\n{LAST}",
@@ -627,8 +627,8 @@ UNREADABLE = [
 @needs("nginx")
 @needs("openssl")
 def test_gateway_requests_that_cannot_be_read(program):
-    """They are 400, and answered as all that the gateway answers itself, whether or not TLS has told the host before. No
-    city's program is needed. By no path is the place reached where that answer stands."""
+    """They are 400, and answered as all that the gateway answers itself, whether or not TLS has told the host before.
+    No city's program is needed. By no path is the place reached where that answer stands."""
     cities = {"metro": free_port()}
     with Gateway(program, cities) as plain, Gateway(program, cities, is_public=True) as public:
         tried = [(plain, None, it) for it in UNREADABLE] + [(public, "metro.example", it) for it in UNREADABLE]
