@@ -544,7 +544,7 @@ def test_a_log_without_its_file(program):
     # Beside an empty FILE a -journal has sqlite3 opened by its hint, and that would take the log away.
     put({"": b"", "-wal": log, "-journal": b"x"}, file)
     (found,) = looked_at(file)
-    assert "keep it" in found.text and "by sqlite3" not in found.text, found
+    assert "keep it" in found.text and "-journal" not in found.text and "take the change" not in found.text, found
 
 
 def test_a_file_that_cannot_be_made(program):
@@ -725,10 +725,15 @@ def test_a_port_that_is_bound(program):
         client.bind(("127.0.0.1", 0))
         port = client.getsockname()[1]
         client.connect(other.getsockname())
-        (found,) = doctor.findings_of_port(port)
-        assert found.text.endswith("End that one, or give the city another port."), found
         status, lines = told(file, "--port", port)
-        assert status == 1 and me in lines[0] and "without listening there" in lines[0], lines
+        assert status == 1 and me in lines[0] and "without listening there, by process" in lines[0], lines
+        assert lines[0].endswith("). End that one, or give the city another port."), lines
+        assert program.run("serve", "city.db", "--port", str(port)) == READ_FAILED
+        client.close()
+        other.accept()[0].close()
+        # The end that closes first has the port for a minute.
+        (found,) = doctor.findings_of_port(port)
+        assert "were just closed, and keep it for up to a minute." in found.text, found
         assert program.run("serve", "city.db", "--port", str(port)) == READ_FAILED
     # What listens at another address of the port leaves the program its own.
     with socket.socket(socket.AF_INET6 if socket.has_ipv6 else socket.AF_INET) as other:
