@@ -362,8 +362,8 @@ def test_a_log_with_a_damaged_head(program):
     for main in grown[""][:4096] + b"\xff" * 2048 + grown[""][6144:], grown[""][:-4096]:
         put({"": main, "-wal": b"\1" * 9000}, file)
         (found,) = looked_at(file)
-        assert found.word == "store failed" and "start: " not in found.text, found
-        assert "damaged" in found.text and "keep both" in found.text.lower() or "Keep a copy" in found.text, found
+        assert found.word == "store failed" and "start: " not in found.text and "damaged" in found.text, found
+        assert "keep both" in found.text or "Keep a copy of FILE and of it" in found.text, found
 
 
 def test_a_log_whose_head_was_begun_anew(program):
@@ -448,7 +448,7 @@ def test_a_change_that_sqlite3_left_unfinished(program):
     )
     subprocess.run([sys.executable, "-c", "\n".join(changing), file], check=False)
     assert Path(f"{file}-journal").stat().st_size and len(file.read_bytes()) > 500_000
-    is_alike(program, file, "store failed", "Copy both by cp.", "damaged by that: then move the -journal away.")
+    is_alike(program, file, "store failed", "Copy both by cp.", "would damage it: move the -journal away.")
     words = re.search("take the change back: sqlite3 (.*?) '(.*?)'[.] ", looked_at(file)[0].text)
     with contextlib.closing(sqlite3.connect(words[1])) as base:
         assert base.execute(words[2]).fetchall() == [("ok",)]
