@@ -19,6 +19,7 @@ import socket
 import sqlite3
 import subprocess
 import sys
+import tempfile
 import threading
 import time
 import unittest.mock
@@ -26,8 +27,8 @@ from pathlib import Path
 
 from package import sections_of
 from shared import (
-    CITY, FEEDS, FOREIGN, HEADER, READY, SOUND, STORE_FAILED, TOP, Program, Server, accepted, changed, killed, loaded,
-    office, put, ran, removed, requests_of, rows_of, taken,
+    CITY, FEEDS, FOREIGN, HEADER, READ_FAILED, READY, SOUND, STORE_FAILED, TOP, Program, Server, accepted, changed,
+    held, killed, line_of, loaded, needs, office, put, ran, removed, requests_of, rows_of, taken,
 )
 
 SCRIPT = TOP / "deploy/bikeshare-doctor"
@@ -144,8 +145,32 @@ def test_files_that_are_none(program):
     assert told(":memory:", cwd=folder)[0] == 1 and not program.run("check", "")[1]
 
 
+def test_names_that_end_in_a_slash(program):
+    """So only a folder is named: it is said that the slash is too much, and not that the file isn't there."""
+    city = city_file(program)
+    for name, end in (("city.db", "/"), ("city.db", "//"), ("city.db", "/."), ("city.db", "/./"), ("none.db", "/")):
+        said = f"{name}{end}: store failed: the name ends in {end}, as only that of a folder may. Leave it out: {name}"
+        assert told(f"{name}{end}", cwd=program.folder) == (1, [said]), (name, end)
+        for word in "check", "lines":
+            assert program.run(word, f"{name}{end}") == STORE_FAILED, (name, end, word)
+    status, lines = told(f"{city.parent}/", cwd=program.folder)
+    assert status == 1 and "it is a folder" in lines[0], lines
+
+
 TRUCKS = "DROP TABLE trucks; CREATE TABLE trucks "
 REGIONS = "DROP TABLE regions; CREATE TABLE regions (region_id TEXT PRIMARY KEY NOT NULL, "
+# What somebody adds to the city's file by SQL, how it is told, and what takes it away.
+ADDED = (
+    ("CREATE INDEX some ON riders (blocked) WHERE blocked = 1", "the index some, which is partial", "DROP INDEX some"),
+    ("CREATE INDEX [a b] ON riders (blocked + 1)", "the index a b, which is partial or of", 'DROP INDEX "a b"'),
+    ("CREATE INDEX some ON meta (app) WHERE app = 'x'", "the table meta has the index some", "DROP INDEX some"),
+    ("CREATE TRIGGER mail AFTER INSERT ON riders BEGIN SELECT 1; END", "the trigger mail stands on the table riders",
+     "DROP TRIGGER mail"),
+    ("CREATE TABLE cards (rider REFERENCES Riders (rider))", "a foreign key of the table cards names the table Riders",
+     "DROP TABLE cards"),
+    ("CREATE UNIQUE INDEX once ON riders (blocked)", "the table riders has the UNIQUE index once beside its key",
+     "DROP INDEX once"),
+)
 # A change to the city's file by SQL, what `check` says of it, and a word of the hint.
 CHANGES = (
     ("", None, ""),
@@ -170,10 +195,7 @@ CHANGES = (
     ("DROP TABLE plans; CREATE TABLE plans (plan_id TEXT PRIMARY KEY DESC NOT NULL, name TEXT NOT NULL,"
      " price INTEGER NOT NULL, taxable INTEGER NOT NULL, description TEXT NOT NULL) STRICT", "foreign", "another key"),
     (REGIONS + "name TEXT NOT NULL UNIQUE) STRICT", "foreign", "UNIQUE"),
-    ("CREATE INDEX some ON riders (blocked) WHERE blocked = 1", "foreign", "the index some"),
-    ("CREATE INDEX some ON riders (blocked + 1)", "foreign", "the index some"),
-    ("CREATE TRIGGER mail AFTER INSERT ON riders BEGIN SELECT 1; END", "foreign", "the trigger mail"),
-    ("CREATE TABLE cards (rider REFERENCES Riders (rider))", "foreign", "a foreign key of the table cards"),
+    *((change, "foreign", fault) for change, fault, _ in ADDED),
     ("UPDATE meta SET app = 'tram'", "foreign", "'tram'"),
     ("UPDATE meta SET version = 0", "foreign", "unfinished"),
     ("UPDATE meta SET version = 2", "older 2", "raise"),
@@ -193,6 +215,26 @@ def test_tables_that_were_changed(program):
         changed(file, change)
         is_alike(program, file, wanted, *([hint] if wanted else []))
         removed(file)
+
+
+def test_what_somebody_added(program):
+    """Who says on a copy what the doctor says has the city of before, also where the newest requests stand in the log.
+    The file itself stays as it is."""
+    whole = taken(killed_city(program, "city.db"))
+    file, copy = Path(program.folder, "city.db"), Path(program.folder, "copy.db")
+    for change, fault, sql in ADDED:
+        put(whole, file)
+        before = held(file)
+        with contextlib.closing(sqlite3.connect(file, isolation_level=None)) as base:
+            base.executescript(f"PRAGMA wal_autocheckpoint = 0; {change}")
+            parts = taken(file)
+        put({part: parts[part] for part in ("", "-wal")}, file)
+        is_alike(program, file, "foreign", fault, f"say on the copy by sqlite3: {sql}. Where check says sound")
+        put(taken(file), copy)
+        with contextlib.closing(sqlite3.connect(copy)) as base:
+            base.execute(re.search("by sqlite3: (.*?)[.] Where", looked_at(file)[0].text)[1])
+        is_alike(program, copy, None)
+        assert held(copy) == before, change
 
 
 def test_an_index_that_is_unique(program):
@@ -254,7 +296,8 @@ def killed_city(program, name="killed.db"):
 
 
 def test_logs(program):
-    """A log is read with its FILE, in a copy. One that is damaged, or another file's, is told; check passes it over."""
+    """A log is read with its FILE, in a copy. Where it is damaged behind its head, or another file's, that is told;
+    check passes what is damaged over."""
     whole = taken(killed_city(program))
     log = whole["-wal"]
     page = int.from_bytes(log[8:12], "big")
@@ -263,15 +306,79 @@ def test_logs(program):
     is_alike(program, file, None)
     at = 32 + 5 * (24 + page) + 30
     for data, wanted in (
-        (log[:at] + bytes([log[at] ^ 1]) + log[at + 1 :], "passed over"), (log[:9] + b"\xff" + log[10:], "passed over"),
-        (random.Random(2).randbytes(9000), "passed over"), (log[:32], "an empty city"),
+        (log[:at] + bytes([log[at] ^ 1]) + log[at + 1 :], "passed over"), (log[:32], "an empty city"),
     ):
         put({"": whole[""], "-wal": data}, file)
         assert words_of(file) == [wanted], (data[:40], wanted, looked_at(file))
+        assert program.run("check", "city.db") == SOUND and taken(file)["-wal"] == data, wanted
     other = Path(program.folder, "other.db")
     changed(other, "PRAGMA page_size = 4096; CREATE TABLE notes (a)")
     Path(f"{other}-wal").write_bytes(log)
     assert words_of(other) == ["another's log"], looked_at(other)
+
+
+def damaged_heads(log):
+    """A log with a head that is damaged in one place or as a whole."""
+    yield from (log[:at] + bytes([log[at] ^ 0x40]) + log[at + 1 :] for at in (0, 1, 3, 5, 9, 14, 17, 22, 24, 31))
+    yield b"\1" * 32 + log[32:]
+    yield random.Random(2).randbytes(9000)
+
+
+def test_a_log_with_a_damaged_head(program):
+    """It is refused, and nothing is changed. Who follows the advice has the city as it was when the log was last
+    brought into FILE, or an empty one where it never was. A log that is too short for a request keeps nobody away."""
+    young = taken(killed_city(program, "city.db"))
+    file = Path(program.folder, "city.db")
+    assert program.run("lines", "city.db") == (0, b"", b"")
+    older = held(file)
+    grown = {"": taken(file)[""]}
+    killed(program, requests_of(["add-rider\t18", "add-rider\t19"], key="n"))
+    grown["-wal"] = taken(file)["-wal"]
+    assert taken(file)[""] == grown[""], "the log was brought into FILE"
+    for parts, held_alone, state in (
+        (young, "an empty city, since the log had all of it", []),
+        (grown, "the city as it was when its log was last brought into it", older),
+    ):
+        for number, log in enumerate(damaged_heads(parts["-wal"])):
+            put({"": parts[""], "-wal": log}, file)
+            (found,) = looked_at(file)
+            assert place_of(found) == (f"{file}-wal", "store failed"), (number, found)
+            assert f"in {len(log):,} bytes it may hold answered requests" in found.text, (number, found)
+            assert f"Else mv {file}-wal {file}-wal-damaged and start: FILE is then {held_alone}" in found.text, found
+            for words in (("check",), ("lines",), ("raise",))[: None if number == 0 else 1]:
+                assert program.run(*words, "city.db") == STORE_FAILED, (number, words)
+            assert taken(file) == {"": parts[""], "-wal": log}, number
+        script = re.search("Else (mv .*?) and start: ", found.text)[1]
+        subprocess.run(["sh", "-c", script], check=True)
+        assert program.run("check", "city.db") == SOUND and held(file) == state
+        assert words_of(file) == (["an empty city"] if not state else [])
+        Path(f"{file}-wal-damaged").unlink()
+    for size, wanted in (567, None), (568, "store failed"):
+        put({"": grown[""], "-wal": b"\1" * size}, file)
+        is_alike(program, file, wanted)
+    put({"": grown[""], "-wal": b"\1" * 568}, file)
+    assert program.run("check", "city.db") == STORE_FAILED
+    # A FILE that is damaged itself isn't called whole.
+    for main in grown[""][:4096] + b"\xff" * 2048 + grown[""][6144:], grown[""][:-4096]:
+        put({"": main, "-wal": b"\1" * 9000}, file)
+        (found,) = looked_at(file)
+        assert found.word == "store failed" and "start: " not in found.text and "damaged" in found.text, found
+        assert "keep both" in found.text or "Keep a copy of FILE and of it" in found.text, found
+
+
+def test_a_log_whose_head_was_begun_anew(program):
+    """Its first byte is 0 then, and it is passed over. Where FILE has all of it nothing is found; else it is told."""
+    young = taken(killed_city(program, "city.db"))
+    file = Path(program.folder, "city.db")
+    assert program.run("lines", "city.db") == (0, b"", b"")
+    main, anew = taken(file)[""], b"\0" + young["-wal"][1:]
+    for whole, log, wanted in (
+        (main, anew, []), (main, b"\0" * 32 + anew[32:], ["passed over"]), (main, anew[:567], []),
+        (young[""], anew, ["passed over"]),
+    ):
+        put({"": whole, "-wal": log}, file)
+        assert words_of(file) == wanted, (log[:40], looked_at(file))
+        assert program.run("check", "city.db") == SOUND and taken(file) == {"": whole, "-wal": log}
 
 
 def test_a_log_that_was_left_behind(program):
@@ -297,19 +404,107 @@ def test_a_log_that_was_left_behind(program):
         assert found.word == "store failed" and "Keep FILE and its log, and restore a copy" in found.text, found
 
 
+JOURNAL = b"\xd9\xd5\x05\xf9\x20\xa1\x63\xd7" + bytes(12) + b"\0\0\x02\0"
+
+
 def test_beside_the_file(program):
-    """A -journal that holds something, and a log's name that is no file."""
+    """A -journal that is still to be played back, what only has its name, and a log's name that is no file."""
     file = city_file(program)
     journal, log = Path(f"{file}-journal"), Path(f"{file}-wal")
     log.unlink(missing_ok=True)
-    journal.write_bytes(b"")
-    is_alike(program, file, None)
-    journal.write_bytes(b"x" * 600)
-    is_alike(program, file, "store failed", "-journal")
+    page = file.read_bytes()[16:18]
+    for data, wanted, hint in (
+        # sqlite3 begins one that isn't needed any more with zeros, where journal_mode is PERSIST.
+        (b"", None, ""), (b"\0", None, ""), (bytes(28) + JOURNAL, None, ""),
+        (b"x" * 600, "store failed", "and isn't one. Move it away."),
+        (JOURNAL[:8], "store failed", "take the change back: sqlite3 "),
+        (JOURNAL + b"\0\0" + page + bytes(500), "store failed", "take the change back: sqlite3 "),
+        (JOURNAL + bytes(4), "store failed", "take the change back: sqlite3 "),
+        (JOURNAL + b"\0\1\0\0", "store failed", "another file's"),
+    ):
+        journal.write_bytes(data)
+        is_alike(program, file, wanted, *([str(journal), hint] if wanted else []))
     journal.unlink()
+    for make in Path.mkdir, os.mkfifo, lambda it: it.symlink_to("nowhere"), lambda it: it.symlink_to(file):
+        make(journal)
+        is_alike(program, file, "store failed", f"{journal} is no regular file")
+        (journal.rmdir if journal.is_dir() and not journal.is_symlink() else journal.unlink)()
     log.unlink(missing_ok=True)
     log.mkdir()
     is_alike(program, file, "store failed", "no regular file")
+
+
+def test_a_change_that_sqlite3_left_unfinished(program):
+    """sqlite3 is killed in the midst of a change. Who follows the advice has the city of before."""
+    file = city_file(program)
+    changed(file, "PRAGMA journal_mode = DELETE")
+    before = held(file)
+    changing = (
+        "import os, sqlite3, sys; base = sqlite3.connect(sys.argv[1]); base.execute('PRAGMA cache_size = 1')",
+        "base.execute('BEGIN'); base.execute('UPDATE riders SET balance = 1')",
+        "base.execute('CREATE TABLE notes (a)')",
+        "base.executemany('INSERT INTO notes VALUES (?)', [('x' * 2000,)] * 500)",
+        "os.kill(os.getpid(), 9)",
+    )
+    subprocess.run([sys.executable, "-c", "\n".join(changing), file], check=False)
+    assert Path(f"{file}-journal").stat().st_size and len(file.read_bytes()) > 500_000
+    is_alike(program, file, "store failed", "Copy both by cp.", "would damage it: move the -journal away.")
+    words = re.search("take the change back: sqlite3 (.*?) '(.*?)'[.] ", looked_at(file)[0].text)
+    with contextlib.closing(sqlite3.connect(words[1])) as base:
+        assert base.execute(words[2]).fetchall() == [("ok",)]
+    is_alike(program, file, None)
+    assert held(file) == before
+
+
+@contextlib.contextmanager
+def flagged(path, flag):
+    """Gives a file or a folder this flag of chattr for a time."""
+    assert ran("chattr", f"+{flag}", path)[0] == 0, (path, flag)
+    try:
+        yield
+    finally:
+        ran("chattr", f"-{flag}", path)
+
+
+@needs("chattr")
+def test_flags_of_chattr(program):
+    """A flag that keeps everybody from writing is named, and how it is taken away; chmod and chown aren't proposed."""
+    with tempfile.TemporaryDirectory(dir="/dev/shm" if os.path.isdir("/dev/shm") else program.folder) as folder:
+        home = Path(folder, "home")
+        home.mkdir()
+        if ran("chattr", "+i", home)[0]:
+            print("doctor: not tried with flags of chattr, this user or this file system has none", flush=True)
+            return
+        ran("chattr", "-i", home)
+        file, log = home / "city.db", home / "city.db-wal"
+        accepted(program, CITY, file=str(file), key="f")
+        whole = file.read_bytes()
+        for path, flag, has_log, wanted in (
+            (file, "i", True, "store failed"), (file, "a", True, "store failed"), (file, "i", False, "store failed"),
+            (log, "i", True, "store failed"), (log, "a", True, "store failed"), (home, "i", False, "store failed"),
+            # With its log FILE is opened in a folder to which nothing can be added.
+            (home, "i", True, None), (home, "a", True, None),
+        ):
+            put({"": whole, "-wal": b""} if has_log else {"": whole}, file)
+            with flagged(path, flag):
+                is_alike(program, file, wanted, *([f"{path} has the flag {flag}", f"root: chattr -{flag} {path}."]
+                                                  if wanted else []))
+                if wanted:
+                    assert "chmod" not in looked_at(file)[0].text and "chown" not in looked_at(file)[0].text
+            is_alike(program, file, None)
+        removed(file)
+        for flag in "i", "a":
+            with flagged(home, flag):
+                (found,) = looked_at(file)
+                assert f"none can be made: {home} has the flag {flag} of chattr" in found.text, found
+                assert found.text.endswith(f"root: chattr -{flag} {home}."), found
+                assert program.run("init", str(file)) == STORE_FAILED, flag
+            removed(file)
+        log.write_bytes(b"x")
+        with flagged(log, "i"):
+            (found,) = looked_at(file)
+            assert f"none can be made: {log} has the flag i of chattr" in found.text, found
+            assert program.run("init", str(file)) == STORE_FAILED
 
 
 def test_a_file_that_is_not_there(program):
@@ -324,18 +519,20 @@ def test_a_file_that_is_not_there(program):
 
 
 def test_a_log_without_its_file(program):
-    """Where FILE is gone, or has 0 bytes, and its log may hold a frame, whatever its head, no word is to run: that log
-    is the only copy. Beside a shorter one the program makes a city."""
+    """Where FILE is gone, or has at most one byte, and its log may hold a frame, whatever its head, no word is to run:
+    that log is the only copy. Beside a shorter one the program makes a city."""
     log = taken(killed_city(program))["-wal"]
     removed(program.folder, "killed.db")
     file = Path(program.folder, "city.db")
     heads = {"good frames": log, "damaged head": bytes(4) + log[4:], "a damaged head": random.Random(3).randbytes(6000)}
-    for (hint, data), size, has_file in itertools.product(heads.items(), (0, 31, 32, 567, 568, 5000), (False, True)):
+    mains = {}, {"": b""}, {"": b"S"}
+    for (hint, data), size, main in itertools.product(heads.items(), (0, 31, 32, 567, 568, 5000), mains):
         removed(file)
-        put({"": b"", "-wal": data[:size]} if has_file else {"-wal": data[:size]}, file)
+        put({**main, "-wal": data[:size]}, file)
         (found,) = looked_at(file)
         if size < 568:
-            wanted = ("an empty city", "holds nothing") if has_file else ("store failed", "others make an empty city")
+            wanted = ("an empty city", "raise refuses it") if main else ("store failed", "others make an empty city")
+            assert program.run("raise", "city.db") == STORE_FAILED, (hint, size)
             assert found.word == wanted[0] and wanted[1] in found.text and "Is it" not in found.text, (size, found)
             assert program.run("init", "city.db") == READY, (hint, size)
             continue
@@ -343,28 +540,11 @@ def test_a_log_without_its_file(program):
         assert f"{size:,} bytes" in found.text and "keep it" in found.text and "others" not in found.text, found
         for words in (("check",), ("lines",), ("init",)):
             assert program.run(*words, "city.db") == STORE_FAILED, (hint, size, words)
-        assert taken(file)["-wal"] == data[:size]
+        assert taken(file) == {**main, "-wal": data[:size]}
     # Beside an empty FILE a -journal has sqlite3 opened by its hint, and that would take the log away.
     put({"": b"", "-wal": log, "-journal": b"x"}, file)
     (found,) = looked_at(file)
-    assert "keep it" in found.text and "by sqlite3" not in found.text, found
-
-
-def test_a_file_of_one_byte(program):
-    """Beside it the program reads a log that holds all pages, and passes one with a damaged head over. The latter is
-    told all the same."""
-    log = taken(killed_city(program))["-wal"]
-    file = Path(program.folder, "city.db")
-    for data, word, ended in (
-        (log, None, SOUND), (log[:20_000], "store failed", STORE_FAILED), (log[:568], "store failed", STORE_FAILED),
-        (bytes(4) + log[4:], "an empty city", SOUND),
-    ):
-        removed(file)
-        put({"": b"x", "-wal": data}, file)
-        found = looked_at(file)
-        assert [it.word for it in found] == ([word] if word else []), (len(data), found)
-        assert word != "an empty city" or "keep it" in found[0].text, found
-        assert program.run("check", "city.db") == ended, (word, data[:4])
+    assert "keep it" in found.text and "-journal" not in found.text and "take the change" not in found.text, found
 
 
 def test_a_file_that_cannot_be_made(program):
@@ -392,6 +572,54 @@ def test_a_city_ahead_of_the_clock(program):
     file = Path(program.folder, "city.db")
     (found,) = looked_at(file)
     assert found.word == "ahead of the clock" and "2508-09-16T06:18:20Z" in found.text, found
+    assert program.run("check", "city.db") == SOUND
+
+
+def test_a_city_ahead_of_the_clock_that_is_served(program):
+    """It is told of that as it is of the same FILE when nobody serves it, and not that nothing is wrong."""
+    file = city_file(program)
+    accepted(program, ["add-rider\t18"], at=17_000_000_300, key="n")
+    (alone,) = looked_at(file)
+    with Server(program, seconds=60) as server:
+        for asked in None, office("r1", "top-up\t17\t100"):
+            assert asked is None or b" 200 " in server.ask(asked)
+            status, lines = told(file, "--port", server.port)
+            assert (status, len(lines)) == (1, 2) and "nothing is wrong" not in lines[0], lines
+            assert "that is this city's own service. " in lines[0], lines
+            wanted = f"{file}: {alone.word}: {alone.text}"
+            assert re.sub("[0-9]+ years", "", lines[1]) == re.sub("[0-9]+ years", "", wanted), lines
+        Path(f"{file}-journal").write_bytes(b"x")
+        status, lines = told(file, "--port", server.port)
+        assert status == 1 and "isn't one. Move it away." in lines[1], lines
+
+
+def test_a_look_at_a_city_that_is_served(program):
+    """While requests come one after the other, and the log is brought into FILE again and again, nothing is found that
+    isn't wrong; and neither file is changed by looking."""
+    file = city_file(program)
+    over, sent = threading.Event(), [0]
+
+    def send():
+        while not over.is_set():
+            assert b" 200 " in server.ask(office(f"r{sent[0]}", "top-up\t17\t1"))
+            sent[0] += 1
+            time.sleep(pause)
+
+    with Server(program, seconds=60) as server:
+        for pause in 0.05, 0:
+            over.clear()
+            sender = threading.Thread(target=send)
+            sender.start()
+            try:
+                before = sent[0]
+                for _ in range(5):
+                    status, lines = told(file, "--port", server.port)
+                    assert all("not looked at" in it for it in lines[1:]) and status == bool(lines[1:]), lines
+                    assert pause == 0 or status == 0, lines
+                assert sent[0] > before
+            finally:
+                over.set()
+                sender.join()
     assert program.run("check", "city.db") == SOUND
 
 
@@ -474,6 +702,53 @@ def test_the_port(program):
         (found,) = doctor.findings_of_port(int(other.stdout.readline()))
         other.kill()
     assert found.text.endswith("End that one, or give the city another port."), found
+
+
+def test_a_port_that_is_bound(program):
+    """A socket that has the port and doesn't listen keeps the program away as one that does, and is told with its
+    process; one that leaves the program its port isn't."""
+    file = city_file(program)
+    me = f"process {os.getpid()} ("
+    for address in "127.0.0.1", "":
+        with socket.socket() as bound:
+            bound.bind((address, 0))
+            port = bound.getsockname()[1]
+            status, lines = told(file, "--port", port)
+            begin = f"port {port}: read failed: it is bound, without listening there, by another process"
+            assert status == 1 and [it.startswith(begin) for it in lines] == [True], lines
+            assert me in lines[0] and lines[0].endswith(", or give the city another port."), lines
+            assert program.run("serve", "city.db", "--port", str(port)) == READ_FAILED
+            bound.setsockopt(socket.SOL_SOCKET, socket.SO_REUSEADDR, 1)
+            serves_at(program, file, port)
+    # The end of a connection that a client keeps there.
+    with socket.create_server(("127.0.0.1", 0)) as other, socket.socket() as client:
+        client.bind(("127.0.0.1", 0))
+        port = client.getsockname()[1]
+        client.connect(other.getsockname())
+        status, lines = told(file, "--port", port)
+        assert status == 1 and me in lines[0] and "without listening there, by process" in lines[0], lines
+        assert lines[0].endswith("). End that one, or give the city another port."), lines
+        assert program.run("serve", "city.db", "--port", str(port)) == READ_FAILED
+        client.close()
+        other.accept()[0].close()
+        # The end that closes first has the port for a minute.
+        (found,) = doctor.findings_of_port(port)
+        assert "were just closed, and keep it for up to a minute." in found.text, found
+        assert program.run("serve", "city.db", "--port", str(port)) == READ_FAILED
+    # What listens at another address of the port leaves the program its own.
+    with socket.socket(socket.AF_INET6 if socket.has_ipv6 else socket.AF_INET) as other:
+        if socket.has_ipv6:
+            other.setsockopt(socket.IPPROTO_IPV6, socket.IPV6_V6ONLY, 1)
+        other.bind(("::" if socket.has_ipv6 else "127.0.0.2", 0))
+        other.listen()
+        serves_at(program, file, other.getsockname()[1])
+
+
+def serves_at(program, file, port):
+    """Nothing is found of the port, and the program listens there."""
+    assert told(file, "--port", port)[0] == 0 and not doctor.findings_of_port(port), port
+    with program.started("serve", str(file), "--port", str(port)) as server:
+        assert line_of(server) == f"listening 127.0.0.1:{port}\n".encode(), port
 
 
 def test_the_port_of_its_own_service(program):
@@ -632,10 +907,16 @@ def test_a_disk_that_is_full_or_read_only(program):
         "$DOCTOR fixed/city.db", '"$BIKESHARE" lines fixed/city.db < /dev/null', '"$BIKESHARE" check fixed/city.db',
         "$DOCTOR fixed/new.db", '"$BIKESHARE" init fixed/new.db', "$DOCTOR full/new.db",
         '"$BIKESHARE" init full/new.db',
+        # The file alone stands in a mount of its own.
+        "mount --bind city.db city.db", "mount -o remount,bind,ro city.db", "$DOCTOR city.db",
+        '"$BIKESHARE" check city.db',
     )
     if said is None:
         return
-    assert len(said) == 10 and said[1] == said[3] == said[4] == "store failed", said
+    assert len(said) == 12 and said[1] == said[3] == said[4] == said[11] == "store failed", said
+    for line in said[2], said[5], said[10]:
+        assert "remount,rw" in line and "chmod" not in line and "chown" not in line, line
+    assert said[10].startswith(f"city.db: store failed: {program.folder}/city.db is on a file system"), said[10]
     assert said[0].startswith("full/city.db: store failed: the disk of ") and "full, or nearly" in said[0], said
     assert said[2].startswith("fixed/city.db: store failed: ") and "read-only" in said[2], said
     assert "none can be made: " in said[5] and "read-only" in said[5] and "others" not in said[5], said

@@ -2,11 +2,13 @@
 it lets through the program takes. Its fields are those of the documents.
 """
 
+import contextlib
 import functools
 import os
 import random
 import re
 import time
+from pathlib import Path
 
 import formats
 from doctor import BAD_FIELD, FOR_GOOD, FOR_NOW, NOW, SYSTEM, doctor, number_in, place_of, system_line
@@ -211,8 +213,19 @@ DOUBTFUL = (
     ("base_url", "Http://x.example/", "Write http in small letters"),
     ("base_url", "http://127.0.0.1:8080", "this machine"), ("base_url", "http://localhost", "this machine"),
     ("base_url", "http://[::1]:8080", "this machine"),
-    ("base_url", "https://:8080", "names no host"), ("language", "e-", "BCP 47"), ("language", "xx", "BCP 47"),
+    ("base_url", "https://:8080", "names no host"),
+    ("base_url", "https://metro..example", "nothing between"), ("base_url", "https://.x.example/", "nothing between"),
+    ("base_url", "https://x.example..:8080", "nothing between"), ("base_url", "https://-metro.example", "has a - at"),
+    ("base_url", "https://metro-.example/bikes", "has a - at"), ("base_url", "https://bikes.-", "has a - at"),
+    ("base_url", f"https://{'a' * 64}.example", "more than 63"), ("base_url", "https://metro_bikes.example", "letters"),
+    ("base_url", "https://metro%20.example", "letters, digits, - and points"),
+    ("language", "e-", "BCP 47"), ("language", "xx", "BCP 47"),
     ("language", "english", "BCP 47"),
+    ("language", "eng", "Write en."), ("language", "ENG", "Write en."), ("language", "ger-AT", "Write de-AT."),
+    ("language", "deu-ch", "Write de-CH."), ("language", "eng-UK", "Write en-GB."), ("language", "spa", "Write es."),
+    ("language", "en-UK", "the region UK, which is none of ISO 3166, so readers may not know it. Write en-GB."),
+    ("language", "en-uk", "Write en-GB."), ("language", "de-EU", "the region EU, "), ("language", "de-XX", "Write de."),
+    ("language", "cs-CS", "the region CS, "), ("language", "fr-ZZ", "the region ZZ, "),
     ("language", "EN", "only in its case"), ("language", "de-ch", "only in its case"),
     ("language", "zh-hant", "validators"), ("language", "zh-Hant", "validators"), ("language", "es-419", "validators"),
     ("language", "de-CH-1996", "validators"), ("language", "x-bikes", "validators"), ("name", " ", "spaces"),
@@ -230,12 +243,39 @@ DOUBTFUL = (
 # And ones of which nothing is found.
 FREE_OF_DOUBT = (
     ("base_url", "http://bikes.example:8080"), ("base_url", "https://example.org/bikes"), ("language", "de-CH"),
+    ("base_url", "https://metro.example."), ("base_url", "https://xn--mnchen-3ya.example"), ("language", "en-GB"),
+    ("base_url", f"https://{'a' * 63}.example"), ("base_url", "http://192.0.2.1:8080"), ("language", "sq-XK"),
+    ("base_url", "http://[2001:db8::1]:8080/bikes"), ("base_url", "https://a-b.3com.example"), ("language", "uk"),
     ("language", "haw"), ("name", "24"), ("name", "\u2067Metro\u2069"), ("opening_hours", "Fr 20:00-26:00"),
     ("opening_hours", "Mo-Fr 06:00-22:00; Sa,Su,PH 08:00-20:00"),
     ("opening_hours", "sunrise-sunset"), ("opening_hours", 'Apr-Oct 06:00-24:00 "in summer"'),
     ("feed_contact_email", "o'neil+gbfs@mail.example.org"),
     ("timezone", "Etc/UTC"), ("timezone", "America/Argentina/Buenos_Aires"), ("currency", "CHF"),
 )
+
+
+def test_names_of_hosts(program):
+    """A host has at most 253 characters, of which a base_url isn't long enough for more than some 190."""
+    longest = ".".join(["a" * 63] * 3 + ["b" * 61])
+    assert len(longest) == 253 and doctor.host_fault(longest) is None and doctor.host_fault(longest + ".") is None
+    assert "253" in doctor.host_fault(f"{longest}b") and "253" in doctor.base_url_doubt(f"https://{longest}b/x")
+    assert doctor.host_fault("a." * 127) is None and "253" in doctor.host_fault("a." * 127 + "b")
+
+
+def test_codes_of_languages(program):
+    """Each language that has a code of two letters is told where it stands by a longer one, and so with a region. The
+    regions are those of the time zones of this machine, where it has a list."""
+    assert len(doctor.CODES) == 2 * 184 and len(doctor.SHORTER) == 204
+    for longer, code in doctor.SHORTER.items():
+        assert len(longer) == 3 and len(code) == 2 and doctor.language_doubt(code) is None, code
+        for tag, wanted in (longer, code), (f"{longer}-CH", f"{code}-CH"), (longer.upper(), code):
+            assert doctor.language_doubt(tag).endswith(f"Write {wanted}"), tag
+    assert len(doctor.REGIONS) == 250
+    for it in doctor.REGIONS:
+        assert doctor.language_doubt(f"en-{it}") is None and "case" in doctor.language_doubt(f"en-{it.lower()}"), it
+    with contextlib.suppress(FileNotFoundError):
+        found = set(re.findall("^([A-Z]{2})\t", Path("/usr/share/zoneinfo/iso3166.tab").read_text(), re.M))
+        assert doctor.REGIONS - {"XK"} == found, doctor.REGIONS ^ found
 
 
 def test_lines_of_the_example(program):

@@ -14,6 +14,7 @@ import re
 import shutil
 import signal
 import socket
+import ssl
 import subprocess
 import threading
 import time
@@ -436,16 +437,21 @@ def on_the_network(text, port):
     return re.sub(begin, lambda it: " ".join(f"{one}{it[1] or '' if 'listen' in one else ''};" for one in lines), text)
 
 
-@needs("nginx")
-@needs("openssl")
-def test_the_gateways_lines_for_tls(program):
-    """nginx takes them as they stand, in place of those for trying it."""
-    folder = Path(program.folder)
+def make_certificate(folder):
+    """Makes what the gateway's lines for TLS name."""
     made = ran(
         "openssl", "req", "-x509", "-newkey", "ec", "-pkeyopt", "ec_paramgen_curve:prime256v1", "-nodes", "-days", "1",
         "-subj", "/CN=metro.example", "-keyout", folder / "tls.key", "-out", folder / "tls.pem",
     )
     assert made[0] == 0, made
+
+
+@needs("nginx")
+@needs("openssl")
+def test_the_gateways_lines_for_tls(program):
+    """nginx takes them as they stand, in place of those for trying it."""
+    folder = Path(program.folder)
+    make_certificate(folder)
     (folder / "nginx.conf").write_text(on_the_network((DEPLOY / "nginx.conf").read_text(), free_port()))
     (folder / "metro.callers").touch()
     words = ["-p", f"{folder}/", "-e", "error.log", "-c", folder / "nginx.conf", "-t"]
@@ -454,13 +460,18 @@ def test_the_gateways_lines_for_tls(program):
 
 
 class Gateway:
-    """nginx with deploy/nginx.conf on a free port, as a user without rights, before the servers of these cities."""
+    """nginx with deploy/nginx.conf on a free port, as a user without rights, before the servers of these cities. Where
+    it is public, its lines for TLS stand in place of those for trying it."""
 
-    def __init__(self, program, cities, tokens=None, ttl=30):
+    def __init__(self, program, cities, tokens=None, ttl=30, is_public=False):
         self.port = free_port()
-        self.folder = Path(program.folder, "gateway")
+        self.folder = Path(program.folder, "public" if is_public else "gateway")
         self.folder.mkdir()
-        (self.folder / "nginx.conf").write_text(configuration(self.port, cities, ttl))
+        # Its lines for trying it have this port, by which those for TLS are put there.
+        text = configuration(8081 if is_public else self.port, cities, ttl)
+        (self.folder / "nginx.conf").write_text(on_the_network(text, self.port) if is_public else text)
+        if is_public:
+            make_certificate(self.folder)
         for name in cities:
             lines = (f'"Bearer {token}" {caller};\n' for caller, token in (tokens or {}).get(name, TOKENS).items())
             (self.folder / f"{name}.callers").write_text("".join(lines))
@@ -505,6 +516,21 @@ class Gateway:
         if text and answer.headers["Content-Encoding"] == "gzip":
             text = gzip.decompress(text)
         return answer.status, answer.headers, json.loads(text) if text else None
+
+    def answer_to(self, data, host=None):
+        """What is answered to these bytes, over a connection of its own: the status, the head and the body. Over TLS,
+        where a host is given by which the server is to be known."""
+        with contextlib.ExitStack() as closing:
+            client = closing.enter_context(socket.create_connection(("127.0.0.1", self.port), timeout=SECONDS))
+            if host:
+                context = ssl.create_default_context(cafile=self.folder / "tls.pem")
+                client = closing.enter_context(context.wrap_socket(client, server_hostname=host))
+            with contextlib.suppress(OSError):
+                # Of a head that is too long it doesn't read the rest.
+                client.sendall(data)
+            answer = http.client.HTTPResponse(client)
+            answer.begin()
+            return answer.status, answer.headers, answer.read()
 
     def told(self, *asked, **how):
         """The status, and the name where it is no success."""
@@ -581,6 +607,51 @@ def test_gateway_requests(program):
         [it["caller"] for it in log[:3]] == ["rider:17"] * 3
         and TOKENS["rider:17"] not in (gateway.folder / "access.log").read_text()
     )
+
+
+# What nginx can't read: heads of requests, and what ends a head.
+HOST, LAST = "Host: metro.example\r\n", "Connection: close\r\n\r\n"
+UNREADABLE = [
+    *(f"GET {path} HTTP/1.1\r\n{HOST}{LAST}" for path in ("/%zz", "/gbfs/3.0/%", "/%00", "/../riders", "riders", "")),
+    *(f"{line}\r\n{HOST}{LAST}" for line in ("GARBAGE", "get / HTTP/1.1", "GET / HTTQ/1.1", "GET / HTTP/3.0")),
+    "CONNECT metro.example:443 HTTP/1.1\r\n" + HOST + LAST, "OPTIONS * HTTP/1.1\r\n" + HOST + LAST,
+    f"GET /{'a' * 9000} HTTP/1.1\r\n{HOST}{LAST}", f"GET / HTTP/1.1\r\n{HOST}X: {'a' * 9000}\r\n{LAST}",
+    f"GET / HTTP/1.1\r\n{HOST}" + "".join(f"X{it}: {'a' * 7000}\r\n" for it in range(6)) + LAST,
+    f"GET / HTTP/1.1\r\n{LAST}", f"GET / HTTP/1.1\r\nHost: a/b\r\n{LAST}", f"GET / HTTP/1.1\r\n{HOST}{HOST}{LAST}",
+    f"POST /office HTTP/1.1\r\n{HOST}Content-Length: x\r\n{LAST}",
+    f"POST /office HTTP/1.1\r\n{HOST}Transfer-Encoding: gzip\r\n{LAST}",
+    f"POST /office HTTP/1.1\r\n{HOST}Content-Length: 1\r\nTransfer-Encoding: chunked\r\n{LAST}",
+]
+
+
+@needs("nginx")
+@needs("openssl")
+def test_gateway_requests_that_cannot_be_read(program):
+    """They are 400, and answered as all that the gateway answers itself, whether or not TLS has told the host before.
+    No city's program is needed. By no path is the place reached where that answer stands."""
+    cities = {"metro": free_port()}
+    with Gateway(program, cities) as plain, Gateway(program, cities, is_public=True) as public:
+        tried = [(plain, None, it) for it in UNREADABLE] + [(public, "metro.example", it) for it in UNREADABLE]
+        # A request without TLS where that is wanted.
+        tried.append((public, None, f"GET /riders/17 HTTP/1.1\r\n{HOST}{LAST}"))
+        for gateway, host, asked in tried:
+            status, head, body = gateway.answer_to(asked.encode(), host)
+            assert (status, body) == (400, b'{"result":"error","name":"bad_request"}'), (host, asked[:80], status, body)
+            assert (head["Content-Type"], readers(head)) == ("application/json", PRIVATE), (asked[:80], head.items())
+        # At a feed's path a page of another site may see it.
+        asked = f"GET {FEED} HTTP/1.1\r\n{HOST}Transfer-Encoding: chunked\r\n{LAST}x\r\n"
+        for gateway, host in (plain, None), (public, "metro.example"):
+            status, head, body = gateway.answer_to(asked.encode(), host)
+            assert (status, body) == (400, b'{"result":"error","name":"bad_request"}'), (host, status, body)
+            assert readers(head) == UNKEPT, head.items()
+        for path in "/bad_request", "/./bad_request", "/%2e/bad_request", "//./bad_request", "/a/../bad_request":
+            assert plain.told("GET", path) == UNAUTHORIZED, path
+            assert plain.told("GET", path, "office:anna") == FORBIDDEN, path
+            assert plain.told("GET", path, host="other.example") == (421, "misdirected"), path
+        # Another host's request is misdirected, whatever its body.
+        for size in 1, 20_000_000:
+            asked = f"POST /office HTTP/1.1\r\nHost: other.example\r\nContent-Length: {size}\r\n{LAST}"
+            assert plain.answer_to(asked.encode())[::2] == (421, b'{"result":"error","name":"misdirected"}'), size
 
 
 @needs("nginx")
