@@ -418,6 +418,23 @@ def test_links(program):
     assert tables(here, "copy.db") == city.wanted and taken(city.file) == city.parts
 
 
+def test_a_process_that_only_reads(program):
+    """One that has FILE open for reading alone, as another copy has, is in no copy's way; one that may write is."""
+    here = Path(program.folder)
+    city = Killed(program, tempfile.mkdtemp(dir=here))
+    with open(city.file, "rb"):
+        assert copying(program, city.file, "copy.db") == (0, "")
+    assert tables(here, "copy.db") == city.wanted
+    # Two that may write: no copy is made, and none of them is stopped.
+    with contextlib.ExitStack() as both:
+        for _ in range(2):
+            child = subprocess.Popen(["sleep", "60"], stdin=both.enter_context(open(city.file, "rb+")))
+            both.callback(child.wait)
+            both.callback(child.kill)
+        status, said = copying(program, city.file, "other.db")
+    assert status == 1 and "more than one process has" in said and not (here / "other.db").exists(), said
+
+
 def test_a_log_that_was_removed(program):
     """A served city whose log lost its name isn't copied: the file alone is an older city. By hand both can be had."""
     here = Path(program.folder)
