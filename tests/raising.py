@@ -393,11 +393,8 @@ def test_what_is_empty_stays_so(program):
     assert not os.listdir(program.folder), os.listdir(program.folder)
     for name, data in ("none.db", b""), ("one.db", b"S"):
         Path(program.folder, name).write_bytes(data)
-        assert program.run("raise", name) == DONE, name
-        assert program.run("raise", name) == DONE, name
-        # The engine writes its first page, which holds no table.
-        with contextlib.closing(sqlite3.connect(Path(program.folder, name))) as base:
-            assert base.execute("SELECT count(*) FROM sqlite_schema").fetchall() == [(0,)], name
+        assert program.run("raise", name) == STORE_FAILED, name
+        assert taken(program.folder, name) == {"": data}, name
         assert program.run("check", name) == SOUND, name
     notes = Path(program.folder, "notes.db")
     changed(
