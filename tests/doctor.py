@@ -306,8 +306,13 @@ def test_logs(program):
     put(whole, file)
     is_alike(program, file, None)
     at = 32 + 5 * (24 + page) + 30
+    # The log is longer than what was written to it.
+    frames = sum(log[it + 8 : it + 16] == log[16:24] for it in range(32, len(log), 24 + page))
+    last, end = 32 + (frames - 1) * (24 + page) + 30, 32 + frames * (24 + page)
     for data, wanted in (
         (log[:at] + bytes([log[at] ^ 1]) + log[at + 1 :], "passed over"), (log[:32], "an empty city"),
+        # The last frame, and one that was cut: what was answered last.
+        (log[:last] + bytes([log[last] ^ 1]) + log[last + 1 :], "passed over"), (log[: end - page // 2], "passed over"),
     ):
         put({"": whole[""], "-wal": data}, file)
         assert words_of(file) == [wanted], (data[:40], wanted, looked_at(file))
@@ -539,12 +544,14 @@ def test_a_log_without_its_file(program):
     heads = {"good frames": log, "damaged head": bytes(4) + log[4:], "a damaged head": random.Random(3).randbytes(6000)}
     mains = {}, {"": b""}, {"": b"S"}
     for (hint, data), size, main in itertools.product(heads.items(), (0, 31, 32, 567, 568, 5000), mains):
-        if main.get("") and hint == "good frames" and size == 567:
-            # Beside one byte the engine refuses a log of other pages than it would make. That isn't told.
-            continue
         removed(file)
         put({**main, "-wal": data[:size]}, file)
         (found,) = looked_at(file)
+        if main.get("") and hint == "good frames" and size == 567:
+            # Beside one byte the engine refuses a log of other pages than it would make.
+            assert program.run("init", "city.db") == STORE_FAILED and found.word == "store failed", found
+            assert "Move both away" in found.text, found
+            continue
         if size < 568:
             wanted = ("an empty city", "raise refuses it") if main else ("store failed", "others make an empty city")
             assert program.run("raise", "city.db") == STORE_FAILED, (hint, size)
@@ -560,6 +567,20 @@ def test_a_log_without_its_file(program):
     put({"": b"", "-wal": log, "-journal": b"x"}, file)
     (found,) = looked_at(file)
     assert "keep it" in found.text and "-journal" not in found.text and "take the change" not in found.text, found
+
+
+def test_a_log_of_two_names(program):
+    """A log that is a link, or has a second name, is refused by the program; the doctor says so."""
+    whole = taken(killed_city(program))
+    file, log = Path(program.folder, "city.db"), Path(program.folder, "city.db-wal")
+    for make, hint in (
+        (lambda: os.link(log, Path(program.folder, "second")), "2 names"),
+        (lambda: (log.rename(Path(program.folder, "elsewhere")), log.symlink_to("elsewhere")), "a link to"),
+    ):
+        put({part: whole[part] for part in ("", "-wal")}, file)
+        make()
+        assert program.run("check", "city.db") == STORE_FAILED, hint
+        assert any(it.word == "store failed" and hint in it.text for it in looked_at(file)), (hint, looked_at(file))
 
 
 def test_a_file_that_cannot_be_made(program):
