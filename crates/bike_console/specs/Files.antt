@@ -1,5 +1,5 @@
 -- Why a file isn't open.
-use Rattle.std.specs.Prelude.{◌≡◌, ◌≢◌, ◌⊎◌, ◌≤◌, ℕ, true, List, length, slice_index, Result, Ok, Err}
+use Rattle.std.specs.Prelude.{◌≡◌, ◌⊎◌, ◌≤◌, ◌/◌, ℕ, true, List, length, slice_index, Result, Ok, Err}
 use Rattle.sqlite_disk.specs.declared.Disk as disk
 use Rattle.sqlite_disk.specs.declared.Files.{Files}
 use Rattle.sqlite_wal.specs.Format.{IsSigned}
@@ -40,9 +40,17 @@ TellsBarred told = (e : Error) × (told ≡ open_fault e) × IsBarred e
 abbrev pub IsLoneLog : Image → Type 0
 IsLoneLog image = (length image.db ≤ 1) × (LEAST_LOG ≤ length image.log)
 
--- A DAMAGED LOG: it is long enough to hold a commit and its header fails its own test, though nobody was about to write that anew.
+-- The engine had begun to write a header anew: it took the first byte of the magic number away before, and puts it back last.
+abbrev pub IsBegunAnew : List ℕ → Type 0
+IsBegunAnew head = (slice_index head 0 ≡ 0) × ((slice_index head 1 ≡ 0x7f) × ((slice_index head 2 ≡ 0x06) × (slice_index head 3 / 2 ≡ 0x82 / 2)))
+
+-- a header that fails its own test, and isn't being written anew
+abbrev pub IsBroken : List ℕ → Type 0
+IsBroken head = (¬ IsBegunAnew head) × (¬ IsSigned head)
+
+-- A DAMAGED LOG: it is long enough to hold a commit, and its header is broken.
 abbrev pub IsDamagedLog : List ℕ → Type 0
-IsDamagedLog log = (LEAST_LOG ≤ length log) × ((slice_index log 0 ≢ 0) × (¬ IsSigned (header log)))
+IsDamagedLog log = (LEAST_LOG ≤ length log) × IsBroken (header log)
 
 -- the log may hold commits, and an engine begins anew over it
 abbrev pub IsLostLog : Image → Type 0

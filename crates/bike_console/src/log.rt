@@ -1,11 +1,11 @@
 //! Logs that aren't opened, since the engine would begin anew over what they may hold.
 
-ghost use Rattle.std.specs.Prelude.{◌≡◌, ◌≢◌, ◌≤◌, ◌+◌, ◌↔◌, slice_index, IfOk, IfErr, IsTrue};
+ghost use Rattle.std.specs.Prelude.{◌≡◌, ◌≤◌, ◌+◌, ◌↔◌, IfOk, IfErr, IsTrue};
 ghost use Rattle.sqlite.specs.Files.{faults_of, image_of};
 ghost use Rattle.sqlite_disk.specs.Disk.{MoreFaults};
 ghost use Rattle.sqlite_wal.specs.Format.{be32, IsSigned};
 ghost use Rattle.sqlite_wal.specs.Reads.{AreClean, IsClean, OnlyReads};
-ghost use Rattle.bike_console.specs.Files.{IsDamagedLog, IsLoneLog, IsLostLog};
+ghost use Rattle.bike_console.specs.Files.{IsBegunAnew, IsBroken, IsDamagedLog, IsLoneLog, IsLostLog};
 
 use crate::end::Fault;
 use sqlite::Files;
@@ -15,9 +15,6 @@ use sqlite_wal::checksum_of;
 /// How long a log is at least that holds a commit, in bytes: its header, and a frame of the smallest page
 /// (<https://www.sqlite.org/fileformat2.html>, section 4.1).
 pub const LEAST_LOG: usize = 32 + 24 + 512;
-
-/// The first byte of a log that is in use. The engine puts a 0 in its place before it writes a header anew, and puts it back last.
-const BEGUN_ANEW: u8 = 0;
 
 /// Four bytes of a log's header as a number, the highest first.
 fn word_at(head: &[u8; 32], at: usize) -> u32
@@ -45,11 +42,19 @@ fn is_signed(head: &[u8; 32]) -> bool
     sum.0 == word_at(head, 24) && sum.1 == word_at(head, 28)
 }
 
-/// Whether a log's header is damaged, and not one that the engine was about to write anew.
-fn is_broken(head: &[u8; 32]) -> bool
-    ensures { IsTrue result ↔ (slice_index head.now 0 ≢ 0) × (¬ IsSigned head.now) }
+/// Whether the engine had begun to write a log's header anew: it puts a 0 in the first byte's place before, and that byte back last. The
+/// bytes of the magic number behind it are the same in the old header and in the new one.
+fn is_begun_anew(head: &[u8; 32]) -> bool
+    ensures { IsTrue result ↔ IsBegunAnew head.now }
 {
-    head[0] != BEGUN_ANEW && !is_signed(head)
+    head[0] == 0 && head[1] == 0x7f && head[2] == 0x06 && head[3] / 2 == 0x82 / 2
+}
+
+/// Whether a log's header is damaged.
+fn is_broken(head: &[u8; 32]) -> bool
+    ensures { IsTrue result ↔ IsBroken head.now }
+{
+    !is_begun_anew(head) && !is_signed(head)
 }
 
 /// Whether the database file has at most one byte beside a log that may hold commits. Nothing tells then what the log goes on from.
