@@ -1218,6 +1218,37 @@ def test_feeds_of_another_host(program):
     assert found_in(feeds, ("gbfs", "ttl"), 30, here=True) == []
 
 
+def test_addresses_that_planners_do_not_reach(program):
+    """Where gbfs lists addresses at which no planner elsewhere reaches the feeds, it is told. Those of the own machine
+    aren't, where gbfs is asked there."""
+    at_home, elsewhere = "http://127.0.0.1:8080", ("https://metro.example", "http://192.0.2.2:8080", "http://10.0.0.3")
+    names = ["system_information", "station_information", "station_status"]
+    for base, word, is_told_at_home in (
+        ("http://127.0.0.1:8080", "this machine", False), ("http://localhost:8080", "this machine", False),
+        ("http://[::1]:8080", "this machine", False), ("http://10.0.0.3", "private network", True),
+        ("http://172.16.0.1", "private network", True), ("http://192.168.1.5:8443", "private network", True),
+        ("http://169.254.1.1", "private network", True), ("https://[fd00::1]", "private network", True),
+        ("https://lyon", "without a point", True), ("https://user:pw@metro.example", "password", True),
+        ("https://user@127.0.0.1:8080", "password", True), ("https://metro.example", None, False),
+        ("http://192.0.2.2:8080", None, False), ("https://:8080", None, False), ("https://[", None, False),
+    ):
+        listed = [{"name": name, "url": f"{base}/gbfs/3.0/{name}.json"} for name in names]
+        frame = {"last_updated": moment_in(0), "ttl": 30, "version": "3.0"}
+        feeds = {"gbfs": {**frame, "data": {"feeds": listed}}}
+
+        def fetched(url, twice=None, feeds=feeds):
+            if url.endswith("/gbfs.json"):
+                return feeds["gbfs"]
+            raise doctor.Unread(url)
+
+        with unittest.mock.patch.object(doctor, "fetched", fetched):
+            for url in at_home, *elsewhere:
+                found = [it for it in doctor.findings_of_feeds(url, time.time()) if it.word == "doubtful"]
+                is_told = bool(word) and (url != at_home or is_told_at_home)
+                assert [it.where for it in found] == ["gbfs"] * is_told, (url, base, found)
+                assert not is_told or word in found[0].text and "and 2 more alike" in found[0].text, (url, base, found)
+
+
 def test_feeds_of_the_example_city(program):
     """Of its feeds, with names in two languages, nothing is said where all stations have just reported."""
     here, folder = f"http://127.0.0.1:{free_port()}", TOP / "examples/city"
