@@ -961,6 +961,10 @@ def test_what_the_program_said(program):
         status, lines = told(file, *said.split())
         assert (status, len(lines)) == (1, 1) and lines[0].startswith(f"{file}: {said}: ") and row in lines[0], lines
     assert "there is no row" in doctor.findings_of_said(str(file), "unsound bikes 8")[0].text
+    for said, other in ("row 3 key_reused", True), ("row 3 bad_field", False), ("row 3 unreadable", False):
+        text = doctor.findings_of_said(str(file), said)[0].text
+        assert ("another table? Then give it a NAME of its own" in text) == other, (said, text)
+        assert re.search("import (it )?again under the same name", text, re.I), (said, text)
     assert told(file, "--port", "0", "unsound", "bikes", "7")[0] == 1 == told(file, "gone", "fishing")[0]
 
 

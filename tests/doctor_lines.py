@@ -347,7 +347,8 @@ def test_further_names_of_lines(program):
 
 
 def test_moments_of_lines(program):
-    """A moment more than a minute ahead of the clock, or before the line above, is told. The program accepts both."""
+    """A moment more than a minute ahead of the clock, before the line above, or before 2015, is told. The program
+    accepts all of them."""
 
     def found_at(*moments):
         data = "".join(f"{it}\toffice\tk{at}\tadd-rider\t{at}\n" for at, it in enumerate(moments, 1)).encode()
@@ -370,6 +371,17 @@ def test_moments_of_lines(program):
         hint = f"Correct the digits. It may be local time ({zone}) taken for UTC." if zone else "Correct the digits."
         assert it.text.endswith(hint), (ahead, it)
     assert program.run(given=data) == (0, b"ok\n" * 4, b"")
+    for moments, wanted in (
+        ((0,), [1]), ((20_260_101,), [1]), ((doctor.EARLY - 1,), [1]), ((doctor.EARLY,), []),
+        ((1, 1, 1, 2, NOW), [1, 4]), ((NOW, 20_260_101, 20_260_101, 20_260_102), [2, 4]),
+    ):
+        data, places = found_at(*moments)
+        assert places == [f"line {it}, moment" for it in wanted], (moments, places)
+    data = found_at(20_260_101, 20_260_102)[0]
+    first, second = (it.text for it in doctor.findings_of_lines(data, NOW))
+    assert "is 1970-08-23T11:48:21Z, long ago" in first and "and no date: date +%s" in first and second != first, first
+    assert "no date" not in doctor.findings_of_lines(found_at(20_261_301)[0], NOW)[0].text
+    assert program.run(given=data) == (0, b"ok\n" * 2, b"")
 
 
 def test_places_of_lines(program):
