@@ -8,6 +8,7 @@ import os
 import random
 import re
 import time
+import unittest.mock
 from pathlib import Path
 
 import formats
@@ -286,6 +287,30 @@ def test_names_of_hosts(program):
     assert len(longest) == 253 and doctor.host_fault(longest) is None and doctor.host_fault(longest + ".") is None
     assert "253" in doctor.host_fault(f"{longest}b") and "253" in doctor.base_url_doubt(f"https://{longest}b/x")
     assert doctor.host_fault("a." * 127) is None and "253" in doctor.host_fault("a." * 127 + "b")
+
+
+def test_hints_on_time_zones(program):
+    """For a name that no time zone has, the one of that city is asked for, or one that is spelled nearly so; and else
+    it is told where the zones of a country stand."""
+    for name, wanted in (
+        ("europe/rome", "Write Europe/Rome"), ("Europe/Lyon", "Is it Europe/Paris?"), ("Lyon", "Is it Europe/Paris?"),
+        ("Europe/Milan", "Is it Europe/Rome?"), ("Asia/Mumbai", "Is it Asia/Kolkata?"), ("Rome", "Is it Europe/Rome?"),
+        ("America/San Francisco", "Is it America/Los_Angeles?"), ("Europe/Londn", "Is it Europe/London?"),
+        ("Europe/Berln", "Is it Europe/Berlin?"), ("Europe/Barcelone", "Is it Europe/Madrid?"),
+        ("Africa/Paris", "Is it Europe/Paris?"), ("Europe/New_York", "Is it America/New_York?"),
+        ("Canada/Montreal", "Is it America/Toronto?"),
+    ):
+        doubt = doctor.zone_doubt(name)
+        assert doubt.startswith("is a time zone that this machine doesn't know. ") and wanted in doubt, (name, doubt)
+    posix = "CET-1CEST,M3.5.0,M10.5.0/3"
+    for name in "Mars/Base", "GMT+1", "CEST", posix, "Europe/Lorient", "Europe/Xyz", "/", "Europe/":
+        doubt = doctor.zone_doubt(name)
+        assert "Is it" not in doubt and "Write one of its names, such as Europe/Rome" in doubt, (name, doubt)
+        assert ("grep FR " in doubt) == os.path.exists(doctor.ZONES_OF_COUNTRIES), doubt
+    with unittest.mock.patch.object(doctor, "ZONES_OF_COUNTRIES", "/nowhere"):
+        assert doctor.zone_doubt("Mars/Base").endswith(" such as Europe/Rome")
+    assert set(doctor.ZONE_OF.values()) <= doctor.known_zones(), set(doctor.ZONE_OF.values()) - doctor.known_zones()
+    assert len(doctor.ZONE_OF) > 90, len(doctor.ZONE_OF)
 
 
 def test_codes_of_languages(program):
