@@ -1156,6 +1156,7 @@ def test_what_is_said_of_feeds(program):
     in_two_cases = json.loads(json.dumps(feeds["station_information"]).replace('"de"', '"DE"'))
     twice = json.dumps(feeds["system_regions"]).replace('"ttl":', '"ttl": 60, "ttl":')
     information, words = ("station_information", "data", "stations"), ("system_information", "data", "languages")
+    numbered = list(enumerate(places))
     for path, value, *wanted in (
         (information, [{**it, "name": name} for it, name in zip(places, (blank, unseen, places[2]["name"]))],
          ("station_information: doubtful: ", " nothing can be seen: a1, b2.")),
@@ -1168,6 +1169,10 @@ def test_what_is_said_of_feeds(program):
         ((*information, 1, "name", 0, "text"), "Hô\ntel", ("station_information: doubtful: b2: ", "U+000A")),
         (information, [{**it, "name": [{"text": f"HÃ´tel {at}", "language": "en"}]} for at, it in enumerate(places)],
          ("station_information: doubtful: a1: 'HÃ´tel 0' ", " (and 2 more alike).")),
+        ((*information, 1), {**places[1], "lat": places[0]["lat"], "lon": places[0]["lon"]},
+         ("station_information: doubtful: a1 and b2: one place", "stands twice?")),
+        (information, [{**it, "name": places[0]["name"], "lat": 41.9 + at / 10_000, "lon": 12} for at, it in numbered],
+         ("station_information: doubtful: a1 and b2, b2 and c3: ", "one name within 20 metres")),
         ((*words[:2], "name", 0, "text"), "VÃ©lo", ("system_information: doubtful: name: 'VÃ©lo' ", "'Vélo'?")),
         ((*information, 0), exchanged[0], ("station_information: doubtful: a1: ", "exchanged")),
         (information, exchanged, ("station_information: doubtful: a1: the stations lie far from Europe/Rome",)),

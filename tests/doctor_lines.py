@@ -434,6 +434,46 @@ def test_places_of_lines(program):
     assert program.run(given=exchanged)[1] == b"ok\nok\nrefused\t11\tbad_field\n"
 
 
+# Stations by their names and places, and the number of the one that seems to be the first.
+TWINS = (
+    ((("Harbour", 41.9, 12.5), ("Harbour", 41.9, 12.5)), 2), ((("Harbour", 41.9, 12.5), ("Canal", 41.9, 12.5)), 2),
+    ((("Harbour", 41.9, 12.5), ("Canal", 41.91, 12.5), (" harbour ", 41.90004, 12.5001)), 3),
+    ((("Harbour", 41.900499, 12.500499), ("Harbour", 41.900501, 12.500501)), 2),
+    ((("Harbour", 41.9, 12.5), ("Harbour", 41.9, 12.5003)), None),
+    ((("Harbour", 41.9, 12.5), ("Canal", 41.9, 12.500001)), None),
+    ((("Harbour", 78.2, 15.6), ("Harbour", 78.2, 15.6008)), 2),
+    ((("Harbour", 78.2, 15.6), ("Harbour", 78.2, 15.602)), None),
+)
+
+
+def test_stations_that_are_there_twice(program):
+    """A station that seems to be an earlier one is told, of lines and of a table. The program accepts it."""
+    for stations, wanted in TWINS:
+        rows = [(f"s{at}", name.strip(), lat, lon, 5) for at, (name, lat, lon) in enumerate(stations, 1)]
+        commands = ["\t".join(map(str, ("add-station", *row))) for row in rows]
+        lines = requests_of(commands, at=NOW, key="s")
+        found = [it for it in doctor.findings_of_lines(lines, NOW) if "stays twice" in it.text]
+        assert [place_of(it) for it in found] == [(f"line {wanted}", FOR_GOOD)] * bool(wanted), (stations, found)
+        assert not wanted or f"s{wanted} " in found[0].text and " s1 of line 1. " in found[0].text, found
+        table = (HEADER + "".join(",".join(map(str, row)) + "\n" for row in rows)).encode()
+        found = [it for it in doctor.findings_of_table(table) if "stays twice" in it.text]
+        place = f"row {wanted} (line {(wanted or 0) + 1})"
+        assert [place_of(it) for it in found] == [(place, FOR_GOOD)] * bool(wanted), (stations, found)
+        assert program.run("import", ":memory:", "x", "--at", "0", given=table)[0] == 0, table
+    moved = requests_of(
+        ["add-station\ta1\tHarbour\t41.9\t12.5\t5", "add-station\ta2\tCanal\t41.91\t12.5\t5",
+         "move-station\ta1\t41.91\t12.5"], at=NOW, key="s"
+    )
+    assert [place_of(it) for it in doctor.findings_of_lines(moved, NOW)] == [("line 3", FOR_GOOD)]
+    again = requests_of(["move-station\ta1\t41.92\t12.5"], at=NOW, key="m")
+    assert doctor.findings_of_lines(moved + again, NOW) == []
+    sea = requests_of([f"add-station\ta{it}\tHarbour\t0\t0\t5" for it in (1, 2)], at=NOW, key="s")
+    assert all("0, 0" in it.text for it in doctor.findings_of_lines(sea, NOW))
+    again = HEADER + 'c1,"HÃ´tel",45,9.1,10\n' * 2
+    found = [place_of(it) for it in doctor.findings_of_table(again.encode())]
+    assert ("row 2 (line 3), station_id", "already_there") in found and len(found) == 3, found
+
+
 def test_keys_of_lines(program):
     """A caller's key that comes again with another command is told, as the program refuses it. An equal one isn't."""
     rows = (("office", 1), ("office", 1), ("rider:1", 2), ("office", 3))
@@ -526,7 +566,7 @@ def test_what_is_said_of_tables(program):
         (HEADER + "c2,Corso,45,9.1,600\n", "row 1 (line 2), docks", "1 to 500"),
         (HEADER + "c2,Corso, 45,9.1,10\n", "row 1 (line 2), lat", "isn't written so"),
         (HEADER + ROW + ROW, "row 2 (line 3), station_id", "row 1 (line 2)"),
-        (HEADER + ROW + '\nc2,"   ",45,9.1,10\n', "row 2 (line 4), name", "spaces"),
+        (HEADER + ROW + '\nc2,"   ",45,9.2,10\n', "row 2 (line 4), name", "spaces"),
         (HEADER + 'q1,"a\nb",45,9.1,10\n', "row 1 (line 2), name", "U+000A"),
         (HEADER + "c2,\u200b,45,9.1,10\n", "row 1 (line 2), name", "can be seen"),
         (HEADER + "c2,HÃ´tel,45,9.1,10\n", "row 1 (line 2), name", "'HÃ´tel' is UTF-8 that was read as Latin-1."),
@@ -536,9 +576,9 @@ def test_what_is_said_of_tables(program):
     ):
         found = doctor.findings_of_table(table if isinstance(table, bytes) else table.encode())
         assert [it.where for it in found] == [where] and word in found[0].text, (table, found)
-    found = doctor.findings_of_table((HEADER + 'q1,"a\nb",45,9.1,10\nc2,"   ",45,9.1,10\n').encode())
+    found = doctor.findings_of_table((HEADER + 'q1,"a\nb",45,9.1,10\nc2,"   ",45,9.2,10\n').encode())
     assert [it.where for it in found] == ["row 1 (line 2), name", "row 2 (line 4), name"], found
-    many = HEADER + "".join(f"s{number},Station,45,9,1\n" for number in range(1, 5002))
+    many = HEADER + "".join(f"s{number},Station {number},45.{number:04},9,1\n" for number in range(1, 5002))
     found = doctor.findings_of_table(many.encode())
     assert [place_of(it) for it in found] == [("row 5001 (line 5002)", "limit_reached")], found
     assert not doctor.findings_of_table((TOP / "examples/city/stations.csv").read_bytes())
