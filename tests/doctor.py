@@ -982,6 +982,10 @@ def test_what_the_program_said(program):
         status, lines = told(file, *said.split())
         assert (status, len(lines)) == (1, 1) and lines[0].startswith(f"{file}: {said}: ") and row in lines[0], lines
     assert "there is no row" in doctor.findings_of_said(str(file), "unsound bikes 8")[0].text
+    for said, other in ("row 3 key_reused", True), ("row 3 bad_field", False), ("row 3 unreadable", False):
+        text = doctor.findings_of_said(str(file), said)[0].text
+        assert ("another table? Then give it a NAME of its own" in text) == other, (said, text)
+        assert re.search("import (it )?again under the same name", text, re.I), (said, text)
     assert told(file, "--port", "0", "unsound", "bikes", "7")[0] == 1 == told(file, "gone", "fishing")[0]
 
 
@@ -1173,10 +1177,24 @@ def test_what_is_said_of_feeds(program):
     in_two_cases = json.loads(json.dumps(feeds["station_information"]).replace('"de"', '"DE"'))
     twice = json.dumps(feeds["system_regions"]).replace('"ttl":', '"ttl": 60, "ttl":')
     information, words = ("station_information", "data", "stations"), ("system_information", "data", "languages")
+    numbered = list(enumerate(places))
     for path, value, *wanted in (
         (information, [{**it, "name": name} for it, name in zip(places, (blank, unseen, places[2]["name"]))],
          ("station_information: doubtful: ", " nothing can be seen: a1, b2.")),
         ((*words[:2], "name"), blank, ("system_information: doubtful: ", " nothing can be seen: name.")),
+        ((*information, 1, "name", 0, "text"), "HÃ´tel", ("station_information: doubtful: b2: 'HÃ´tel' ", "'Hôtel'?")),
+        ((*information, 1, "name", 0, "text"), "H&ocirc;tel", ("station_information: doubtful: b2: ", "'Hôtel'?")),
+        ((*information, 1, "name", 0, "text"), '"Hôtel"', ("station_information: doubtful: b2: ", "'Hôtel'?")),
+        ((*information, 1, "name", 0, "text"), "H\ufffdtel", ("station_information: doubtful: b2: ", "U+FFFD")),
+        ((*information, 1, "name", 0, "text"), "H\u200btel", ("station_information: doubtful: b2: ", "without width")),
+        ((*information, 1, "name", 0, "text"), "Hô\ntel", ("station_information: doubtful: b2: ", "U+000A")),
+        (information, [{**it, "name": [{"text": f"HÃ´tel {at}", "language": "en"}]} for at, it in enumerate(places)],
+         ("station_information: doubtful: a1: 'HÃ´tel 0' ", " (and 2 more alike).")),
+        ((*information, 1), {**places[1], "lat": places[0]["lat"], "lon": places[0]["lon"]},
+         ("station_information: doubtful: a1 and b2: one place", "stands twice?")),
+        (information, [{**it, "name": places[0]["name"], "lat": 41.9 + at / 10_000, "lon": 12} for at, it in numbered],
+         ("station_information: doubtful: a1 and b2, b2 and c3: ", "one name within 20 metres")),
+        ((*words[:2], "name", 0, "text"), "VÃ©lo", ("system_information: doubtful: name: 'VÃ©lo' ", "'Vélo'?")),
         ((*information, 0), exchanged[0], ("station_information: doubtful: a1: ", "exchanged")),
         (information, exchanged, ("station_information: doubtful: a1: the stations lie far from Europe/Rome",)),
         ((*information, 0, "lat"), 46.9, ("station_information: doubtful: a1: ", "the station lies 555 km from")),
@@ -1237,6 +1255,37 @@ def test_feeds_of_another_host(program):
     found = found_in(feeds, ("gbfs", "ttl"), 30)
     assert found == [(name, "not read") for name in list(data)[:-1]], found
     assert found_in(feeds, ("gbfs", "ttl"), 30, here=True) == []
+
+
+def test_addresses_that_planners_do_not_reach(program):
+    """Where gbfs lists addresses at which no planner elsewhere reaches the feeds, it is told. Those of the own machine
+    aren't, where gbfs is asked there."""
+    at_home, elsewhere = "http://127.0.0.1:8080", ("https://metro.example", "http://192.0.2.2:8080", "http://10.0.0.3")
+    names = ["system_information", "station_information", "station_status"]
+    for base, word, is_told_at_home in (
+        ("http://127.0.0.1:8080", "this machine", False), ("http://localhost:8080", "this machine", False),
+        ("http://[::1]:8080", "this machine", False), ("http://10.0.0.3", "private network", True),
+        ("http://172.16.0.1", "private network", True), ("http://192.168.1.5:8443", "private network", True),
+        ("http://169.254.1.1", "private network", True), ("https://[fd00::1]", "private network", True),
+        ("https://lyon", "without a point", True), ("https://user:pw@metro.example", "password", True),
+        ("https://user@127.0.0.1:8080", "password", True), ("https://metro.example", None, False),
+        ("http://192.0.2.2:8080", None, False), ("https://:8080", None, False), ("https://[", None, False),
+    ):
+        listed = [{"name": name, "url": f"{base}/gbfs/3.0/{name}.json"} for name in names]
+        frame = {"last_updated": moment_in(0), "ttl": 30, "version": "3.0"}
+        feeds = {"gbfs": {**frame, "data": {"feeds": listed}}}
+
+        def fetched(url, twice=None, feeds=feeds):
+            if url.endswith("/gbfs.json"):
+                return feeds["gbfs"]
+            raise doctor.Unread(url)
+
+        with unittest.mock.patch.object(doctor, "fetched", fetched):
+            for url in at_home, *elsewhere:
+                found = [it for it in doctor.findings_of_feeds(url, time.time()) if it.word == "doubtful"]
+                is_told = bool(word) and (url != at_home or is_told_at_home)
+                assert [it.where for it in found] == ["gbfs"] * is_told, (url, base, found)
+                assert not is_told or word in found[0].text and "and 2 more alike" in found[0].text, (url, base, found)
 
 
 def test_feeds_of_the_example_city(program):

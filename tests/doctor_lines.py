@@ -8,6 +8,7 @@ import os
 import random
 import re
 import time
+import unittest.mock
 from pathlib import Path
 
 import formats
@@ -213,6 +214,15 @@ DOUBTFUL = (
     ("base_url", "Http://x.example/", "Write http in small letters"),
     ("base_url", "http://127.0.0.1:8080", "this machine"), ("base_url", "http://localhost", "this machine"),
     ("base_url", "http://[::1]:8080", "this machine"),
+    ("base_url", "http://localhost.", "this machine"), ("base_url", "http://0.0.0.0:8080", "this machine"),
+    ("base_url", "https://10.0.0.3", "private network"), ("base_url", "https://192.168.1.5:8443", "private network"),
+    ("base_url", "https://172.31.0.1/bikes", "private network"), ("base_url", "http://169.254.1.1", "private network"),
+    ("base_url", "https://[fd00::1]:8443", "private network"), ("base_url", "https://[fe80::1]", "private network"),
+    ("base_url", "https://[::ffff:10.0.0.3]", "private network"), ("base_url", "https://lyon", "without a point"),
+    ("base_url", "https://lyon.:8443/bikes", "without a point"), ("base_url", "https://u:pw@lyon.example", "password"),
+    ("base_url", "https://u@lyon.example/", "password"), ("base_url", "http://lyon.example", "https://lyon.example,"),
+    ("base_url", "http://192.0.2.1:8080", "not every planner follows"),
+    ("base_url", "http://lyon.example/", "ends in /"),
     ("base_url", "https://:8080", "names no host"),
     ("base_url", "https://metro..example", "nothing between"), ("base_url", "https://.x.example/", "nothing between"),
     ("base_url", "https://x.example..:8080", "nothing between"), ("base_url", "https://-metro.example", "has a - at"),
@@ -230,6 +240,18 @@ DOUBTFUL = (
     ("language", "zh-hant", "validators"), ("language", "zh-Hant", "validators"), ("language", "es-419", "validators"),
     ("language", "de-CH-1996", "validators"), ("language", "x-bikes", "validators"), ("name", " ", "spaces"),
     ("name", "\\t", "spaces"), ("name", " Metro", "begins or ends"), ("name", "\u200b", "can be seen"),
+    ("name", "HÃ´tel", "Is it 'Hôtel'?"), ("name", "Gare de lâ€™Est", "Is it 'Gare de l’Est'?"),
+    ("name", "HÃƒÂ´tel", "Is it 'Hôtel'?"), ("name", "Ã‰cole", "Is it 'École'?"),
+    ("name", "KÃ¶ln â€“ Dom", "'Köln – Dom'"),
+    ("name", "ÐœÐ¾Ñ\x81ÐºÐ²Ð°", "Is it 'Москва'?"), ("name", "æ\x9d±äº¬", "Is it '東京'?"),
+    ("name", "H&ocirc;tel", "Is it 'Hôtel'?"), ("name", "L&#39;Opéra", """Is it "L'Opéra"?"""),
+    ("name", "A &amp; B", "Is it 'A & B'?"), ("name", "H&amp;ocirc;tel", "Is it 'Hôtel'?"),
+    ("name", "H&#xF4;tel", "Is it 'Hôtel'?"),
+    ("name", "H\ufffdtel", "lost a character"), ("name", "Hï¿½tel", "lost a character"),
+    ("name", '"Hôtel"', "Is it 'Hôtel'?"), ("name", '"The ""Ritz"""', "Is it 'The \"Ritz\"'?"),
+    ("name", '"HÃ´tel"', "Is it 'Hôtel'?"), ("name", "Hô\u200btel", "without width"),
+    ("name", "\ufeffHôtel", "Is it 'Hôtel'?"), ("name", "Hôtel\u200d", "Is it 'Hôtel'?"),
+    ("name", "Hô\u200ctel", "width"), ("name", "&nbsp;", "Write the name"),
     ("name", "\u2060\u3164", "can be seen"), ("name", "Met\\nro", "U+000A"), ("name", "Metro\x1b[1m", "U+001B"),
     ("opening_hours", "whenever", "opening_hours"), ("opening_hours", "Mo-Fr 25:00-99:00", "99:00"),
     ("opening_hours", "Mo-Fr 06:00-22:60", "22:60"), ("opening_hours", "27:00-28:00", "27:00"),
@@ -242,11 +264,17 @@ DOUBTFUL = (
 )
 # And ones of which nothing is found.
 FREE_OF_DOUBT = (
-    ("base_url", "http://bikes.example:8080"), ("base_url", "https://example.org/bikes"), ("language", "de-CH"),
+    ("base_url", "https://bikes.example:8080"), ("base_url", "https://example.org/bikes"), ("language", "de-CH"),
+    ("base_url", "https://172.32.0.1"), ("base_url", "https://11.0.0.3"), ("base_url", "https://x.example/@home"),
     ("base_url", "https://metro.example."), ("base_url", "https://xn--mnchen-3ya.example"), ("language", "en-GB"),
-    ("base_url", f"https://{'a' * 63}.example"), ("base_url", "http://192.0.2.1:8080"), ("language", "sq-XK"),
-    ("base_url", "http://[2001:db8::1]:8080/bikes"), ("base_url", "https://a-b.3com.example"), ("language", "uk"),
-    ("language", "haw"), ("name", "24"), ("name", "\u2067Metro\u2069"), ("opening_hours", "Fr 20:00-26:00"),
+    ("base_url", f"https://{'a' * 63}.example"), ("base_url", "https://192.0.2.1:8080"), ("language", "sq-XK"),
+    ("base_url", "https://[2001:db8::1]:8080/bikes"), ("base_url", "https://a-b.3com.example"), ("language", "uk"),
+    ("name", "Hôtel de Ville"), ("name", "Málaga"), ("name", "«CAFÉ»"), ("name", "CAFÉ’S"), ("name", "MALMÖ’S"),
+    ("name", "São João – Ñuñoa"), ("name", "東京"), ("name", "R&D; Park"), ("name", "A & B"), ("name", "Caf&eacute"),
+    ("name", '"A" and "B"'), ("name", 'The "Ritz"'), ("name", "“Ritz”"), ("name", "می\u200cدان"), ("name", "Ã"),
+    ("name", "👩\u200d🚀"), ("name", "क\u094d\u200dष"), ("language", "haw"), ("name", "24"),
+    ("name", "\u2067Metro\u2069"),
+    ("opening_hours", "Fr 20:00-26:00"),
     ("opening_hours", "Mo-Fr 06:00-22:00; Sa,Su,PH 08:00-20:00"),
     ("opening_hours", "sunrise-sunset"), ("opening_hours", 'Apr-Oct 06:00-24:00 "in summer"'),
     ("feed_contact_email", "o'neil+gbfs@mail.example.org"),
@@ -260,6 +288,30 @@ def test_names_of_hosts(program):
     assert len(longest) == 253 and doctor.host_fault(longest) is None and doctor.host_fault(longest + ".") is None
     assert "253" in doctor.host_fault(f"{longest}b") and "253" in doctor.base_url_doubt(f"https://{longest}b/x")
     assert doctor.host_fault("a." * 127) is None and "253" in doctor.host_fault("a." * 127 + "b")
+
+
+def test_hints_on_time_zones(program):
+    """For a name that no time zone has, the one of that city is asked for, or one that is spelled nearly so; and else
+    it is told where the zones of a country stand."""
+    for name, wanted in (
+        ("europe/rome", "Write Europe/Rome"), ("Europe/Lyon", "Is it Europe/Paris?"), ("Lyon", "Is it Europe/Paris?"),
+        ("Europe/Milan", "Is it Europe/Rome?"), ("Asia/Mumbai", "Is it Asia/Kolkata?"), ("Rome", "Is it Europe/Rome?"),
+        ("America/San Francisco", "Is it America/Los_Angeles?"), ("Europe/Londn", "Is it Europe/London?"),
+        ("Europe/Berln", "Is it Europe/Berlin?"), ("Europe/Barcelone", "Is it Europe/Madrid?"),
+        ("Africa/Paris", "Is it Europe/Paris?"), ("Europe/New_York", "Is it America/New_York?"),
+        ("Canada/Montreal", "Is it America/Toronto?"),
+    ):
+        doubt = doctor.zone_doubt(name)
+        assert doubt.startswith("is a time zone that this machine doesn't know. ") and wanted in doubt, (name, doubt)
+    posix = "CET-1CEST,M3.5.0,M10.5.0/3"
+    for name in "Mars/Base", "GMT+1", "CEST", posix, "Europe/Lorient", "Europe/Xyz", "/", "Europe/":
+        doubt = doctor.zone_doubt(name)
+        assert "Is it" not in doubt and "Write one of its names, such as Europe/Rome" in doubt, (name, doubt)
+        assert ("grep FR " in doubt) == os.path.exists(doctor.ZONES_OF_COUNTRIES), doubt
+    with unittest.mock.patch.object(doctor, "ZONES_OF_COUNTRIES", "/nowhere"):
+        assert doctor.zone_doubt("Mars/Base").endswith(" such as Europe/Rome")
+    assert set(doctor.ZONE_OF.values()) <= doctor.known_zones(), set(doctor.ZONE_OF.values()) - doctor.known_zones()
+    assert len(doctor.ZONE_OF) > 90, len(doctor.ZONE_OF)
 
 
 def test_codes_of_languages(program):
@@ -321,7 +373,8 @@ def test_further_names_of_lines(program):
 
 
 def test_moments_of_lines(program):
-    """A moment more than a minute ahead of the clock, or before the line above, is told. The program accepts both."""
+    """A moment more than a minute ahead of the clock, before the line above, or before 2015, is told. The program
+    accepts all of them."""
 
     def found_at(*moments):
         data = "".join(f"{it}\toffice\tk{at}\tadd-rider\t{at}\n" for at, it in enumerate(moments, 1)).encode()
@@ -344,6 +397,17 @@ def test_moments_of_lines(program):
         hint = f"Correct the digits. It may be local time ({zone}) taken for UTC." if zone else "Correct the digits."
         assert it.text.endswith(hint), (ahead, it)
     assert program.run(given=data) == (0, b"ok\n" * 4, b"")
+    for moments, wanted in (
+        ((0,), [1]), ((20_260_101,), [1]), ((doctor.EARLY - 1,), [1]), ((doctor.EARLY,), []),
+        ((1, 1, 1, 2, NOW), [1, 4]), ((NOW, 20_260_101, 20_260_101, 20_260_102), [2, 4]),
+    ):
+        data, places = found_at(*moments)
+        assert places == [f"line {it}, moment" for it in wanted], (moments, places)
+    data = found_at(20_260_101, 20_260_102)[0]
+    first, second = (it.text for it in doctor.findings_of_lines(data, NOW))
+    assert "is 1970-08-23T11:48:21Z, long ago" in first and "and no date: date +%s" in first and second != first, first
+    assert "no date" not in doctor.findings_of_lines(found_at(20_261_301)[0], NOW)[0].text
+    assert program.run(given=data) == (0, b"ok\n" * 2, b"")
 
 
 def test_places_of_lines(program):
@@ -369,6 +433,46 @@ def test_places_of_lines(program):
     found = doctor.findings_of_lines(exchanged, NOW)
     assert [place_of(it) for it in found] == [("line 3, lat", BAD_FIELD)] and "exchanged" in found[0].text, found
     assert program.run(given=exchanged)[1] == b"ok\nok\nrefused\t11\tbad_field\n"
+
+
+# Stations by their names and places, and the number of the one that seems to be the first.
+TWINS = (
+    ((("Harbour", 41.9, 12.5), ("Harbour", 41.9, 12.5)), 2), ((("Harbour", 41.9, 12.5), ("Canal", 41.9, 12.5)), 2),
+    ((("Harbour", 41.9, 12.5), ("Canal", 41.91, 12.5), (" harbour ", 41.90004, 12.5001)), 3),
+    ((("Harbour", 41.900499, 12.500499), ("Harbour", 41.900501, 12.500501)), 2),
+    ((("Harbour", 41.9, 12.5), ("Harbour", 41.9, 12.5003)), None),
+    ((("Harbour", 41.9, 12.5), ("Canal", 41.9, 12.500001)), None),
+    ((("Harbour", 78.2, 15.6), ("Harbour", 78.2, 15.6008)), 2),
+    ((("Harbour", 78.2, 15.6), ("Harbour", 78.2, 15.602)), None),
+)
+
+
+def test_stations_that_are_there_twice(program):
+    """A station that seems to be an earlier one is told, of lines and of a table. The program accepts it."""
+    for stations, wanted in TWINS:
+        rows = [(f"s{at}", name.strip(), lat, lon, 5) for at, (name, lat, lon) in enumerate(stations, 1)]
+        commands = ["\t".join(map(str, ("add-station", *row))) for row in rows]
+        lines = requests_of(commands, at=NOW, key="s")
+        found = [it for it in doctor.findings_of_lines(lines, NOW) if "stays twice" in it.text]
+        assert [place_of(it) for it in found] == [(f"line {wanted}", FOR_GOOD)] * bool(wanted), (stations, found)
+        assert not wanted or f"s{wanted} " in found[0].text and " s1 of line 1. " in found[0].text, found
+        table = (HEADER + "".join(",".join(map(str, row)) + "\n" for row in rows)).encode()
+        found = [it for it in doctor.findings_of_table(table) if "stays twice" in it.text]
+        place = f"row {wanted} (line {(wanted or 0) + 1})"
+        assert [place_of(it) for it in found] == [(place, FOR_GOOD)] * bool(wanted), (stations, found)
+        assert program.run("import", ":memory:", "x", "--at", "0", given=table)[0] == 0, table
+    moved = requests_of(
+        ["add-station\ta1\tHarbour\t41.9\t12.5\t5", "add-station\ta2\tCanal\t41.91\t12.5\t5",
+         "move-station\ta1\t41.91\t12.5"], at=NOW, key="s"
+    )
+    assert [place_of(it) for it in doctor.findings_of_lines(moved, NOW)] == [("line 3", FOR_GOOD)]
+    again = requests_of(["move-station\ta1\t41.92\t12.5"], at=NOW, key="m")
+    assert doctor.findings_of_lines(moved + again, NOW) == []
+    sea = requests_of([f"add-station\ta{it}\tHarbour\t0\t0\t5" for it in (1, 2)], at=NOW, key="s")
+    assert all("0, 0" in it.text for it in doctor.findings_of_lines(sea, NOW))
+    again = HEADER + 'c1,"HÃ´tel",45,9.1,10\n' * 2
+    found = [place_of(it) for it in doctor.findings_of_table(again.encode())]
+    assert ("row 2 (line 3), station_id", "already_there") in found and len(found) == 3, found
 
 
 def test_keys_of_lines(program):
@@ -463,17 +567,19 @@ def test_what_is_said_of_tables(program):
         (HEADER + "c2,Corso,45,9.1,600\n", "row 1 (line 2), docks", "1 to 500"),
         (HEADER + "c2,Corso, 45,9.1,10\n", "row 1 (line 2), lat", "isn't written so"),
         (HEADER + ROW + ROW, "row 2 (line 3), station_id", "row 1 (line 2)"),
-        (HEADER + ROW + '\nc2,"   ",45,9.1,10\n', "row 2 (line 4), name", "spaces"),
+        (HEADER + ROW + '\nc2,"   ",45,9.2,10\n', "row 2 (line 4), name", "spaces"),
         (HEADER + 'q1,"a\nb",45,9.1,10\n', "row 1 (line 2), name", "U+000A"),
         (HEADER + "c2,\u200b,45,9.1,10\n", "row 1 (line 2), name", "can be seen"),
+        (HEADER + "c2,HÃ´tel,45,9.1,10\n", "row 1 (line 2), name", "'HÃ´tel' is UTF-8 that was read as Latin-1."),
+        (HEADER + 'c2,"""Hôtel""",45,9.1,10\n', "row 1 (line 2), name", "Is it 'Hôtel'?"),
         (HEADER + "c1,Canal,0,0,10\n", "row 1 (line 2), lat and lon", "0, 0"),
         (HEADER + ROW + "c2,a,45,9.2,1\nc3,b,45.1,9,1\nc4,c,9.1,45,1\n", "row 4 (line 5), lat and lon", "exchanged"),
     ):
         found = doctor.findings_of_table(table if isinstance(table, bytes) else table.encode())
         assert [it.where for it in found] == [where] and word in found[0].text, (table, found)
-    found = doctor.findings_of_table((HEADER + 'q1,"a\nb",45,9.1,10\nc2,"   ",45,9.1,10\n').encode())
+    found = doctor.findings_of_table((HEADER + 'q1,"a\nb",45,9.1,10\nc2,"   ",45,9.2,10\n').encode())
     assert [it.where for it in found] == ["row 1 (line 2), name", "row 2 (line 4), name"], found
-    many = HEADER + "".join(f"s{number},Station,45,9,1\n" for number in range(1, 5002))
+    many = HEADER + "".join(f"s{number},Station {number},45.{number:04},9,1\n" for number in range(1, 5002))
     found = doctor.findings_of_table(many.encode())
     assert [place_of(it) for it in found] == [("row 5001 (line 5002)", "limit_reached")], found
     assert not doctor.findings_of_table((TOP / "examples/city/stations.csv").read_bytes())
