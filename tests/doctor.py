@@ -390,7 +390,7 @@ def test_a_log_whose_head_was_begun_anew(program):
     assert program.run("lines", "city.db") == (0, b"", b"")
     main, anew = taken(file)[""], b"\0" + young["-wal"][1:]
     for whole, log, wanted in (
-        (main, anew, []), (main, b"\0" * 32 + anew[32:], ["passed over"]), (main, anew[:567], []),
+        (main, anew, []), (main, anew[:8] + bytes(24) + anew[32:], ["passed over"]), (main, anew[:567], []),
         (young[""], anew, ["passed over"]),
     ):
         put({"": whole, "-wal": log}, file)

@@ -126,7 +126,8 @@ def damages(log):
     page = 24 + int.from_bytes(log[8:12], "big")
     for at in 0, 1, 3, 5, 9, 14, 17, 22, 24, 31:
         yield "header", log[:at] + bytes([log[at] ^ 0x40]) + log[at + 1 :]
-    yield "header", b"\1" * 32 + log[32:]
+    for front in b"\1" * 32, b"\0" * 32, b"\0" * 512, b"\0" * 2, log[:1] + b"\0" * 31:
+        yield "header", front + log[len(front) :]
     # The engine itself leaves a first byte of 0 while it writes a header anew.
     yield "begun anew", b"\0" + log[1:]
     for at in 33, 40, 41, 50, 60, 32 + page + 8, 32 + page + 100:
@@ -196,7 +197,7 @@ def test_a_log_that_is_begun_anew(program):
     rows = held(file)
     assert program.run("lines", file.name, given=b"") == (0, b"", b"")
     log = lone_logs.left(program.file, True)[0]["-wal"]
-    for anew in b"\0" + log[1:], b"\0" * 32 + log[32:]:
+    for anew in b"\0" + log[1:], b"\0" + log[1:8] + b"\5" * 24 + log[32:]:
         put({"": file.read_bytes(), "-wal": anew}, file)
         before = beside(program)
         assert program.run("check", file.name) == SOUND and beside(program) == before

@@ -571,14 +571,14 @@ def test_pages_in_other_places(program):
 
 def has_bad_header(log):
     """Whether a log that may hold a request has a header that fails its checksum, and the engine wasn't about to write
-    it anew, which it tells by a first byte of 0."""
+    it anew, which it tells by a magic number with a first byte of 0."""
     one = two = 0
     words = struct.unpack("<6I" if log[3:4] == b"\x82" else ">6I", log[:24].ljust(24, b"\0"))
     for at in 0, 2, 4:
         one = (one + words[at] + two) & 0xFFFFFFFF
         two = (two + words[at + 1] + one) & 0xFFFFFFFF
     is_good = log[:4] in (b"\x37\x7f\6\x82", b"\x37\x7f\6\x83") and struct.pack(">2I", one, two) == log[24:32]
-    return len(log) >= 568 and log[0] != 0 and not is_good
+    return len(log) >= 568 and log[:4] not in (b"\0\x7f\6\x82", b"\0\x7f\6\x83") and not is_good
 
 
 def test_logs_that_are_changed(program):
