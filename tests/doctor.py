@@ -248,6 +248,20 @@ def test_an_index_that_is_unique(program):
     is_alike(program, file, "foreign", "the UNIQUE index once")
 
 
+def test_a_damaged_index(program):
+    """The program compares indexes with their tables as it opens FILE, and so does the doctor."""
+    made = taken(city_file(program))[""]
+    page = int.from_bytes(made[16:18], "big")
+    file = Path(program.folder, "index.db")
+    file.write_bytes(made)
+    with contextlib.closing(sqlite3.connect(file)) as base:
+        (root,) = base.execute("SELECT rootpage FROM sqlite_master WHERE name = 'sqlite_autoindex_stations_3_1'").fetchone()
+    # The page's last bytes are its first key and the number of its row.
+    at = root * page - 3
+    put({"": made[:at] + bytes([made[at] ^ 1]) + made[at + 1 :]}, file)
+    is_alike(program, file, "store failed", "it is damaged")
+
+
 def test_bytes_that_were_changed(program):
     """A head, or a length, that the program doesn't take."""
     made = taken(city_file(program))[""]
@@ -850,7 +864,8 @@ def as_nobody(program):
 
 
 def test_a_user_without_rights(program):
-    """What nobody may not write is told to nobody, and to root in nobody's folder; the program says `store failed`."""
+    """What nobody may not write is told to nobody, and to root of nobody's folder or FILE; the program says `store
+    failed`."""
     nobody = as_nobody(program)
     if nobody is None:
         return
@@ -871,7 +886,7 @@ def test_a_user_without_rights(program):
             assert status == 1 and ": store failed: " in said and hint in said, (hint, status, said)
             copies = said.count("To look at it, copy FILE and its log to a folder of your own.")
             assert copies == (0 if (file_owner, mode) == (0, 0o600) else 1), said
-        if folder_owner == NOBODY:
+        if NOBODY in (folder_owner, file_owner):
             (found,) = looked_at(file)
             assert found.word == "store failed" and hint in found.text, found
         assert nobody.run("lines", str(file), user=NOBODY, group=NOBODY, extra_groups=[]) == STORE_FAILED, hint
