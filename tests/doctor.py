@@ -255,7 +255,8 @@ def test_a_damaged_index(program):
     file = Path(program.folder, "index.db")
     file.write_bytes(made)
     with contextlib.closing(sqlite3.connect(file)) as base:
-        (root,) = base.execute("SELECT rootpage FROM sqlite_master WHERE name = 'sqlite_autoindex_stations_3_1'").fetchone()
+        index = "SELECT rootpage FROM sqlite_master WHERE name = 'sqlite_autoindex_stations_3_1'"
+        (root,) = base.execute(index).fetchone()
     # The page's last bytes are its first key and the number of its row.
     at = root * page - 3
     put({"": made[:at] + bytes([made[at] ^ 1]) + made[at + 1 :]}, file)
