@@ -30,6 +30,7 @@ pub mod ChainLaws
 pub mod TablesLaw
 pub mod PageLaw
 pub mod SetLaw
+pub mod RemoveLaw
 pub mod IndexLaw
 pub mod TwoJoinsLaw
 pub mod LineLemmas

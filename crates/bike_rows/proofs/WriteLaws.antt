@@ -1,4 +1,4 @@
--- One law for each form of INSERT and UPDATE: what the text makes of a table's rows, from what it is where its table stands alone.
+-- One law for each form of INSERT, UPDATE and DELETE: what the text makes of a table's rows, from what it is where its table stands alone.
 use Rattle.std.proofs.Common.{◌≡◌, ℕ, ◌+◌, ◌/◌, ℤ, List, [], ◌∷◌, map, take, length, Bool, true, false, Option, Some, None, Ok, Result, OnOk, if◌then◌else◌, refl, sym, ap, ◌∙◌}
 use Rattle.std.specs.List.{range_with_len, list_any}
 use Rattle.sqlite_value.specs.declared.value.Value.{Value}
@@ -19,17 +19,18 @@ use Rattle.sqlite.specs.State.{State, Executes, ExecutesInside, Shows}
 use Rattle.bike_sql.specs.Inserts.{IsInsert}
 use Rattle.bike_sql.proofs.InsertLaws.{insert_is}
 use Rattle.bike_rows.specs.Layout.{Layout, table_of}
-use Rattle.bike_rows.specs.View.{columns_of, IsFree, put_row_by, rows_after_replacement, rows_after_update}
+use Rattle.bike_rows.specs.View.{columns_of, IsFree, put_row_by, rows_after_replacement, rows_after_update, rows_after_removal}
 use Rattle.bike_rows.specs.Stands.{rows_of, Stands, Sets}
 use Rattle.bike_rows.specs.Queries.{table_query, key_tests, key_in}
 use Rattle.bike_rows.proofs.ListLemmas.{map_map, map_same}
 use Rattle.bike_rows.proofs.CastLemmas.{suit_all, suits_row}
 use Rattle.bike_rows.proofs.CrashLemmas.{done_inside}
 use Rattle.bike_rows.proofs.KeyLemmas.{IsKeyAt}
-use Rattle.bike_rows.proofs.TextLemmas.{IsUpdate, update_means}
+use Rattle.bike_rows.proofs.TextLemmas.{IsUpdate, update_means, IsDelete, delete_means}
 use Rattle.bike_rows.proofs.InsertLaw.{insert_puts}
 use Rattle.bike_rows.proofs.SetLaw.{are_exact, some_terms, sets_suit, update_some}
 use Rattle.bike_rows.proofs.UpdateLaw.{update_columns, update_number}
+use Rattle.bike_rows.proofs.RemoveLaw.{remove_row}
 
 -- Once the text is done in a sound database, the table's rows are what `change` makes of them, and each table of another name is as it was. `tells` is what it says of the rows before.
 pub record Changes (keys : ℕ) (layout : Layout) (text : List ℕ) (params : Row) (change : List Row → List Row) (tells : List Row → Type 0) : Type 1 where
@@ -52,6 +53,10 @@ Replaces keys layout text row = Changes keys layout text row (rows_after_replace
 -- an UPDATE of the row with this key, if it is there
 abbrev pub Updates : ℕ → Layout → List ℕ → Row → Row → (Row → Row) → Type 1
 Updates keys layout text params key change = Changes keys layout text params (rows_after_update keys key change) (λ rows. Unit {0})
+
+-- a DELETE of the row with this key, if it is there
+abbrev pub Removes : ℕ → Layout → List ℕ → Row → Row → Type 1
+Removes keys layout text params key = Changes keys layout text params (rows_after_removal keys key) (λ rows. Unit {0})
 
 -- ---- the row whose columns are the parameters, in order
 
@@ -138,6 +143,19 @@ row_updated {keys} {layout} {places} key {text} {params} at sets change is solid
   does = λ old new sound was count ran. (
     update_some keys layout key.key old new was text params at places sets change
         (update_means (table_query 0 (key_tests at places) [] (col 1 0 ∷ col 1 0 ∷ some_terms layout sets)) layout text is old.now.schema was.at was.tree was.has) key.first solid exact suit shows keeps sound count ran,
+    tt,
+  );
+}
+
+-- ---- DELETE
+
+-- DELETE FROM the table WHERE the key's columns = the parameters from `at` on
+pub row_removed : {keys : ℕ} {layout : Layout} {places : List ℕ} (key : IsKeyAt keys layout places) {text : List ℕ} {params : Row} (at : ℕ)
+    → IsDelete (table_query 0 (key_tests at places) [] (col 1 0 ∷ [])) layout text → list_any is_null (key_in at places params) ≡ false → Removes keys layout text params (key_in at places params)
+row_removed {keys} {layout} {places} key {text} {params} at is solid = record {
+  does = λ old new sound was count ran. (
+    remove_row keys layout old new was text params at places
+        (delete_means (table_query 0 (key_tests at places) [] (col 1 0 ∷ [])) layout text is old.now.schema was.at was.tree was.has) key.first solid count ran,
     tt,
   );
 }

@@ -46,6 +46,10 @@ rows_after_replacement keys row rows = if is_some (row_with keys (take keys row)
 abbrev pub rows_after_update : ℕ → Row → (Row → Row) → List Row → List Row
 rows_after_update keys key change rows = unwrap_or (option_map (λ row. put_row_by keys (change row) rows) (row_with keys key rows)) rows
 
+-- the rows without the one that has this key
+abbrev pub rows_after_removal : ℕ → Row → List Row → List Row
+rows_after_removal keys key = filter (λ row. not (is_eq (row_cmp (take keys row) key)))
+
 -- the row with this value in this column
 abbrev pub with_value : ℕ → Value → Row → Row
 with_value at value [] = []
