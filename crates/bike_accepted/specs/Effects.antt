@@ -12,7 +12,7 @@ use Rattle.bike_operator.specs.declared.records.Bike.{Bike}
 use Rattle.bike_operator.specs.declared.view.View.{View}
 use Rattle.bike_operator.specs.Operator.{Operator, name_key}
 use Rattle.bike_operator.specs.View.{view_of}
-use Rattle.bike_operator.specs.Steps.{refusal_of, effect, reply_of, key_changed, with_report, new_station, dock_marked, rental_added, rental_closed, order_added, order_changed}
+use Rattle.bike_operator.specs.Steps.{refusal_of, effect, reply_of, key_changed, with_report, new_station, own_name_set, further_name_set, further_name_removed, dock_marked, rental_added, rental_closed, order_added, order_changed}
 use Rattle.bike_operator.specs.Changes.{place_of, text_in, entry_added}
 use Rattle.bike_accepted.specs.declared.moved.Standing.{Standing}
 use Rattle.bike_accepted.specs.declared.moved.Moved.{Moved}
@@ -51,6 +51,9 @@ after_change now (change.SetStation station installed renting returning) s =
 after_change now (change.AddRegion r) s = record s { regions = map.insert s.regions r.now.region_id r.now }
 after_change now (change.SetRegion station region) s = record s { stations = key_changed s.stations station.now (λ x. record x { region = text_in region }) }
 after_change now (change.AddName kind id language name) s = record s { more_names = map.insert s.more_names (name_key kind id.now language.now) name.now }
+after_change now (change.SetOwnName kind id name) s = own_name_set kind id.now name.now s
+after_change now (change.SetFurtherName kind id language name) s = further_name_set kind id.now language.now name.now s
+after_change now (change.RemoveName kind id language) s = further_name_removed kind id.now language.now s
 after_change now (change.ChangeSystem x) s = record s { system = option_map (system_with x.now) s.system }
 after_change now (change.MoveStation station p) s = record s { stations = key_changed s.stations station.now (λ x. record x { row = moved_to p.now x.row }) }
 after_change now (change.AddBike bike type_id) s = record s { bikes = map.insert s.bikes bike (record { type_id = type_id.now; state = Fit; place = place.Depot }) }

@@ -9,7 +9,7 @@ use Rattle.bike_operator.specs.declared.records.Place.{Place}
 use Rattle.bike_operator.specs.declared.records.Place.TheVariants as place
 use Rattle.bike_operator.specs.declared.records.Bike.{Bike}
 use Rattle.bike_operator.specs.declared.view.View.{View}
-use Rattle.bike_operator.specs.Operator.{Operator, Station, item_numbered}
+use Rattle.bike_operator.specs.Operator.{Operator, Station, name_key, item_numbered}
 use Rattle.bike_operator.specs.Counts.{is_broken, docked_at, docks_broken}
 use Rattle.bike_operator.specs.View.{view_of}
 use Rattle.bike_operator.specs.Changes.{place_of}
@@ -88,6 +88,7 @@ pub record IsStationNew (s : Operator) (station : List ℕ) (docks : ℕ) : Type
 abbrev pub IsFound : Operator → Change → Type 0
 IsFound s (change.AddPlan p) = map.get s.plans p.now.plan_id ≡ None
 IsFound s (change.AddStation x) = IsStationNew s x.now.station_id x.now.docks
+IsFound s (change.SetFurtherName kind id language name) = map.contains_key s.more_names (name_key kind id.now language.now) ≡ true
 IsFound s (change.AddBike bike type_id) = map.get s.bikes bike ≡ None
 IsFound s (change.AddRider rider) = map.get s.riders rider ≡ None
 IsFound s (change.SetRider rider blocked) = map.contains_key s.riders rider ≡ true

@@ -27,7 +27,7 @@ pub struct Accepted<'a> {
     pub reply: Reply,
     /// What is put or marked at a dock, or put elsewhere.
     pub moved: Option<Moved<'a>>,
-    /// What other record is put or added.
+    /// What other record is put, added or removed.
     pub change: Option<Change<'a>>,
     /// The entry that is added; none where no money moves.
     pub entry: Option<Booked>,
@@ -37,7 +37,7 @@ pub struct Accepted<'a> {
 pub type Decision<'a> = Result<Accepted<'a>, Refusal>;
 
 impl<'a> Accepted<'a> {
-    /// What is answered as done, and puts or adds one record.
+    /// What is answered as done, and puts, adds or removes one record.
     pub fn changed(change: Change<'a>) -> Accepted<'a>
         ensures { result ≡ record { reply = Done; moved = None; change = Some change.entry; entry = None } }
     {

@@ -1,4 +1,4 @@
-//! Records that are put or added, but for those of bicycles that are there and of docks.
+//! Records that are put, added or removed, but for those of bicycles that are there and of docks.
 
 use bike_commands::{
     Ident, Language, Name, NameKind, OrderEnd, Plan, Position, Region, Settings, Station, System,
@@ -6,7 +6,7 @@ use bike_commands::{
 };
 use bike_operator::Order;
 
-/// One record that is put or added. What is added wasn't there. Moments are the operator's `now`.
+/// One record that is put, added or removed. What is added wasn't there. Moments are the operator's `now`.
 #[derive(Clone, Copy)]
 pub enum Change<'a> {
     /// The system is set.
@@ -42,6 +42,25 @@ pub enum Change<'a> {
         id: &'a Ident,
         language: &'a Language,
         name: &'a Name,
+    },
+    /// What has this kind and identifier gets another name in the system's language, in its own record.
+    SetOwnName {
+        kind: NameKind,
+        id: &'a Ident,
+        name: &'a Name,
+    },
+    /// A name in a further language becomes another.
+    SetFurtherName {
+        kind: NameKind,
+        id: &'a Ident,
+        language: &'a Language,
+        name: &'a Name,
+    },
+    /// A name in a further language is removed.
+    RemoveName {
+        kind: NameKind,
+        id: &'a Ident,
+        language: &'a Language,
     },
     /// The system gets other settings.
     ChangeSystem(&'a Settings),

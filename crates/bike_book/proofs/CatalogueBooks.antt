@@ -33,7 +33,7 @@ one_key = numbers.compares 1 1 tt tt ∙ (Equal-is (nat_cmp 1 1)).0 ((eq_by_cmp_
 
 -- ---- the system
 
-system_put : (x : SystemRow) (o : Option SystemRow) → put_row_by 1 (system_row x) (system_rows o) ≡ system_row x ∷ []
+pub system_put : (x : SystemRow) (o : Option SystemRow) → put_row_by 1 (system_row x) (system_rows o) ≡ system_row x ∷ []
 system_put x None = refl
 system_put x (Some y) = rw one_key refl
 
@@ -59,7 +59,7 @@ change_system s m now listing x = record {
 
 -- ---- types
 
-types_known : (s n : Operator) → n.stations ≡ s.stations → ((q : List ℕ) → fin.contains_key s.types q ≡ true → fin.contains_key n.types q ≡ true) → KeepsNames s n
+pub types_known : (s n : Operator) → n.stations ≡ s.stations → ((q : List ℕ) → fin.contains_key s.types q ≡ true → fin.contains_key n.types q ≡ true) → KeepsNames s n
 types_known s n stations types = let same = names_same s (record n { types = s.types }) stations refl in record { docks = same_docks s n stations; stations = same.stations; types = types }
 
 pub add_type : Everywhere AddTypeLaw

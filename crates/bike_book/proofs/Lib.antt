@@ -3,6 +3,7 @@ pub mod Keys
 pub mod NumberRows
 pub mod ListingLemmas
 pub mod CatalogueBooks
+pub mod NameBooks
 pub mod FleetBooks
 pub mod RentalBooks
 pub mod PlanBooks

@@ -1,6 +1,6 @@
 -- Entries in the order of their keys, as rows: the row found under a key, a row added, and columns set in the row of a key.
 use Rattle.std.proofs.Common.{◌≡◌, inl, inr, ℕ, List, [], ◌∷◌, Bool, true, false, cond, T, Option, Some, None, refl, sym, ap, ap₂, ◌∙◌}
-use Rattle.std.specs.Prelude.{map, take, ◌&&◌, option_map, unwrap_or}
+use Rattle.std.specs.Prelude.{map, filter, take, not, ◌&&◌, option_map, unwrap_or}
 use Rattle.std.specs.Ordering.{is_eq, is_lt, eq_by_cmp, ordering_reverse}
 use Rattle.std.specs.declared.cmp.Ordering.{Ordering}
 use Rattle.std.specs.declared.cmp.Ordering.TheVariants.{Less, Equal, Greater}
@@ -10,7 +10,7 @@ use Rattle.std.specs.FinMap.{FinMap, IsAntisymmetric}
 use Rattle.std.specs.FinMap.Entries as entries
 use Rattle.sqlite_value.specs.Order.{Row, row_cmp}
 use Rattle.sqlite_rules.specs.Lists.{Has}
-use Rattle.bike_rows.specs.View.{by_key, row_with, put_row_by, rows_after_update}
+use Rattle.bike_rows.specs.View.{by_key, row_with, put_row_by, rows_after_update, rows_after_removal}
 use Rattle.bike_operator.specs.Steps.{found_changed, key_changed}
 
 pub both : (a b : Bool) → T (a && b) → T a × T b
@@ -86,6 +86,11 @@ module _ {K X : Type 0} {R : K → K → Ordering} {keys : ℕ} {key_row : K →
   same_rows row next [] same = refl
   same_rows row next (e ∷ es) same = ap₂ (λ (x : Row) (xs : List Row). x ∷ xs) (same e (inl refl)) (same_rows row next es (λ x has. same x (inr has)))
 
+  -- a row has the key of its entry alone
+  tested_key : (row : K × X → Row) → BeginsWithKey row → (k : K) → IsGood k → (e : K × X) → IsGood e.0 → is_eq (row_cmp (take keys (row e)) (key_row k)) ≡ eq_by_cmp R k e.0
+  tested_key row begins k good e its =
+      ap (λ (c : Row). is_eq (row_cmp c (key_row k))) (begins e) ∙ ap is_eq (h.compares e.0 k its good ∙ h.total.antisymm e.0 k) ∙ reversed_eq (R k e.0)
+
   -- ---- a row found
 
   pub found_sorted : (row : K × X → Row) → BeginsWithKey row → (k : K) → IsGood k → (es : List (K × X)) → ((e : K × X) → Has es e → IsGood e.0)
@@ -93,8 +98,7 @@ module _ {K X : Type 0} {R : K → K → Ordering} {keys : ℕ} {key_row : K →
   found_sorted row begins k good [] each = refl
   found_sorted row begins k good (e ∷ es) each = go (found_sorted row begins k good es (λ x has. each x (inr has))) (eq_by_cmp R k e.0) refl where
     tested : is_eq (row_cmp (take keys (row e)) (key_row k)) ≡ eq_by_cmp R k e.0
-    tested =
-        ap (λ (c : Row). is_eq (row_cmp c (key_row k))) (begins e) ∙ ap is_eq (h.compares e.0 k (each e (inl refl)) good ∙ h.total.antisymm e.0 k) ∙ reversed_eq (R k e.0)
+    tested = tested_key row begins k good e (each e (inl refl))
 
     go : row_with keys (key_row k) (map row es) ≡ option_map (λ v. row (k, v)) (entries.find R k es) → (b : Bool) → eq_by_cmp R k e.0 ≡ b
         → cond (is_eq (row_cmp (take keys (row e)) (key_row k))) (Some (row e)) (row_with keys (key_row k) (map row es))
@@ -156,6 +160,23 @@ module _ {K X : Type 0} {R : K → K → Ordering} {keys : ℕ} {key_row : K →
       ap (λ (o : Option Row). unwrap_or (option_map (λ r. put_row_by keys (change r) (map row es)) o) (map row es)) there
       ∙ same_rows row next es (λ e has. (each e has).1 (none_apart R k es e none has))
 
+  -- ---- a row removed
+
+  removed_sorted : (row : K × X → Row) → BeginsWithKey row → (k : K) → IsGood k → (es : List (K × X)) → ((e : K × X) → Has es e → IsGood e.0)
+      → rows_after_removal keys (key_row k) (map row es) ≡ map row (filter (λ e. not (eq_by_cmp R k e.0)) es)
+  removed_sorted row begins k good [] each = refl
+  removed_sorted row begins k good (e ∷ es) each =
+      go (is_eq (row_cmp (take keys (row e)) (key_row k))) (eq_by_cmp R k e.0) (tested_key row begins k good e (each e (inl refl)))
+      (removed_sorted row begins k good es (λ x has. each x (inr has)))
+    where
+      go : (a b : Bool) → a ≡ b → rows_after_removal keys (key_row k) (map row es) ≡ map row (filter (λ x. not (eq_by_cmp R k x.0)) es)
+          → cond (not a) (row e ∷ rows_after_removal keys (key_row k) (map row es)) (rows_after_removal keys (key_row k) (map row es))
+          ≡ map row (cond (not b) (e ∷ filter (λ x. not (eq_by_cmp R k x.0)) es) (filter (λ x. not (eq_by_cmp R k x.0)) es))
+      go true true same later = later
+      go false false same later = ap (λ (rows : List Row). row e ∷ rows) later
+      go true false same later = absurd cc
+      go false true same later = absurd cc
+
   -- ---- the same of a map
 
   -- its keys can be stored, and the rows of other keys are the same
@@ -177,6 +198,34 @@ module _ {K X : Type 0} {R : K → K → Ordering} {keys : ℕ} {key_row : K →
       → put_row_by keys (next (k, v)) (map row (fin.entries m)) ≡ map next (fin.entries (fin.insert m k v))
   put_entries row next begins begins_next m k v good each =
       put_sorted row next begins begins_next k v good (fin.entries m) (fin.entries_sorted m) (others_apart k row next m each) ∙ ap (map next) (sym (fin.entries-insert h.total m k v))
+
+  entries_removed : (m : FinMap R X) (k : K) → fin.entries (fin.remove m k) ≡ filter (λ e. not (eq_by_cmp R k e.0)) (fin.entries m)
+  entries_removed m k =
+      let sorted = entries.is_sorted-where_key R stays (fin.entries m) (fin.entries_sorted m) in
+      ap fin.entries (fin.same_map h.total h.same (fin.remove m k) (fin.from_sorted left) (λ q. fin.get-remove h.total m k q ∙ found q ∙ sym (fin.get-from_sorted R left q sorted)))
+      ∙ fin.entries-from_sorted R left sorted
+    where
+      stays : K → Bool
+      stays x = not (eq_by_cmp R k x)
+
+      left : List (K × X)
+      left = filter (λ e. stays e.0) (fin.entries m)
+
+      turned : (b : Bool) (o : Option X) → cond b None o ≡ cond (not b) o None
+      turned true o = refl
+      turned false o = refl
+
+      found : (q : K) → cond (eq_by_cmp R q k) None (fin.get m q) ≡ entries.find R q left
+      found q =
+          ap (λ (b : Bool). cond b None (fin.get m q)) ((eq_by_cmp_equiv h.total).symm q k) ∙ turned (eq_by_cmp R k q) (fin.get m q)
+          ∙ ap (λ (o : Option X). cond (stays q) o None) (fin.get-entries m q)
+          ∙ sym (entries.find-where_key R stays q (λ x tie. ap stays (sym (h.same q x tie))) (fin.entries m))
+
+  -- a record is removed, where it is there, and so is its row
+  pub removed_entries : (row : K × X → Row) → BeginsWithKey row → (m : FinMap R X) (k : K) → IsGood k → ((q : K) (y : X) → fin.get m q ≡ Some y → IsGood q)
+      → rows_after_removal keys (key_row k) (map row (fin.entries m)) ≡ map row (fin.entries (fin.remove m k))
+  removed_entries row begins m k good each =
+      removed_sorted row begins k good (fin.entries m) (λ e has. each e.0 e.1 (has_get h.total m e has)) ∙ ap (map row) (sym (entries_removed m k))
 
   -- columns are set in the row of a record that is there
   pub set_entries : (row next : K × X → Row) → BeginsWithKey row → BeginsWithKey next → (m : FinMap R X) (k : K) → IsGood k → (change : Row → Row) (v w : X)

@@ -7,7 +7,7 @@ use Rattle.bike_operator.specs.Rows.{SegmentRow, PlanRow, TypeRow, RegionRow, St
 use Rattle.bike_ledger.specs.Ledger.{balance_of, refunded_of}
 use Rattle.bike_commands.specs.OrderEnd.{OrderEnd}
 use Rattle.bike_operator.specs.declared.records.Order.{Order}
-use Rattle.bike_operator.specs.Operator.{Operator, item_numbered}
+use Rattle.bike_operator.specs.Operator.{Operator, name_key, item_numbered}
 use Rattle.bike_operator.specs.Counts.{docks_broken}
 use Rattle.bike_operator.specs.Sound.{AreNamesSound}
 use Rattle.bike_places.specs.Numbers.{occupied_docks}
@@ -87,6 +87,22 @@ module _ (s : Operator) (m : Listed) (now : ℕ) where
   AddNameLaw =
       (kind : NameKind) (id language name : Bor (List ℕ)) → AreNamesSound s
       → BooksChange (row.AddName kind id language name ∷ []) (change.AddName kind id language name)
+
+  -- a name in the system's language, where what has it is there
+  abbrev pub SetOwnNameLaw : Type 0
+  SetOwnNameLaw = (kind : NameKind) (id name : Bor (List ℕ)) → BooksChange (row.SetOwnName kind id name ∷ []) (change.SetOwnName kind id name)
+
+  -- a name in a further language that is there, where all stand under three texts
+  abbrev pub SetFurtherNameLaw : Type 0
+  SetFurtherNameLaw =
+      (kind : NameKind) (id language name : Bor (List ℕ)) → AreNamesSound s → fin.contains_key s.more_names (name_key kind id.now language.now) ≡ true
+      → BooksChange (row.SetFurtherName kind id language name ∷ []) (change.SetFurtherName kind id language name)
+
+  -- a name in a further language removed, whether it was there or not
+  abbrev pub RemoveNameLaw : Type 0
+  RemoveNameLaw =
+      (kind : NameKind) (id language : Bor (List ℕ)) → AreNamesSound s
+      → BooksChange (row.RemoveName kind id language ∷ []) (change.RemoveName kind id language)
 
   -- ---- bicycles, trucks and riders
 

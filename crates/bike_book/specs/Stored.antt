@@ -96,7 +96,7 @@ abbrev pub plans_segments : List (List ℕ × PlanRow) → List Row
 plans_segments [] = []
 plans_segments (e ∷ es) = segment_rows e.0 1 e.1.segments ++ plans_segments es
 
--- Which docks and which pairs of station and type have a row. A dock that works needs none, nor do counts of 0 and 0; no row is ever deleted.
+-- Which docks and which pairs of station and type have a row. A dock that works needs none, nor do counts of 0 and 0; none of these rows is ever deleted.
 pub record Listed : Type 0 where
   pub docks : FinMap texts_cmp (Unit {0})
   pub counts : FinMap texts_cmp (Unit {0})

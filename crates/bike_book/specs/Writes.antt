@@ -4,9 +4,12 @@ use Rattle.sqlite_value.specs.declared.value.Value.{Value}
 use Rattle.sqlite_value.specs.declared.value.Value.TheVariants.{Int, Text}
 use Rattle.sqlite_value.specs.Order.{Row}
 use Rattle.sqlite.specs.Values.{or_null}
-use Rattle.bike_rows.specs.View.{put_row_by, rows_after_update, with_values}
+use Rattle.bike_rows.specs.View.{put_row_by, rows_after_update, rows_after_removal, with_values}
 use Rattle.bike_operator.specs.declared.records.BikeState.TheVariants.{Fit}
 use Rattle.bike_operator.specs.declared.records.Place.TheVariants as place
+use Rattle.bike_operator.specs.NameKinds.{kind_text}
+use Rattle.bike_operator.specs.NameKind.{NameKind}
+use Rattle.bike_operator.specs.NameKind.TheVariants as named
 use Rattle.bike_operator.specs.Operator.{name_key}
 use Rattle.bike_operator.specs.Steps.{new_station}
 use Rattle.bike_operator.specs.Changes.{place_of, text_in}
@@ -19,19 +22,22 @@ use Rattle.bike_book.specs.Rows.{truth, number_value, state_number, place_column
 abbrev pub Columns : Type 0
 Columns = List (ℕ × Value)
 
--- One write to one table: a row is added under a key that is free, or columns are set in the row of a key, where there is one.
+-- One write to one table: a row is added under a key that is free, columns are set in the row of a key, where there is one, or that row is removed.
 pub data RowWrite : Type 0 where
   Add : TableName → Row → RowWrite
   Set : TableName → Row → Columns → RowWrite
+  Remove : TableName → Row → RowWrite
 
 -- the rows of its table after a write
 abbrev pub rows_after : RowWrite → Tables → List Row
 rows_after (Add name row) t = put_row_by (keys_of name) row (rows_in t name)
 rows_after (Set name key columns) t = rows_after_update (keys_of name) key (with_values columns) (rows_in t name)
+rows_after (Remove name key) t = rows_after_removal (keys_of name) key (rows_in t name)
 
 abbrev pub table_of_write : RowWrite → TableName
 table_of_write (Add name row) = name
 table_of_write (Set name key columns) = name
+table_of_write (Remove name key) = name
 
 -- the tables after a write, and after a list of them
 abbrev pub tables_after : RowWrite → Tables → Tables
@@ -45,6 +51,19 @@ tables_after_all (w ∷ ws) t = tables_after_all ws (tables_after w t)
 abbrev pub columns_from : ℕ → Row → Columns
 columns_from at [] = []
 columns_from at (v ∷ vs) = (at, v) ∷ columns_from (at + 1) vs
+
+-- the key of a row of `more_names`
+abbrev pub name_columns : NameKind → List ℕ → List ℕ → Row
+name_columns kind id language = Text (kind_text kind) ∷ Text id ∷ Text language ∷ []
+
+-- a name in the row of its own table
+abbrev pub own_name_write : NameKind → List ℕ → List ℕ → RowWrite
+own_name_write named.System id name = Set System (Int (pos 1) ∷ []) ((3, Text name) ∷ [])
+own_name_write named.Station id name = Set Stations (Text id ∷ []) ((1, Text name) ∷ [])
+own_name_write named.Type id name = Set Types (Text id ∷ []) ((1, Text name) ∷ [])
+own_name_write named.Plan id name = Set Plans (Text id ∷ []) ((1, Text name) ∷ [])
+own_name_write named.Description id name = Set Plans (Text id ∷ []) ((4, Text name) ∷ [])
+own_name_write named.Region id name = Set Regions (Text id ∷ []) ((1, Text name) ∷ [])
 
 -- THE TABLE: what each row change writes
 abbrev pub write_of : RowChange → RowWrite
@@ -88,6 +107,9 @@ write_of (row.SetCount station type_id available disabled) =
     Set Counts (Text station.now ∷ Text type_id.now ∷ []) ((2, number_value available) ∷ (3, number_value disabled) ∷ [])
 write_of (row.SetMeta now cash revenue) = Set Meta (Int (pos 1) ∷ []) ((3, number_value now) ∷ (4, Int cash) ∷ (5, Int revenue) ∷ [])
 write_of (row.AddName kind id language name) = Add MoreNames (name_row (name_key kind id.now language.now) name.now)
+write_of (row.SetOwnName kind id name) = own_name_write kind id.now name.now
+write_of (row.SetFurtherName kind id language name) = Set MoreNames (name_columns kind id.now language.now) ((3, Text name.now) ∷ [])
+write_of (row.RemoveName kind id language) = Remove MoreNames (name_columns kind id.now language.now)
 
 abbrev pub writes_of : List RowChange → List RowWrite
 writes_of [] = []

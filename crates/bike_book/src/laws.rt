@@ -1,7 +1,7 @@
 //! The laws: which row changes book each record that an accepted command puts or adds, and the close of its request.
 
 ghost use Rattle.bike_book.specs.ChangeLaws.{Everywhere};
-ghost use Rattle.bike_book.specs.ChangeLaws.{SetSystemLaw, AddPlanLaw, AddTypeLaw, SetPlanLaw, AddRegionLaw, AddStationLaw, SetStationLaw, SetRegionLaw, AddNameLaw, ChangeSystemLaw, MoveStationLaw};
+ghost use Rattle.bike_book.specs.ChangeLaws.{SetSystemLaw, AddPlanLaw, AddTypeLaw, SetPlanLaw, AddRegionLaw, AddStationLaw, SetStationLaw, SetRegionLaw, AddNameLaw, SetOwnNameLaw, SetFurtherNameLaw, RemoveNameLaw, ChangeSystemLaw, MoveStationLaw};
 ghost use Rattle.bike_book.specs.ChangeLaws.{AddBikeLaw, AddTruckLaw, AddRiderLaw, SetRiderLaw};
 ghost use Rattle.bike_book.specs.ChangeLaws.{AddRentalLaw, CloseRentalLaw, AddOrderLaw, DeliverLaw, CloseOrderLaw};
 ghost use Rattle.bike_book.specs.CloseLaws.{AtEachClose, QuietCloseLaw, EntryCloseLaw, RefundCloseLaw};
@@ -19,6 +19,9 @@ pub fn books_catalogue()
     ensures set_station { Everywhere SetStationLaw }
     ensures set_region { Everywhere SetRegionLaw }
     ensures add_name { Everywhere AddNameLaw }
+    ensures set_own_name { Everywhere SetOwnNameLaw }
+    ensures set_further_name { Everywhere SetFurtherNameLaw }
+    ensures remove_name { Everywhere RemoveNameLaw }
     ensures change_system { Everywhere ChangeSystemLaw }
     ensures move_station { Everywhere MoveStationLaw }
 {}

@@ -8,7 +8,7 @@ use bike_fixed::{Cents, Moment};
 use bike_ledger::Entry;
 use bike_operator::{BikeState, NewPlace};
 
-/// One row that is added, under a key that is free, or columns that are set in the row of a key. Money is in
+/// One row that is added, under a key that is free, columns that are set in the row of a key, or a row that is removed. Money is in
 /// hundredths, moments in seconds.
 #[derive(Clone, Copy)]
 pub enum RowChange<'a> {
@@ -183,6 +183,25 @@ pub enum RowChange<'a> {
         id: &'a Ident,
         language: &'a Language,
         name: &'a Name,
+    },
+    /// Sets the name of what has this kind and identifier, or a plan's description, in the row of its own table.
+    SetOwnName {
+        kind: NameKind,
+        id: &'a Ident,
+        name: &'a Name,
+    },
+    /// Sets the name in a row of `more_names`.
+    SetFurtherName {
+        kind: NameKind,
+        id: &'a Ident,
+        language: &'a Language,
+        name: &'a Name,
+    },
+    /// Removes a row of `more_names`.
+    RemoveName {
+        kind: NameKind,
+        id: &'a Ident,
+        language: &'a Language,
     },
 }
 

@@ -16,9 +16,11 @@ use Rattle.bike_operator.specs.declared.records.Bike.{Bike}
 use Rattle.bike_operator.specs.declared.records.Order.{Order}
 use Rattle.bike_operator.specs.declared.records.Rental.{Rental}
 use Rattle.bike_catalogue.specs.Rows.{more_docks}
+use Rattle.bike_operator.specs.NameKind.{NameKind}
+use Rattle.bike_operator.specs.NameKind.TheVariants as named
 use Rattle.bike_operator.specs.Operator.{Operator, Station, Rider, Kept, texts_cmp}
 use Rattle.bike_operator.specs.Changes.{entry_added}
-use Rattle.bike_operator.specs.Steps.{key_changed, with_report, dock_marked}
+use Rattle.bike_operator.specs.Steps.{key_changed, own_name_set, with_report, dock_marked}
 use Rattle.bike_operator.specs.Runs.{key_in, after_acceptance}
 use Rattle.bike_operator.specs.Sound.{IsSound}
 use Rattle.bike_places.proofs.ItemLemmas.{length-number_changed}
@@ -120,9 +122,24 @@ ready s n sound h = record {
   balance = λ rider none. ap (balance_of rider) h.entries ∙ no_balance s sound rider (ap (λ (m : FinMap nat_cmp Rider). fin.get m rider) (sym h.riders) ∙ none);
 }
 
+-- a name in the system's language leaves the ledger, what is kept, rentals and orders
+record LeavesLedger (s n : Operator) : Type 0 where
+  entries : n.entries ≡ s.entries
+  kept : n.kept ≡ s.kept
+  rentals : n.rentals ≡ s.rentals
+  orders : n.orders ≡ s.orders
+
+own_name_left : (kind : NameKind) (id name : List ℕ) (s : Operator) → LeavesLedger s (own_name_set kind id name s)
+own_name_left named.System id name s = record { entries = refl; kept = refl; rentals = refl; orders = refl }
+own_name_left named.Station id name s = record { entries = refl; kept = refl; rentals = refl; orders = refl }
+own_name_left named.«Type» id name s = record { entries = refl; kept = refl; rentals = refl; orders = refl }
+own_name_left named.Plan id name s = record { entries = refl; kept = refl; rentals = refl; orders = refl }
+own_name_left named.Description id name s = record { entries = refl; kept = refl; rentals = refl; orders = refl }
+own_name_left named.Region id name s = record { entries = refl; kept = refl; rentals = refl; orders = refl }
+
 -- a record leaves the ledger and what is kept
 change_left : (now : ℕ) (c : Change) (s : Operator) → ((after_change now c s).entries ≡ s.entries) × ((after_change now c s).kept ≡ s.kept)
-change_left now (change.SetSystem x) s = (refl, refl)
+change_left now (change.SetOwnName kind id name) s = let left = own_name_left kind id.now name.now s in (left.entries, left.kept)
 change_left now c s = (refl, refl)
 
 changed_left : (now : ℕ) (co : Option Change) (s : Operator) → ((where_changed now co s).entries ≡ s.entries) × ((where_changed now co s).kept ≡ s.kept)
@@ -256,6 +273,7 @@ rentals_with : (now : ℕ) (co : Option Change) (s : Operator) → IfSome co (Is
 rentals_with now None s found = refl
 rentals_with now (Some (change.AddRental rental rider bike plan from_station)) s found = found ∙ sym (length-append s.rentals _)
 rentals_with now (Some (change.CloseRental rental to_station fare)) s found = sym (length-number_changed rental _ s.rentals)
+rentals_with now (Some (change.SetOwnName kind id name)) s found = ap (λ (rs : List Rental). length rs) (sym (own_name_left kind id.now name.now s).rentals)
 rentals_with now (Some c) s found = refl
 
 orders_with : (now : ℕ) (co : Option Change) (s : Operator) → IfSome co (IsFound s) → orders_after (length s.orders) co ≡ length (where_changed now co s).orders
@@ -263,6 +281,7 @@ orders_with now None s found = refl
 orders_with now (Some (change.AddOrder order truck from_end to_end type_id count)) s found = found ∙ sym (length-append s.orders _)
 orders_with now (Some (change.Deliver order was delivered)) s found = sym (length-number_changed order _ s.orders)
 orders_with now (Some (change.CloseOrder order was)) s found = sym (length-number_changed order _ s.orders)
+orders_with now (Some (change.SetOwnName kind id name)) s found = ap (λ (os : List Order). length os) (sym (own_name_left kind id.now name.now s).orders)
 orders_with now (Some c) s found = refl
 
 -- the figures of the ledger with an entry

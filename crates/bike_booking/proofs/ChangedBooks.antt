@@ -12,6 +12,7 @@ use Rattle.bike_book.specs.Writes.{RowWrite, write_of, writes_of}
 use Rattle.bike_book.specs.Between.{Books}
 use Rattle.bike_book.specs.ChangeLaws.{segment_writes}
 use Rattle.bike_book.proofs.CatalogueBooks.{set_system, add_type, set_plan, add_region, add_station, set_station, set_region, add_name, change_system, move_station}
+use Rattle.bike_book.proofs.NameBooks.{set_own_name, set_further_name, remove_name}
 use Rattle.bike_book.proofs.PlanBooks.{add_plan}
 use Rattle.bike_book.proofs.FleetBooks.{add_bike, add_truck, add_rider, set_rider}
 use Rattle.bike_book.proofs.RentalBooks.{add_rental, close_rental, add_order, deliver, close_order}
@@ -55,6 +56,9 @@ module _ (s : Operator) (m : Listed) (now : ℕ) (listing : IsListing s m) (read
   books_change (change.AddRegion r) found = one (add_region s m now listing r)
   books_change (change.SetRegion station region) found = one (set_region s m now listing station region)
   books_change (change.AddName kind id language name) found = one (add_name s m now listing kind id language name ready.names)
+  books_change (change.SetOwnName kind id name) found = one (set_own_name s m now listing kind id name)
+  books_change (change.SetFurtherName kind id language name) found = one (set_further_name s m now listing kind id language name ready.names found)
+  books_change (change.RemoveName kind id language) found = one (remove_name s m now listing kind id language ready.names)
   books_change (change.ChangeSystem x) found = one (change_system s m now listing x)
   books_change (change.MoveStation station p) found = one (move_station s m now listing station p)
   books_change (change.AddBike bike type_id) found = one (add_bike s m now listing bike type_id found)

@@ -48,6 +48,27 @@ pub(crate) fn change_row<'a>(change: &Change<'a>, now: Moment) -> RowChange<'a>
             language,
             name,
         },
+        Change::SetOwnName { kind, id, name } => RowChange::SetOwnName {
+            kind: *kind,
+            id,
+            name,
+        },
+        Change::SetFurtherName {
+            kind,
+            id,
+            language,
+            name,
+        } => RowChange::SetFurtherName {
+            kind: *kind,
+            id,
+            language,
+            name,
+        },
+        Change::RemoveName { kind, id, language } => RowChange::RemoveName {
+            kind: *kind,
+            id,
+            language,
+        },
         Change::ChangeSystem(settings) => RowChange::SetSettings(settings),
         Change::MoveStation { station, position } => RowChange::SetPosition { station, position },
         Change::AddBike { bike, type_id } => RowChange::AddBike {

@@ -74,6 +74,7 @@ refusal_is r.RentalClosed = refl
 refusal_is r.WrongTruckOrEnds = refl
 refusal_is r.UnknownRegion = refl
 refusal_is r.SystemMissing = refl
+refusal_is r.UnknownName = refl
 
 name_no_tab : (refusal : Refusal) → HasNoTab (name_of refusal)
 name_no_tab r.UnknownStation = refl
@@ -114,6 +115,7 @@ name_no_tab r.RentalClosed = refl
 name_no_tab r.WrongTruckOrEnds = refl
 name_no_tab r.UnknownRegion = refl
 name_no_tab r.SystemMissing = refl
+name_no_tab r.UnknownName = refl
 
 refusal_sound : (number : ℕ) (refusal : Refusal) → refusal_of number ≡ Some refusal → number ≡ number_of refusal
 unfolding refusal_of
@@ -147,8 +149,8 @@ serial_reader = number_reader 1 100000000 (lit< tt)
 bike_reader : IsReader (whole_of 1 999999) (Number 1 999999)
 bike_reader = number_reader 1 999999 (lit< tt)
 
-refusal_number : IsReader (whole_of 1 38) (Number 1 38)
-refusal_number = number_reader 1 38 (lit< tt)
+refusal_number : IsReader (whole_of 1 39) (Number 1 39)
+refusal_number = number_reader 1 39 (lit< tt)
 
 done_sound : (ps : Parts) (reply : Reply) → done_at ps ≡ Some reply → Left (codes "ok") reply [] ps
 unfolding done_at
@@ -190,7 +192,7 @@ ordered_full : (order : ℕ) (ps : Parts) → AreRead (reply_fields (Ordered ord
 unfolding ordered_at
 ordered_full order ps e = gives _ order ps serial_reader e given_all
 
-named_sound : (refusal : Refusal) (ps : Parts) (reply : Reply) → named_at refusal ps ≡ Some reply → Left (codes "refused") reply (Number 1 38 (number_of refusal) ∷ []) ps
+named_sound : (refusal : Refusal) (ps : Parts) (reply : Reply) → named_at refusal ps ≡ Some reply → Left (codes "refused") reply (Number 1 39 (number_of refusal) ∷ []) ps
 unfolding named_at
 named_sound refusal ps reply e = takes _ ps (word_reader (name_of refusal) (name_no_tab refusal)) e (λ u ps e. ends (Refused refusal) ps refl refl e)
 
@@ -202,7 +204,7 @@ refused_sound : (ps : Parts) (reply : Reply) → refused_at ps ≡ Some reply �
 unfolding refused_at
 refused_sound ps reply e = takes _ ps refusal_number e (λ n ps e.
     option_and_then_some (λ refusal. named_at refusal ps) (refusal_of n) reply e (λ refusal found named.
-    subst (λ (k : ℕ). Left (codes "refused") reply (Number 1 38 k ∷ []) ps) (sym (refusal_sound n refusal found)) (named_sound refusal ps reply named)))
+    subst (λ (k : ℕ). Left (codes "refused") reply (Number 1 39 k ∷ []) ps) (sym (refusal_sound n refusal found)) (named_sound refusal ps reply named)))
 
 refused_full : (refusal : Refusal) (ps : Parts) → AreRead (reply_fields (Refused refusal)) ps → refused_at ps ≡ Some (Refused refusal)
 unfolding refused_at

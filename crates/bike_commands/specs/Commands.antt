@@ -36,6 +36,8 @@ word_of (command.CloseOrder order) = codes "close-order"
 word_of (command.AddRegion r) = codes "add-region"
 word_of (command.SetRegion station region) = codes "set-region"
 word_of (command.AddName kind id language name) = codes "add-name"
+word_of (command.SetName kind id language name) = codes "set-name"
+word_of (command.RemoveName kind id language) = codes "remove-name"
 word_of (command.ChangeSystem x) = codes "change-system"
 word_of (command.MoveStation station p) = codes "move-station"
 word_of (command.AddDocks station count) = codes "add-docks"
@@ -71,6 +73,8 @@ fields_of (command.CloseOrder order) = Serial order ∷ []
 fields_of (command.AddRegion r) = Id r.region_id ∷ Name r.name ∷ []
 fields_of (command.SetRegion station region) = Id station ∷ IdOrNone region ∷ []
 fields_of (command.AddName kind id language name) = Fixed (kind_text kind) ∷ Id id ∷ Language language ∷ Name name ∷ []
+fields_of (command.SetName kind id language name) = Fixed (kind_text kind) ∷ Id id ∷ Language language ∷ Name name ∷ []
+fields_of (command.RemoveName kind id language) = Fixed (kind_text kind) ∷ Id id ∷ Language language ∷ []
 fields_of (command.ChangeSystem x) =
     Name x.name ∷ Ascii x.opening_hours ∷ Ascii x.feed_contact_email ∷ Ascii x.timezone ∷ Ascii x.base_url
     ∷ Number 0 LONGEST_TIME_TO_LIVE x.ttl ∷ []

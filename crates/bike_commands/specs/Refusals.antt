@@ -43,6 +43,7 @@ number_of r.RentalClosed = 35
 number_of r.WrongTruckOrEnds = 36
 number_of r.UnknownRegion = 37
 number_of r.SystemMissing = 38
+number_of r.UnknownName = 39
 
 -- the name that is printed
 abbrev pub name_of : Refusal → List ℕ
@@ -84,6 +85,7 @@ name_of r.RentalClosed = codes "rental_closed"
 name_of r.WrongTruckOrEnds = codes "wrong_truck_or_ends"
 name_of r.UnknownRegion = codes "unknown_region"
 name_of r.SystemMissing = codes "system_missing"
+name_of r.UnknownName = codes "unknown_name"
 
 -- all refusals, by number
 abbrev pub refusals : List Refusal
@@ -94,7 +96,7 @@ refusals =
     r.BalanceNegative ∷ r.RiderIsRiding ∷ r.NotRented ∷ r.NotInDepot ∷ r.BikeRetired ∷ r.TruckTooSmall ∷
     r.WrongPlace ∷ r.WrongType ∷ r.OrderClosed ∷ r.OrderFilled ∷ r.BikesOnTruck ∷ r.RefundTooLarge ∷
     r.RentalOpen ∷ r.LimitReached ∷ r.KeyReused ∷ r.TruckFull ∷ r.RentalClosed ∷ r.WrongTruckOrEnds ∷
-    r.UnknownRegion ∷ r.SystemMissing ∷ []
+    r.UnknownRegion ∷ r.SystemMissing ∷ r.UnknownName ∷ []
 
 -- the refusal that has the number
 unfoldable pub refusal_of : ℕ → Option Refusal

@@ -27,7 +27,7 @@ reply_fields (Balance balance) = Any balance ∷ []
 reply_fields (Started rental bike) = Number 1 GREATEST_SERIAL rental ∷ Number 1 GREATEST_NUMBER bike ∷ []
 reply_fields (Ended fare balance) = Signed (pos 0) GREATEST_FARE fare ∷ Any balance ∷ []
 reply_fields (Ordered order) = Number 1 GREATEST_SERIAL order ∷ []
-reply_fields (Refused refusal) = Number 1 38 (number_of refusal) ∷ Fixed (name_of refusal) ∷ []
+reply_fields (Refused refusal) = Number 1 39 (number_of refusal) ∷ Fixed (name_of refusal) ∷ []
 
 -- the numbers keep their bounds, as those of every reply of the program do
 abbrev pub IsReply : Reply → Type 0

@@ -50,7 +50,7 @@ named_at refusal ps = do
 
 unfoldable pub refused_at : Parts → Option Reply
 refused_at ps = do
-  number ← field_at (number_of 1 38) ps
+  number ← field_at (number_of 1 39) ps
   refusal ← refusal_of number.0
   named_at refusal number.1
 

@@ -176,10 +176,20 @@ impl Command {
                 language,
                 name,
                 ..
+            }
+            | Command::SetName {
+                id,
+                language,
+                name,
+                ..
             } => {
                 let _ = id.as_str();
                 let _ = language.as_str();
                 let _ = name.as_str();
+            }
+            Command::RemoveName { id, language, .. } => {
+                let _ = id.as_str();
+                let _ = language.as_str();
             }
             Command::ChangeSystem(settings) => settings.bounds(),
             Command::MoveStation { station, position } => {

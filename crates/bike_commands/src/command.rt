@@ -11,7 +11,7 @@ use bike_texts::{
 pub enum Command {
     /// Sets the system, once.
     SetSystem(System),
-    /// Adds a pricing plan, which never changes.
+    /// Adds a pricing plan. Its name and its description alone may change.
     AddPlan(Plan),
     /// Adds a vehicle type with its default plan.
     AddType(VehicleType),
@@ -128,6 +128,19 @@ pub enum Command {
         id: Ident,
         language: Language,
         name: Name,
+    },
+    /// Changes a name that is there, in the system's language or in a further one.
+    SetName {
+        kind: NameKind,
+        id: Ident,
+        language: Language,
+        name: Name,
+    },
+    /// Removes a name in a further language.
+    RemoveName {
+        kind: NameKind,
+        id: Ident,
+        language: Language,
     },
     /// Changes what of the system may change.
     ChangeSystem(Settings),

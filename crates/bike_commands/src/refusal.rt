@@ -83,10 +83,12 @@ pub enum Refusal {
     UnknownRegion,
     /// No system is set.
     SystemMissing,
+    /// Nothing of the kind and identifier has a name in the language, or none that can be removed.
+    UnknownName,
 }
 
 impl Refusal {
-    /// The number that an answer line prints, 1 to 38.
+    /// The number that an answer line prints, 1 to 39.
     pub fn number(self) -> u32
         ensures { result ≡ number_of self }
     {
@@ -129,6 +131,7 @@ impl Refusal {
             Refusal::WrongTruckOrEnds => 36,
             Refusal::UnknownRegion => 37,
             Refusal::SystemMissing => 38,
+            Refusal::UnknownName => 39,
         }
     }
 
@@ -176,6 +179,7 @@ impl Refusal {
             Refusal::WrongTruckOrEnds => "wrong_truck_or_ends",
             Refusal::UnknownRegion => "unknown_region",
             Refusal::SystemMissing => "system_missing",
+            Refusal::UnknownName => "unknown_name",
         }
     }
 
@@ -223,6 +227,7 @@ impl Refusal {
             36 => Some(Refusal::WrongTruckOrEnds),
             37 => Some(Refusal::UnknownRegion),
             38 => Some(Refusal::SystemMissing),
+            39 => Some(Refusal::UnknownName),
             _ => None,
         }
     }

@@ -123,7 +123,7 @@ fn read_named(refusal: Refusal, mut fields: Fields) -> Option<Reply>
     Some(Reply::Refused(refusal))
 }
 
-fn refusal_with(number: Within<1, 38>) -> Option<Refusal>
+fn refusal_with(number: Within<1, 39>) -> Option<Refusal>
     ensures { result ≡ refusal_of number }
 {
     Refusal::from_number(number.get())

@@ -1,4 +1,4 @@
-//! Decisions on names in further languages.
+//! Decisions on names: those in further languages, and what becomes of one that is there.
 
 ghost use Rattle.std.specs.Prelude.{◌≡◌, IfOk};
 ghost use Rattle.bike_commands.specs.declared.command.Command.TheVariants as command;
@@ -54,4 +54,57 @@ pub(crate) fn decide_add_name<'a>(
         language,
         name,
     }))
+}
+
+/// Decides on another name in place of one that is there, in the system's language or in a further one.
+pub(crate) fn decide_set_name<'a>(
+    view: &View,
+    kind: NameKind,
+    id: &'a Ident,
+    language: &'a Language,
+    name: &'a Name,
+) -> Decision<'a>
+    ensures decides { DecidesOn view.now (command.SetName kind id.now language.now name.now) result }
+    ensures found { IfOk result (FindsOn view.now (command.SetName kind id.now language.now name.now)) }
+{
+    if !view.has_system {
+        return Err(Refusal::SystemMissing);
+    }
+    if !view.has_named {
+        return Err(unknown_of(kind));
+    }
+    if !view.has_language {
+        return Err(Refusal::UnknownName);
+    }
+    if view.is_own_language {
+        return Ok(Accepted::changed(Change::SetOwnName { kind, id, name }));
+    }
+    Ok(Accepted::changed(Change::SetFurtherName {
+        kind,
+        id,
+        language,
+        name,
+    }))
+}
+
+/// Decides on a name in a further language that goes.
+pub(crate) fn decide_remove_name<'a>(
+    view: &View,
+    kind: NameKind,
+    id: &'a Ident,
+    language: &'a Language,
+) -> Decision<'a>
+    ensures decides { DecidesOn view.now (command.RemoveName kind id.now language.now) result }
+    ensures found { IfOk result (FindsOn view.now (command.RemoveName kind id.now language.now)) }
+{
+    if !view.has_system {
+        return Err(Refusal::SystemMissing);
+    }
+    if !view.has_named {
+        return Err(unknown_of(kind));
+    }
+    if !view.has_language || view.is_own_language {
+        return Err(Refusal::UnknownName);
+    }
+    Ok(Accepted::changed(Change::RemoveName { kind, id, language }))
 }

@@ -10,7 +10,7 @@ use crate::decide_catalogue::{
     decide_add_docks, decide_add_plan, decide_add_station, decide_add_type, decide_change_system,
     decide_mark_dock, decide_move_station, decide_set_plan, decide_set_station, decide_set_system,
 };
-use crate::decide_names::decide_add_name;
+use crate::decide_names::{decide_add_name, decide_remove_name, decide_set_name};
 use crate::decide_orders::{
     decide_add_truck, decide_close_order, decide_load, decide_open_order, decide_unload,
 };
@@ -92,6 +92,13 @@ pub fn decide<'a>(view: &'a View, now: Moment, command: &'a Command) -> Decision
             language,
             name,
         } => decide_add_name(view, *kind, id, language, name),
+        Command::SetName {
+            kind,
+            id,
+            language,
+            name,
+        } => decide_set_name(view, *kind, id, language, name),
+        Command::RemoveName { kind, id, language } => decide_remove_name(view, *kind, id, language),
         Command::ChangeSystem(settings) => decide_change_system(view, settings),
         Command::MoveStation { station, position } => decide_move_station(view, station, position),
         Command::AddDocks { station, count } => decide_add_docks(view, station, count),

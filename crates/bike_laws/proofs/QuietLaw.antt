@@ -1,9 +1,11 @@
 -- Each kind of command that touches neither rentals nor entries.
-use Rattle.std.proofs.Common.{◌≡◌, ℕ, Bool, true, false, cond, Option, Some, None, refl, ◌∙◌}
+use Rattle.std.proofs.Common.{◌≡◌, ℕ, List, Bool, true, false, cond, Option, Some, None, refl, ◌∙◌}
 use Rattle.std.specs.FinMap as finmap
 use Rattle.std.specs.Cmp.{nat_cmp_total}
 use Rattle.std.specs.Cmp.Lexicographic.{nat_list_cmp_total}
 use Rattle.bike_catalogue.specs.Rows.{moved_to, more_docks}
+use Rattle.bike_catalogue.specs.declared.name_kind.NameKind.{NameKind}
+use Rattle.bike_catalogue.specs.declared.name_kind.NameKind.TheVariants as named
 use Rattle.bike_texts.specs.declared.ends.OrderEnd.{OrderEnd}
 use Rattle.bike_texts.specs.declared.ends.OrderEnd.TheVariants as end
 use Rattle.bike_texts.specs.declared.ends.Side.{Side}
@@ -16,11 +18,12 @@ use Rattle.bike_operator.specs.declared.records.Place.TheVariants as place
 use Rattle.bike_operator.specs.declared.records.Bike.{Bike}
 use Rattle.bike_operator.specs.declared.records.Order.{Order}
 use Rattle.bike_operator.specs.Operator.{Operator, item_numbered}
+use Rattle.bike_operator.specs.Names.{is_own_language}
 use Rattle.bike_operator.specs.View.{end_at, view_of}
-use Rattle.bike_operator.specs.Steps.{new_station, dock_marked, tests, refusal_of, place_reported, bike_reported, bike_placed, bike_marked, placed_at_end, with_delivery, after_unload, effect}
+use Rattle.bike_operator.specs.Steps.{new_station, dock_marked, tests, refusal_of, place_reported, bike_reported, bike_placed, bike_marked, placed_at_end, with_delivery, after_unload, own_name_set, further_name_set, effect}
 use Rattle.bike_places.proofs.TestLemmas.{none_holds, none_of}
-use Rattle.bike_laws.proofs.NameLemmas.{insert_keeps, changed_keeps}
-use Rattle.bike_laws.proofs.QuietLemmas.{IsQuiet, quiet_fields, quiet_reported, quiet_bike_reported, quiet_marked, quiet_placed, quiet_added, elsewhere_in, loaded_in, quiet_unloaded}
+use Rattle.bike_laws.proofs.NameLemmas.{insert_keeps}
+use Rattle.bike_laws.proofs.QuietLemmas.{IsQuiet, quiet_fields, quiet_station, quiet_name, quiet_reported, quiet_bike_reported, quiet_marked, quiet_placed, quiet_added, elsewhere_in, loaded_in, quiet_unloaded}
 
 -- commands that touch rentals or entries
 abbrev pub moves_money : Command → Bool
@@ -55,16 +58,8 @@ quiet_kind s now (command.AddStation x) free none = record {
   stations = λ id h. insert_keeps nat_list_cmp_total s.stations x.station_id (new_station x now) id h;
   out = λ number bike o. record { row = o.row; found = o.found; place_is = o.place_is };
 }
-quiet_kind s now (command.SetStation station installed renting returning) free none = record {
-  rentals = refl;
-  entries = refl;
-  riders = λ id h. h;
-  bikes = λ id h. h;
-  plans = λ id h. h;
-  stations = λ id h.
-      changed_keeps nat_list_cmp_total s.stations station (λ x. record x { is_installed = installed; is_renting = renting; is_returning = returning; reported = now }) id h;
-  out = λ number bike o. record { row = o.row; found = o.found; place_is = o.place_is };
-}
+quiet_kind s now (command.SetStation station installed renting returning) free none =
+    quiet_station s station (λ x. record x { is_installed = installed; is_renting = renting; is_returning = returning; reported = now })
 quiet_kind s now (command.MarkDock station dock broken) free none =
     quiet_reported s (dock_marked station dock broken s) station now (quiet_fields s (dock_marked station dock broken s) refl refl refl refl refl refl)
 quiet_kind s now (command.AddBike bike type_id) free none =
@@ -98,33 +93,10 @@ quiet_kind s now (command.Load truck order bike) free none =
 quiet_kind s now (command.Unload truck order bike side dock) free none =
     let tests_free = none_holds (tests (view_of s (command.Unload truck order bike side dock)) (command.Unload truck order bike side dock)) none in
     quiet_unloaded s order bike side dock now (item_numbered order s.orders) (loaded_in s truck order bike tests_free.1.1.1.1.1.0)
-quiet_kind s now (command.SetRegion station region) free none = record {
-  rentals = refl;
-  entries = refl;
-  riders = λ id h. h;
-  bikes = λ id h. h;
-  plans = λ id h. h;
-  stations = λ id h. changed_keeps nat_list_cmp_total s.stations station (λ x. record x { region = region }) id h;
-  out = λ number bike o. record { row = o.row; found = o.found; place_is = o.place_is };
-}
-quiet_kind s now (command.MoveStation station p) free none = record {
-  rentals = refl;
-  entries = refl;
-  riders = λ id h. h;
-  bikes = λ id h. h;
-  plans = λ id h. h;
-  stations = λ id h. changed_keeps nat_list_cmp_total s.stations station (λ x. record x { row = moved_to p x.row }) id h;
-  out = λ number bike o. record { row = o.row; found = o.found; place_is = o.place_is };
-}
-quiet_kind s now (command.AddDocks station count) free none = record {
-  rentals = refl;
-  entries = refl;
-  riders = λ id h. h;
-  bikes = λ id h. h;
-  plans = λ id h. h;
-  stations = λ id h. changed_keeps nat_list_cmp_total s.stations station (λ x. record x { row = more_docks count x.row }) id h;
-  out = λ number bike o. record { row = o.row; found = o.found; place_is = o.place_is };
-}
+quiet_kind s now (command.SetRegion station region) free none = quiet_station s station (λ x. record x { region = region })
+quiet_kind s now (command.SetName kind id language name) free none = quiet_name s kind id language name (is_own_language s.system language)
+quiet_kind s now (command.MoveStation station p) free none = quiet_station s station (λ x. record x { row = moved_to p x.row })
+quiet_kind s now (command.AddDocks station count) free none = quiet_station s station (λ x. record x { row = more_docks count x.row })
 quiet_kind s now c free none = quiet_fields s (effect s now c) refl refl refl refl refl refl
 
 -- ---- riders
@@ -151,6 +123,18 @@ unloaded_riders : (s : Operator) (order bike : ℕ) (side : Side) (dock now : �
 unloaded_riders s order bike side dock now None = refl
 unloaded_riders s order bike side dock now (Some o) = delivered_riders (placed_at_end bike (end_at side o) dock now s) order side ∙ end_riders s bike (end_at side o) dock now
 
+own_name_riders : (s : Operator) (kind : NameKind) (id name : List ℕ) → (own_name_set kind id name s).riders ≡ s.riders
+own_name_riders s named.System id name = refl
+own_name_riders s named.Station id name = refl
+own_name_riders s named.Type id name = refl
+own_name_riders s named.Plan id name = refl
+own_name_riders s named.Description id name = refl
+own_name_riders s named.Region id name = refl
+
+name_riders : (s : Operator) (kind : NameKind) (id language name : List ℕ) (own : Bool) → (cond own (own_name_set kind id name s) (further_name_set kind id language name s)).riders ≡ s.riders
+name_riders s kind id language name true = own_name_riders s kind id name
+name_riders s kind id language name false = refl
+
 -- commands that touch riders, rentals or entries
 abbrev pub names_rider : Command → Bool
 names_rider (command.AddRider rider) = true
@@ -168,4 +152,5 @@ same_riders s now (command.Refund rental amount) free = absurd cc
 same_riders s now (command.MarkBike bike disabled) free = bike_riders (bike_marked bike (cond disabled Disabled Fit) s) (finmap.get s.bikes bike) now
 same_riders s now (command.Load truck order bike) free = bike_riders (bike_placed bike (place.Truck truck order) s) (finmap.get s.bikes bike) now
 same_riders s now (command.Unload truck order bike side dock) free = unloaded_riders s order bike side dock now (item_numbered order s.orders)
+same_riders s now (command.SetName kind id language name) free = name_riders s kind id language name (is_own_language s.system language)
 same_riders s now c free = refl

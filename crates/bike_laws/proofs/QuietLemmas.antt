@@ -1,10 +1,13 @@
 -- Commands that touch neither rentals nor entries: no name is gone, and a bicycle in a rental stays in it.
-use Rattle.std.proofs.Common.{◌≡◌, ℕ, List, Bool, true, false, Option, Some, None, refl, sym, ap, ◌∙◌, subst}
+use Rattle.std.proofs.Common.{◌≡◌, ℕ, List, Bool, true, false, cond, Option, Some, None, refl, sym, ap, ◌∙◌, subst}
 use Rattle.std.specs.Prelude.{is_none, not, ◌&&◌}
 use Rattle.std.specs.FinMap as finmap
 use Rattle.std.specs.Cmp.{nat_cmp_total}
 use Rattle.std.specs.Cmp.Lexicographic.{nat_list_cmp_total}
 use Rattle.std.proofs.lemmas.Option.{same_Some}
+use Rattle.bike_catalogue.specs.Rows.{PlanRow}
+use Rattle.bike_catalogue.specs.declared.name_kind.NameKind.{NameKind}
+use Rattle.bike_catalogue.specs.declared.name_kind.NameKind.TheVariants as named
 use Rattle.bike_texts.specs.declared.ends.OrderEnd.{OrderEnd}
 use Rattle.bike_texts.specs.declared.ends.OrderEnd.TheVariants as end
 use Rattle.bike_texts.specs.declared.ends.Side.{Side}
@@ -14,10 +17,10 @@ use Rattle.bike_operator.specs.declared.records.Place.{Place}
 use Rattle.bike_operator.specs.declared.records.Place.TheVariants as place
 use Rattle.bike_operator.specs.declared.records.Bike.{Bike}
 use Rattle.bike_operator.specs.declared.records.Order.{Order}
-use Rattle.bike_operator.specs.Operator.{Operator}
+use Rattle.bike_operator.specs.Operator.{Operator, Station}
 use Rattle.bike_operator.specs.Counts.{is_on_truck, is_for_order}
 use Rattle.bike_operator.specs.View.{end_at}
-use Rattle.bike_operator.specs.Steps.{on, is_at_end, is_elsewhere, is_not_loaded, key_changed, with_report, place_reported, bike_reported, bike_placed, bike_marked, placed_at_end, with_delivery, after_unload}
+use Rattle.bike_operator.specs.Steps.{on, is_at_end, is_elsewhere, is_not_loaded, key_changed, with_report, place_reported, bike_reported, bike_placed, bike_marked, placed_at_end, with_delivery, after_unload, own_name_set, further_name_set}
 use Rattle.bike_operator.specs.Sound.{IsOut}
 use Rattle.bike_places.proofs.TestLemmas.{holds}
 use Rattle.bike_laws.proofs.NameLemmas.{insert_keeps, changed_keeps, get_other, changed_found, changed_other, Either, either}
@@ -43,6 +46,43 @@ quiet_fields s x rentals entries riders bikes plans stations = record {
   stations = λ id h. ap (λ m. finmap.contains_key m id) stations ∙ h;
   out = λ number bike o. record { row = o.row; found = ap (λ m. finmap.get m bike) bikes ∙ o.found; place_is = o.place_is };
 }
+
+-- ---- plans and stations that change
+
+quiet_plan : (s : Operator) (plan : List ℕ) (f : PlanRow → PlanRow) → IsQuiet s (record s { plans = key_changed s.plans plan f })
+quiet_plan s plan f = record {
+  rentals = refl;
+  entries = refl;
+  riders = λ id h. h;
+  bikes = λ id h. h;
+  plans = λ id h. changed_keeps nat_list_cmp_total s.plans plan f id h;
+  stations = λ id h. h;
+  out = λ number bike o. record { row = o.row; found = o.found; place_is = o.place_is };
+}
+
+pub quiet_station : (s : Operator) (station : List ℕ) (f : Station → Station) → IsQuiet s (record s { stations = key_changed s.stations station f })
+quiet_station s station f = record {
+  rentals = refl;
+  entries = refl;
+  riders = λ id h. h;
+  bikes = λ id h. h;
+  plans = λ id h. h;
+  stations = λ id h. changed_keeps nat_list_cmp_total s.stations station f id h;
+  out = λ number bike o. record { row = o.row; found = o.found; place_is = o.place_is };
+}
+
+quiet_own_name : (s : Operator) (kind : NameKind) (id name : List ℕ) → IsQuiet s (own_name_set kind id name s)
+quiet_own_name s named.System id name = quiet_fields s (own_name_set named.System id name s) refl refl refl refl refl refl
+quiet_own_name s named.Station id name = quiet_station s id (λ x. record x { row = record x.row { name = name } })
+quiet_own_name s named.Type id name = quiet_fields s (own_name_set named.Type id name s) refl refl refl refl refl refl
+quiet_own_name s named.Plan id name = quiet_plan s id (λ p. record p { name = name })
+quiet_own_name s named.Description id name = quiet_plan s id (λ p. record p { description = name })
+quiet_own_name s named.Region id name = quiet_fields s (own_name_set named.Region id name s) refl refl refl refl refl refl
+
+-- a name in the system's language, or in a further one
+pub quiet_name : (s : Operator) (kind : NameKind) (id language name : List ℕ) (own : Bool) → IsQuiet s (cond own (own_name_set kind id name s) (further_name_set kind id language name s))
+quiet_name s kind id language name true = quiet_own_name s kind id name
+quiet_name s kind id language name false = quiet_fields s (further_name_set kind id language name s) refl refl refl refl refl refl
 
 -- ---- stations that report
 

@@ -4,7 +4,7 @@ use Rattle.std.specs.Str.{bytes_eq}
 use Rattle.std.specs.FinMap as map
 use Rattle.std.specs.FinSet as set
 use Rattle.std.specs.declared.cmp.Ordering.{Ordering}
-use Rattle.bike_commands.specs.Rows.{StationRow, moved_to, more_docks, system_with}
+use Rattle.bike_commands.specs.Rows.{StationRow, SystemRow, moved_to, more_docks, system_with}
 use Rattle.bike_fields.specs.declared.numbers.TheConstants.{MOST_DOCKS}
 use Rattle.bike_fares.specs.Pricing.{fare_of}
 use Rattle.bike_ledger.specs.declared.entry.EntryKind.{EntryKind}
@@ -36,6 +36,7 @@ use Rattle.bike_operator.specs.declared.view.RentalView.{RentalView}
 use Rattle.bike_operator.specs.declared.view.View.{View}
 use Rattle.bike_operator.specs.Operator.{Operator, Station, name_key, dock_key, number_changed, item_numbered}
 use Rattle.bike_operator.specs.Counts.{is_at, is_depot, is_on_truck, is_for_order, is_fit, is_retired, is_open, docked_at}
+use Rattle.bike_operator.specs.Names.{is_own_language}
 use Rattle.bike_operator.specs.View.{view_of, end_at, docked_view, rental_view, rental_of}
 
 -- ---- tests
@@ -151,6 +152,10 @@ tests v (command.AddRegion r) = (v.has_region, refusal.AlreadyThere) ∷ (v.is_f
 tests v (command.SetRegion station region) = (is_none v.station, refusal.UnknownStation) ∷ (not v.has_region, refusal.UnknownRegion) ∷ []
 tests v (command.AddName kind id language name) =
     (not v.has_system, refusal.SystemMissing) ∷ (not v.has_named, unknown_of kind) ∷ (v.has_language, refusal.AlreadyThere) ∷ (v.is_full, refusal.LimitReached) ∷ []
+tests v (command.SetName kind id language name) =
+    (not v.has_system, refusal.SystemMissing) ∷ (not v.has_named, unknown_of kind) ∷ (not v.has_language, refusal.UnknownName) ∷ []
+tests v (command.RemoveName kind id language) =
+    (not v.has_system, refusal.SystemMissing) ∷ (not v.has_named, unknown_of kind) ∷ (not v.has_language || v.is_own_language, refusal.UnknownName) ∷ []
 tests v (command.ChangeSystem x) = (not v.has_system, refusal.SystemMissing) ∷ []
 tests v (command.MoveStation station p) = (is_none v.station, refusal.UnknownStation) ∷ []
 tests v (command.AddDocks station count) = (is_none v.station, refusal.UnknownStation) ∷ (on v.station (λ x. nat_lt MOST_DOCKS (x.docks + count)), refusal.LimitReached) ∷ []
@@ -182,6 +187,31 @@ place_reported place.Depot now s = s
 abbrev pub bike_reported : Option Bike → ℕ → Operator → Operator
 bike_reported None now s = s
 bike_reported (Some b) now s = place_reported b.place now s
+
+-- the system under another name
+abbrev pub system_named : List ℕ → SystemRow → SystemRow
+system_named name x = record x { name = name }
+
+-- the name of what has this kind and identifier, in the system's language: it stands in its own record
+abbrev pub own_name_set : NameKind → List ℕ → List ℕ → Operator → Operator
+own_name_set named.System id name s = record s { system = option_map (system_named name) s.system }
+own_name_set named.Station id name s = record s { stations = key_changed s.stations id (λ x. record x { row = record x.row { name = name } }) }
+own_name_set named.Type id name s = record s { types = key_changed s.types id (λ t. record t { name = name }) }
+own_name_set named.Plan id name s = record s { plans = key_changed s.plans id (λ p. record p { name = name }) }
+own_name_set named.Description id name s = record s { plans = key_changed s.plans id (λ p. record p { description = name }) }
+own_name_set named.Region id name s = record s { regions = key_changed s.regions id (λ r. record r { name = name }) }
+
+-- a name in a further language
+abbrev pub further_name_set : NameKind → List ℕ → List ℕ → List ℕ → Operator → Operator
+further_name_set kind id language name s = record s { more_names = map.insert s.more_names (name_key kind id language) name }
+
+abbrev pub further_name_removed : NameKind → List ℕ → List ℕ → Operator → Operator
+further_name_removed kind id language s = record s { more_names = map.remove s.more_names (name_key kind id language) }
+
+-- the name in the system's language, or in a further one
+abbrev pub name_set : NameKind → List ℕ → List ℕ → List ℕ → Operator → Operator
+name_set kind id language name s =
+    if is_own_language s.system language then own_name_set kind id name s else further_name_set kind id language name s
 
 -- a station is new: it is installed, renting and returning, reports, and stands in no region
 abbrev pub new_station : StationRow → ℕ → Station
@@ -287,6 +317,8 @@ effect s now (command.CloseOrder order) = order_changed order (λ o. record o { 
 effect s now (command.AddRegion r) = record s { regions = map.insert s.regions r.region_id r }
 effect s now (command.SetRegion station region) = record s { stations = key_changed s.stations station (λ x. record x { region = region }) }
 effect s now (command.AddName kind id language name) = record s { more_names = map.insert s.more_names (name_key kind id language) name }
+effect s now (command.SetName kind id language name) = name_set kind id language name s
+effect s now (command.RemoveName kind id language) = further_name_removed kind id language s
 effect s now (command.ChangeSystem x) = record s { system = option_map (system_with x) s.system }
 effect s now (command.MoveStation station p) = record s { stations = key_changed s.stations station (λ x. record x { row = moved_to p x.row }) }
 effect s now (command.AddDocks station count) = record s { stations = key_changed s.stations station (λ x. record x { row = more_docks count x.row }) }
@@ -333,6 +365,8 @@ reply_of s now (command.CloseOrder order) = Done
 reply_of s now (command.AddRegion r) = Done
 reply_of s now (command.SetRegion station region) = Done
 reply_of s now (command.AddName kind id language name) = Done
+reply_of s now (command.SetName kind id language name) = Done
+reply_of s now (command.RemoveName kind id language) = Done
 reply_of s now (command.ChangeSystem x) = Done
 reply_of s now (command.MoveStation station p) = Done
 reply_of s now (command.AddDocks station count) = Done

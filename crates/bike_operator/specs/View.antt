@@ -4,6 +4,7 @@ use Rattle.std.specs.FinMap as map
 use Rattle.std.specs.declared.cmp.Ordering.{Ordering}
 use Rattle.bike_commands.specs.Rows.{PlanRow, TypeRow}
 use Rattle.bike_ledger.specs.Ledger.{balance_of, refunded_of}
+use Rattle.bike_commands.specs.NameKind.{NameKind}
 use Rattle.bike_commands.specs.OrderEnd.{OrderEnd}
 use Rattle.bike_commands.specs.OrderEnd.TheVariants as end
 use Rattle.bike_commands.specs.Side.{Side}
@@ -23,7 +24,7 @@ use Rattle.bike_operator.specs.declared.view.RiderView.{RiderView}
 use Rattle.bike_operator.specs.declared.view.TruckView.{TruckView}
 use Rattle.bike_operator.specs.declared.view.View.{View}
 use Rattle.bike_operator.specs.Operator.{Operator, Station, Truck, Rider, item_numbered}
-use Rattle.bike_operator.specs.Names.{has_named, has_language, has_all_names}
+use Rattle.bike_operator.specs.Names.{is_own_language, has_named, has_language, has_all_names}
 use Rattle.bike_operator.specs.Counts.{docked_at, is_broken, truck_load, order_load, open_rentals, is_riding}
 
 -- ---- limits
@@ -134,6 +135,7 @@ empty_view = record {
   has_region = false;
   has_named = false;
   has_language = false;
+  is_own_language = false;
   has_from = false;
   has_to = false;
   has_rider = false;
@@ -176,6 +178,15 @@ abbrev pub side_view : Operator → Option Order → Side → ℕ → View
 side_view s None side dock = empty_view
 side_view s (Some o) side dock = end_view s (end_at side o) dock
 
+-- whether that is there whose name changes or goes, and what name it has in the language
+abbrev pub name_view : Operator → NameKind → List ℕ → List ℕ → View
+name_view s kind id language = record empty_view {
+  has_system = is_some s.system;
+  has_named = has_named s kind id;
+  has_language = has_language s kind id language;
+  is_own_language = is_own_language s.system language;
+}
+
 -- THE TABLE: what each command names, and what is counted for it
 abbrev pub view_of : Operator → Command → View
 view_of s (command.SetSystem x) = record empty_view { has_system = is_some s.system }
@@ -209,6 +220,8 @@ view_of s (command.AddRegion r) = record empty_view { has_region = map.contains_
 view_of s (command.SetRegion station region) = record empty_view { station = station_at s station; has_region = has_region s region }
 view_of s (command.AddName kind id language name) =
     record empty_view { has_system = is_some s.system; has_named = has_named s kind id; has_language = has_language s kind id language; is_full = has_all_names s kind id }
+view_of s (command.SetName kind id language name) = name_view s kind id language
+view_of s (command.RemoveName kind id language) = name_view s kind id language
 view_of s (command.ChangeSystem x) = record empty_view { has_system = is_some s.system }
 view_of s (command.MoveStation station p) = record empty_view { station = station_at s station }
 view_of s (command.AddDocks station count) = record empty_view { station = station_at s station }

@@ -1,4 +1,4 @@
-//! The operator of a bike share, defined: what it keeps, when it is sound, its 28 commands with their tests, effects and
+//! The operator of a bike share, defined: what it keeps, when it is sound, its 30 commands with their tests, effects and
 //! replies, and the view by which a command is decided.
 //!
 //! The code here is data: the records and how many there may be, where a bicycle is put, and the view of an operator

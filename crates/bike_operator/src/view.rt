@@ -73,10 +73,12 @@ pub struct View {
     pub has_type: bool,
     /// Whether the region is there that the command names; where it names none, that one is.
     pub has_region: bool,
-    /// Whether that is there to which the command gives a name in a further language.
+    /// Whether that is there whose name the command adds, changes or removes.
     pub has_named: bool,
     /// Whether it has a name in that language: the language is the system's, or one of its further ones.
     pub has_language: bool,
+    /// Whether the language of a name that changes or goes is the system's.
+    pub is_own_language: bool,
     /// Whether the end is there from which an order takes bicycles.
     pub has_from: bool,
     /// Whether the end is there to which it brings them.

@@ -5,7 +5,9 @@ use Rattle.std.specs.FinMap as map
 use Rattle.std.specs.FinMap.{FinMap}
 use Rattle.std.proofs.lemmas.Bool.Decides.{nat_tests}
 use Rattle.std.proofs.Math.Dec.{eqb_refl}
-use Rattle.bike_operator.specs.Rows.{moved_to, more_docks}
+use Rattle.bike_operator.specs.Rows.{TypeRow, moved_to, more_docks}
+use Rattle.bike_operator.specs.NameKind.{NameKind}
+use Rattle.bike_operator.specs.NameKind.TheVariants as named
 use Rattle.bike_operator.specs.OrderEnd.{OrderEnd}
 use Rattle.bike_operator.specs.OrderEnd.TheVariants as end
 use Rattle.bike_operator.specs.Side.{Side}
@@ -23,8 +25,9 @@ use Rattle.bike_operator.specs.declared.view.DockedBike.{DockedBike}
 use Rattle.bike_operator.specs.declared.view.RentalView.{RentalView}
 use Rattle.bike_operator.specs.Operator.{Operator, Station, Kept, texts_cmp, item_numbered}
 use Rattle.bike_operator.specs.Counts.{docked_at, is_fit, is_retired, is_depot, is_on_truck, is_for_order, order_load}
+use Rattle.bike_operator.specs.Names.{is_own_language}
 use Rattle.bike_operator.specs.View.{view_of, docked_view, rental_of, rental_view, end_at}
-use Rattle.bike_operator.specs.Steps.{on, tests, effect, key_changed, with_report, place_reported, bike_reported, bike_marked, bike_placed, rental_added, rental_closed, with_fare, fare_now, after_start, after_end, after_recovery, refunded_by, placed_at_end, with_delivery, new_station, dock_marked}
+use Rattle.bike_operator.specs.Steps.{on, tests, effect, key_changed, with_report, place_reported, bike_reported, bike_marked, bike_placed, rental_added, rental_closed, with_fare, fare_now, after_start, after_end, after_recovery, refunded_by, placed_at_end, with_delivery, own_name_set, further_name_set, new_station, dock_marked}
 use Rattle.bike_operator.specs.Sound.{HasDock, IsRidden, IsPlace, AreBikesSound}
 use Rattle.bike_places.specs.Accepted.{AcceptedKeeps}
 use Rattle.bike_places.proofs.Moment.{at_moment, reports}
@@ -153,6 +156,26 @@ unloaded_bikes s now k truck order bike side dock x can h = go side placed where
   go From i = i
   go To i = order_delivered_bikes (at_moment (placed_at_end bike (end_at side x) dock now s) now k) order i
 
+-- ---- names
+
+own_named_bikes : (s : Operator) (now : ℕ) (k : FinMap texts_cmp Kept) (kind : NameKind) (id name : List ℕ) → AreBikesSound s → AreBikesSound (at_moment (own_name_set kind id name s) now k)
+own_named_bikes s now k named.System id name h = same_bikes s (at_moment (own_name_set named.System id name s) now k) refl h
+own_named_bikes s now k named.Station id name h =
+    let at : Operator = at_moment s now k in
+    let f : Station → Station = λ x. record x { row = record x.row { name = name } } in
+    stations_bikes at (key_changed s.stations id f) (docks_changed at (record at { stations = key_changed s.stations id f }) id f (λ x. omega arith) refl) (later_bikes s now k h)
+own_named_bikes s now k named.Type id name h =
+    let f : TypeRow → TypeRow = λ t. record t { name = name } in
+    types_bikes (at_moment s now k) (key_changed s.types id f) (known_changed text_order s.types id f) (later_bikes s now k h)
+own_named_bikes s now k named.Plan id name h = same_bikes s (at_moment (own_name_set named.Plan id name s) now k) refl h
+own_named_bikes s now k named.Description id name h = same_bikes s (at_moment (own_name_set named.Description id name s) now k) refl h
+own_named_bikes s now k named.Region id name h = same_bikes s (at_moment (own_name_set named.Region id name s) now k) refl h
+
+named_bikes : (s : Operator) (now : ℕ) (k : FinMap texts_cmp Kept) (kind : NameKind) (id language name : List ℕ) (own : Bool) → AreBikesSound s
+    → AreBikesSound (at_moment (if own then own_name_set kind id name s else further_name_set kind id language name s) now k)
+named_bikes s now k kind id language name true h = own_named_bikes s now k kind id name h
+named_bikes s now k kind id language name false h = same_bikes s (at_moment (further_name_set kind id language name s) now k) refl h
+
 -- ---- all commands
 
 -- a command that leaves the bicycles alone, and what they need
@@ -255,6 +278,8 @@ bikes_law s now (command.SetRegion station region) k order good free late =
     let f : Station → Station = λ x. record x { region = region } in
     stations_bikes at (key_changed s.stations station f) (docks_changed at (record at { stations = key_changed s.stations station f }) station f (λ x. omega arith) refl) (later_bikes s now k order.bikes)
 bikes_law s now (command.AddName kind id language name) k order good free late = unchanged s now (command.AddName kind id language name) k refl order.bikes
+bikes_law s now (command.SetName kind id language name) k order good free late = named_bikes s now k kind id language name (is_own_language s.system language) order.bikes
+bikes_law s now (command.RemoveName kind id language) k order good free late = unchanged s now (command.RemoveName kind id language) k refl order.bikes
 bikes_law s now (command.ChangeSystem x) k order good free late = unchanged s now (command.ChangeSystem x) k refl order.bikes
 bikes_law s now (command.MoveStation station p) k order good free late =
     let at : Operator = at_moment s now k in

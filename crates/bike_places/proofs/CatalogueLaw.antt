@@ -1,11 +1,14 @@
 -- An accepted command keeps the catalogue sound.
-use Rattle.std.proofs.Common.{◌≡◌, ℕ, ◌≤◌, List, true, false, ltb, Option, Some, None, refl, subst, arith, if◌then◌else◌}
+use Rattle.std.proofs.Common.{◌≡◌, ℕ, ◌≤◌, List, Bool, true, false, ltb, Option, Some, None, refl, subst, arith, if◌then◌else◌}
 use Rattle.std.specs.Prelude.{option_map, nat_lt, ◌+◌}
 use Rattle.std.proofs.lemmas.Bool.Decides.{nat_tests}
 use Rattle.std.specs.Ordering.{nat_cmp}
 use Rattle.std.specs.FinMap as map
 use Rattle.std.specs.FinMap.{FinMap}
+use Rattle.bike_operator.specs.Bytes.{is_name}
 use Rattle.bike_operator.specs.Rows.{IsSettings, moved_to, more_docks, system_with}
+use Rattle.bike_operator.specs.NameKind.{NameKind}
+use Rattle.bike_operator.specs.NameKind.TheVariants as named
 use Rattle.bike_operator.specs.OrderEnd.{OrderEnd}
 use Rattle.bike_operator.specs.OrderEnd.TheVariants as end
 use Rattle.bike_operator.specs.Side.{Side}
@@ -22,13 +25,14 @@ use Rattle.bike_operator.specs.declared.view.RentalView.{RentalView}
 use Rattle.bike_fields.specs.declared.numbers.TheConstants.{MOST_DOCKS}
 use Rattle.bike_operator.specs.Operator.{Operator, Station, Kept, texts_cmp, item_numbered}
 use Rattle.bike_operator.specs.Counts.{docked_at}
+use Rattle.bike_operator.specs.Names.{is_own_language}
 use Rattle.bike_operator.specs.View.{view_of, station_view, docked_view, rental_of, rental_view, has_region}
-use Rattle.bike_operator.specs.Steps.{on, tests, effect, key_changed, place_reported, bike_reported, bike_marked, bike_placed, after_start, after_end, after_recovery, refunded_by, placed_at_end, after_unload, new_station, dock_marked}
+use Rattle.bike_operator.specs.Steps.{on, tests, effect, key_changed, place_reported, bike_reported, bike_marked, bike_placed, after_start, after_end, after_recovery, refunded_by, placed_at_end, after_unload, system_named, own_name_set, further_name_set, new_station, dock_marked}
 use Rattle.bike_operator.specs.Sound.{IsCatalogueSound}
 use Rattle.bike_places.specs.Accepted.{AcceptedKeeps}
 use Rattle.bike_places.proofs.Moment.{at_moment, reports}
 use Rattle.bike_places.proofs.TestLemmas.{none_holds, dock_of, no_station, holds}
-use Rattle.bike_places.proofs.CatalogueLemmas.{region_stands, catalogue_of, same_catalogue, system_set, settings_kept, plan_added, type_added, type_changed, region_added, station_added, station_changed, station_reported, dock_marked_catalogue}
+use Rattle.bike_places.proofs.CatalogueLemmas.{region_stands, catalogue_of, same_catalogue, system_set, system_changed, settings_kept, plan_added, plan_changed, type_added, type_changed, region_added, region_changed, station_added, station_changed, station_reported, dock_marked_catalogue}
 
 later_catalogue : (s : Operator) (now : ℕ) (k : FinMap texts_cmp Kept) → s.now ≤ now → IsCatalogueSound s → IsCatalogueSound (at_moment s now k)
 later_catalogue s now k late h = same_catalogue s (at_moment s now k) late refl h
@@ -78,6 +82,50 @@ module _ (s : Operator) (now : ℕ) (k : FinMap texts_cmp Kept) (h : IsCatalogue
   unloaded_catalogue order bike From dock (Some o) = placed_catalogue bike o.from_end dock (after_unload order bike From dock now (Some o) s).orders
   unloaded_catalogue order bike To dock (Some o) = placed_catalogue bike o.to_end dock (after_unload order bike To dock now (Some o) s).orders
 
+-- ---- names
+
+-- a name within its bounds, in the system's language
+module _ (s : Operator) (now : ℕ) (k : FinMap texts_cmp Kept) (id name : List ℕ) (good : is_name name ≡ true) (h : IsCatalogueSound (at_moment s now k)) where
+  own_named_catalogue : (kind : NameKind) → IsCatalogueSound (at_moment (own_name_set kind id name s) now k)
+  own_named_catalogue named.System =
+      system_set (at_moment s now k) (option_map (system_named name) s.system)
+      (system_changed (system_named name)
+      (λ x old. record {
+        system_id = old.system_id;
+        language = old.language;
+        name = good;
+        opening_hours = old.opening_hours;
+        feed_contact_email = old.feed_contact_email;
+        timezone = old.timezone;
+        currency = old.currency;
+        base_url = old.base_url;
+        ttl = old.ttl;
+      }) s.system h.system) h
+  own_named_catalogue named.Station =
+      station_changed (at_moment s now k) id (λ x. record x { row = record x.row { name = name } })
+      (record {
+        id = λ x. refl;
+        docks = λ x. omega arith;
+        good = λ x found old. record { station_id = old.station_id; name = good; lat = old.lat; lon = old.lon; some_docks = old.some_docks; few_docks = old.few_docks };
+        by_now = λ x old. old;
+        region = λ x known. known;
+      }) h
+  own_named_catalogue named.Type =
+      type_changed (at_moment s now k) id (λ t. record t { name = name })
+      (record { id = λ t. refl; good = λ t old. record { type_id = old.type_id; name = good; max_range = old.max_range; plan_id = old.plan_id }; plan = λ t known. known }) h
+  own_named_catalogue named.Plan =
+      plan_changed (at_moment s now k) id (λ p. record p { name = name })
+      (record { id = λ p. refl; good = λ p old. record { plan_id = old.plan_id; name = good; price = old.price; description = old.description; segments = old.segments }; segments = λ p. refl }) h
+  own_named_catalogue named.Description =
+      plan_changed (at_moment s now k) id (λ p. record p { description = name })
+      (record { id = λ p. refl; good = λ p old. record { plan_id = old.plan_id; name = old.name; price = old.price; description = good; segments = old.segments }; segments = λ p. refl }) h
+  own_named_catalogue named.Region =
+      region_changed (at_moment s now k) id (λ r. record r { name = name }) (record { id = λ r. refl; good = λ r old. record { region_id = old.region_id; name = good } }) h
+
+  named_catalogue : (kind : NameKind) (language : List ℕ) (own : Bool) → IsCatalogueSound (at_moment (if own then own_name_set kind id name s else further_name_set kind id language name s) now k)
+  named_catalogue kind language true = own_named_catalogue kind
+  named_catalogue kind language false = same_catalogue (at_moment s now k) (at_moment (further_name_set kind id language name s) now k) (omega arith) refl h
+
 -- a number that isn't above the most there may be
 not_above : (n most : ℕ) → ltb most n ≡ false → n ≤ most
 not_above n most few = grind (arith, nat_tests, few)
@@ -118,7 +166,12 @@ catalogue_law s now (command.AddType t) k order good free late =
     }) no.1.1.0 (later_catalogue s now k late order.catalogue)
 catalogue_law s now (command.SetPlan type_id plan) k order good free late =
     let no = none_holds (tests (view_of s (command.SetPlan type_id plan)) (command.SetPlan type_id plan)) free in
-    type_changed (at_moment s now k) type_id plan (holds _ no.1.0) good.1.0 (later_catalogue s now k late order.catalogue)
+    type_changed (at_moment s now k) type_id (λ t. record t { plan_id = plan })
+    (record {
+      id = λ t. refl;
+      good = λ t old. record { type_id = old.type_id; name = old.name; max_range = old.max_range; plan_id = good.1.0 };
+      plan = λ t known. holds (map.contains_key s.plans plan) no.1.0;
+    }) (later_catalogue s now k late order.catalogue)
 catalogue_law s now (command.AddStation x) k order good free late =
     let no = none_holds (tests (view_of s (command.AddStation x)) (command.AddStation x)) free in
     station_added (at_moment s now k) (new_station x now) (record {
@@ -165,6 +218,9 @@ catalogue_law s now (command.SetRegion station region) k order good free late =
     station_changed (at_moment s now k) station (λ x. record x { region = region })
     (record { id = λ x. refl; docks = λ x. omega arith; good = λ x found good. good; by_now = λ x old. old; region = λ x known. there }) (later_catalogue s now k late order.catalogue)
 catalogue_law s now (command.AddName kind id language name) k order good free late = unchanged s now (command.AddName kind id language name) k late refl order.catalogue
+catalogue_law s now (command.SetName kind id language name) k order good free late =
+    named_catalogue s now k id name good.1.1.1.0 (later_catalogue s now k late order.catalogue) kind language (is_own_language s.system language)
+catalogue_law s now (command.RemoveName kind id language) k order good free late = unchanged s now (command.RemoveName kind id language) k late refl order.catalogue
 catalogue_law s now (command.ChangeSystem x) k order good free late =
     let settings : IsSettings x = record {
       name = good.0;
@@ -174,7 +230,7 @@ catalogue_law s now (command.ChangeSystem x) k order good free late =
       base_url = good.1.1.1.1.0;
       ttl = good.1.1.1.1.1.0.1;
     } in
-    system_set (at_moment s now k) (option_map (system_with x) s.system) (settings_kept x s.system settings order.catalogue.system) (later_catalogue s now k late order.catalogue)
+    system_set (at_moment s now k) (option_map (system_with x) s.system) (system_changed (system_with x) (settings_kept x settings) s.system order.catalogue.system) (later_catalogue s now k late order.catalogue)
 catalogue_law s now (command.MoveStation station p) k order good free late =
     station_changed (at_moment s now k) station (λ x. record x { row = moved_to p x.row })
     (record {

@@ -6,14 +6,13 @@ use Rattle.std.specs.FinMap as map
 use Rattle.std.specs.FinMap.{FinMap}
 use Rattle.std.specs.FinSet as set
 use Rattle.std.specs.FinSet.{FinSet}
-use Rattle.bike_operator.specs.Bytes.{is_ident}
-use Rattle.bike_operator.specs.Rows.{PlanRow, TypeRow, RegionRow, StationRow, SystemRow, SettingsRow, IsStation, IsSettings, system_with}
+use Rattle.bike_operator.specs.Rows.{PlanRow, TypeRow, RegionRow, SystemRow, SettingsRow, IsPlan, IsType, IsRegion, IsStation, IsSystem, IsSettings, system_with}
 use Rattle.bike_operator.specs.Operator.{Operator, Station, text_cmp, texts_cmp, DockKey, dock_key}
 use Rattle.bike_operator.specs.declared.limits.TheConstants.{MOST_PLANS, MOST_TYPES, MOST_REGIONS, MOST_STATIONS}
 use Rattle.bike_operator.specs.View.{has_region}
 use Rattle.bike_operator.specs.Steps.{key_changed, with_report, dock_marked}
 use Rattle.bike_operator.specs.Sound.{IsCatalogueSound, IsSetSystem, IsPlanAt, IsTypeAt, IsRegionAt, IsStationAt, HasDock, IsBrokenDock}
-use Rattle.bike_places.proofs.MapLemmas.{text_order, texts_order, tied, IsAdded, New, Old, IsChanged, Changed, Other, added_at, changed_at, kept_added, known_added, few_added, len_changed, IsKept, Same, Turned, kept_changed}
+use Rattle.bike_places.proofs.MapLemmas.{text_order, texts_order, tied, IsAdded, New, Old, IsChanged, Changed, Other, added_at, changed_at, kept_added, known_added, known_changed, few_added, len_changed, IsKept, Same, Turned, kept_changed}
 
 -- ---- docks that go on being there
 
@@ -98,10 +97,14 @@ system_set s o good h = record {
   few_stations = h.few_stations;
 }
 
--- with other settings, where it is set
-pub settings_kept : (x : SettingsRow) (o : Option SystemRow) → IsSettings x → IsSetSystem o → IsSetSystem (option_map (system_with x) o)
-settings_kept x None good old = tt
-settings_kept x (Some y) good old = record {
+-- changed, where it is set
+pub system_changed : (f : SystemRow → SystemRow) → ((x : SystemRow) → IsSystem x → IsSystem (f x)) → (o : Option SystemRow) → IsSetSystem o → IsSetSystem (option_map f o)
+system_changed f keeps None old = tt
+system_changed f keeps (Some x) old = keeps x old
+
+-- with other settings
+pub settings_kept : (x : SettingsRow) → IsSettings x → (y : SystemRow) → IsSystem y → IsSystem (system_with x y)
+settings_kept x good y old = record {
   system_id = old.system_id;
   language = old.language;
   name = good.name;
@@ -113,25 +116,49 @@ settings_kept x (Some y) good old = record {
   ttl = good.ttl;
 }
 
-pub plan_added : (s : Operator) (p : PlanRow) → IsPlanAt p.plan_id p → leb MOST_PLANS (map.len s.plans) ≡ false → IsCatalogueSound s → IsCatalogueSound (record s { plans = map.insert s.plans p.plan_id p })
-plan_added s p good full h =
-    let n : Operator = record s { plans = map.insert s.plans p.plan_id p } in
+-- plans with another list of them
+plans_changed : (s : Operator) (plans : FinMap text_cmp PlanRow) → ((id : List ℕ) (p : PlanRow) → map.get plans id ≡ Some p → IsPlanAt id p) → map.len plans ≤ MOST_PLANS
+    → ((id : List ℕ) → map.contains_key s.plans id ≡ true → map.contains_key plans id ≡ true) → IsCatalogueSound s → IsCatalogueSound (record s { plans = plans })
+plans_changed s plans each few known h =
+    let n : Operator = record s { plans = plans } in
     record {
       system = h.system;
-      plans = λ id q found. is_plan id q (added_at text_order s.plans p.plan_id p id q found);
-      types = λ id t found. let x = h.types id t found in record { id_is = x.id_is; good = x.good; plan = known_added text_order s.plans p.plan_id p t.plan_id x.plan };
+      plans = each;
+      types = λ id t found. let x = h.types id t found in record { id_is = x.id_is; good = x.good; plan = known t.plan_id x.plan };
       regions = h.regions;
       stations = λ id x found. station_stands s n (omega arith) (λ region known. known) id x (h.stations id x found);
       broken = λ key found. broken_stand s n key (same_docks s n refl) (h.broken key found);
-      few_plans = few_added text_order s.plans p.plan_id p MOST_PLANS full;
+      few_plans = few;
       few_types = h.few_types;
       few_regions = h.few_regions;
       few_stations = h.few_stations;
     }
+
+pub plan_added : (s : Operator) (p : PlanRow) → IsPlanAt p.plan_id p → leb MOST_PLANS (map.len s.plans) ≡ false → IsCatalogueSound s → IsCatalogueSound (record s { plans = map.insert s.plans p.plan_id p })
+plan_added s p good full h =
+    plans_changed s (map.insert s.plans p.plan_id p) (λ id q found. is_plan id q (added_at text_order s.plans p.plan_id p id q found)) (few_added text_order s.plans p.plan_id p MOST_PLANS full)
+    (known_added text_order s.plans p.plan_id p) h
   where
     is_plan : (id : List ℕ) (q : PlanRow) → IsAdded s.plans p.plan_id p id q → IsPlanAt id q
     is_plan id q (New same is) = rw (same, is) good
     is_plan id q (Old apart found) = h.plans id q found
+
+-- What a plan keeps that changes: its identifier, its bounds and its segments.
+pub record IsKeptPlan (f : PlanRow → PlanRow) : Type 0 where
+  pub id : (p : PlanRow) → (f p).plan_id ≡ p.plan_id
+  pub good : (p : PlanRow) → IsPlan p → IsPlan (f p)
+  pub segments : (p : PlanRow) → (f p).segments ≡ p.segments
+
+pub plan_changed : (s : Operator) (plan : List ℕ) (f : PlanRow → PlanRow) → IsKeptPlan f → IsCatalogueSound s → IsCatalogueSound (record s { plans = key_changed s.plans plan f })
+plan_changed s plan f keeps h =
+    plans_changed s (key_changed s.plans plan f) (λ id q found. is_plan id q (changed_at text_order s.plans plan f id q found)) (rw (len_changed text_order s.plans plan f) h.few_plans)
+    (known_changed text_order s.plans plan f) h
+  where
+    is_plan : (id : List ℕ) (q : PlanRow) → IsChanged s.plans plan f id q → IsPlanAt id q
+    is_plan id q (Changed p same found is) =
+        let old = h.plans plan p found in
+        subst (λ (z : PlanRow). IsPlanAt id z) (sym is) (record { id_is = same ∙ old.id_is ∙ sym (keeps.id p); good = keeps.good p old.good; segments = rw (keeps.segments p) old.segments })
+    is_plan id q (Other apart found) = h.plans id q found
 
 -- types with another list of them
 types_changed : (s : Operator) (types : FinMap text_cmp TypeRow) → ((id : List ℕ) (t : TypeRow) → map.get types id ≡ Some t → IsTypeAt s id t) → map.len types ≤ MOST_TYPES
@@ -159,45 +186,64 @@ type_added s t good full h =
     is_type id q (New same is) = rw (same, is) good
     is_type id q (Old apart found) = h.types id q found
 
-abbrev with_plan : List ℕ → TypeRow → TypeRow
-with_plan plan t = record t { plan_id = plan }
+-- What a type keeps that changes: its identifier, its bounds, and a plan that is there.
+pub record IsKeptType (s : Operator) (f : TypeRow → TypeRow) : Type 0 where
+  pub id : (t : TypeRow) → (f t).type_id ≡ t.type_id
+  pub good : (t : TypeRow) → IsType t → IsType (f t)
+  pub plan : (t : TypeRow) → map.contains_key s.plans t.plan_id ≡ true → map.contains_key s.plans (f t).plan_id ≡ true
 
--- a type gets another default plan
-pub type_changed : (s : Operator) (type_id plan : List ℕ) → map.contains_key s.plans plan ≡ true → is_ident plan ≡ true → IsCatalogueSound s
-    → IsCatalogueSound (record s { types = key_changed s.types type_id (λ t. record t { plan_id = plan }) })
-type_changed s type_id plan known good h =
-    types_changed s (key_changed s.types type_id (with_plan plan)) (λ id q found. is_type id q (changed_at text_order s.types type_id (with_plan plan) id q found))
-    (rw (len_changed text_order s.types type_id (with_plan plan)) h.few_types) h
+pub type_changed : (s : Operator) (type_id : List ℕ) (f : TypeRow → TypeRow) → IsKeptType s f → IsCatalogueSound s → IsCatalogueSound (record s { types = key_changed s.types type_id f })
+type_changed s type_id f keeps h =
+    types_changed s (key_changed s.types type_id f) (λ id q found. is_type id q (changed_at text_order s.types type_id f id q found)) (rw (len_changed text_order s.types type_id f) h.few_types) h
   where
-    is_type : (id : List ℕ) (q : TypeRow) → IsChanged s.types type_id (with_plan plan) id q → IsTypeAt s id q
+    is_type : (id : List ℕ) (q : TypeRow) → IsChanged s.types type_id f id q → IsTypeAt s id q
     is_type id q (Changed t same found is) =
         let old = h.types type_id t found in
-        rw is (record {
-          id_is = same ∙ old.id_is;
-          good = record { type_id = old.good.type_id; name = old.good.name; max_range = old.good.max_range; plan_id = good };
-          plan = known;
-        })
+        subst (λ (z : TypeRow). IsTypeAt s id z) (sym is) (record { id_is = same ∙ old.id_is ∙ sym (keeps.id t); good = keeps.good t old.good; plan = keeps.plan t old.plan })
     is_type id q (Other apart found) = h.types id q found
 
-pub region_added : (s : Operator) (r : RegionRow) → IsRegionAt r.region_id r → leb MOST_REGIONS (map.len s.regions) ≡ false → IsCatalogueSound s → IsCatalogueSound (record s { regions = map.insert s.regions r.region_id r })
-region_added s r good full h =
-    let n : Operator = record s { regions = map.insert s.regions r.region_id r } in
+-- regions with another list of them
+regions_changed : (s : Operator) (regions : FinMap text_cmp RegionRow) → ((id : List ℕ) (r : RegionRow) → map.get regions id ≡ Some r → IsRegionAt id r) → map.len regions ≤ MOST_REGIONS
+    → ((id : List ℕ) → map.contains_key s.regions id ≡ true → map.contains_key regions id ≡ true) → IsCatalogueSound s → IsCatalogueSound (record s { regions = regions })
+regions_changed s regions each few known h =
+    let n : Operator = record s { regions = regions } in
     record {
       system = h.system;
       plans = h.plans;
       types = λ id t found. let x = h.types id t found in record { id_is = x.id_is; good = x.good; plan = x.plan };
-      regions = λ id q found. is_region id q (added_at text_order s.regions r.region_id r id q found);
-      stations = λ id x found. station_stands s n (omega arith) (known_added text_order s.regions r.region_id r) id x (h.stations id x found);
+      regions = each;
+      stations = λ id x found. station_stands s n (omega arith) known id x (h.stations id x found);
       broken = λ key found. broken_stand s n key (same_docks s n refl) (h.broken key found);
       few_plans = h.few_plans;
       few_types = h.few_types;
-      few_regions = few_added text_order s.regions r.region_id r MOST_REGIONS full;
+      few_regions = few;
       few_stations = h.few_stations;
     }
+
+pub region_added : (s : Operator) (r : RegionRow) → IsRegionAt r.region_id r → leb MOST_REGIONS (map.len s.regions) ≡ false → IsCatalogueSound s → IsCatalogueSound (record s { regions = map.insert s.regions r.region_id r })
+region_added s r good full h =
+    regions_changed s (map.insert s.regions r.region_id r) (λ id q found. is_region id q (added_at text_order s.regions r.region_id r id q found)) (few_added text_order s.regions r.region_id r MOST_REGIONS full)
+    (known_added text_order s.regions r.region_id r) h
   where
     is_region : (id : List ℕ) (q : RegionRow) → IsAdded s.regions r.region_id r id q → IsRegionAt id q
     is_region id q (New same is) = rw (same, is) good
     is_region id q (Old apart found) = h.regions id q found
+
+-- What a region keeps that changes: its identifier and its bounds.
+pub record IsKeptRegion (f : RegionRow → RegionRow) : Type 0 where
+  pub id : (r : RegionRow) → (f r).region_id ≡ r.region_id
+  pub good : (r : RegionRow) → IsRegion r → IsRegion (f r)
+
+pub region_changed : (s : Operator) (region : List ℕ) (f : RegionRow → RegionRow) → IsKeptRegion f → IsCatalogueSound s → IsCatalogueSound (record s { regions = key_changed s.regions region f })
+region_changed s region f keeps h =
+    regions_changed s (key_changed s.regions region f) (λ id q found. is_region id q (changed_at text_order s.regions region f id q found)) (rw (len_changed text_order s.regions region f) h.few_regions)
+    (known_changed text_order s.regions region f) h
+  where
+    is_region : (id : List ℕ) (q : RegionRow) → IsChanged s.regions region f id q → IsRegionAt id q
+    is_region id q (Changed r same found is) =
+        let old = h.regions region r found in
+        subst (λ (z : RegionRow). IsRegionAt id z) (sym is) (record { id_is = same ∙ old.id_is ∙ sym (keeps.id r); good = keeps.good r old.good })
+    is_region id q (Other apart found) = h.regions id q found
 
 -- stations with another list of them
 stations_changed : (s : Operator) (stations : FinMap text_cmp Station) → ((id : List ℕ) (x : Station) → map.get stations id ≡ Some x → IsStationAt s id x) → map.len stations ≤ MOST_STATIONS

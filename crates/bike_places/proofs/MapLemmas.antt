@@ -2,7 +2,7 @@
 use Rattle.std.proofs.Common.{◌≡◌, ℕ, ◌+◌, ◌≤◌, ◌<◌, Bool, true, false, cond, leb, Option, Some, None, is_some, refl, sym, ap, ◌∙◌, arith}
 use Rattle.std.specs.Ordering.{nat_cmp, eq_by_cmp}
 use Rattle.std.specs.declared.cmp.Ordering.{Ordering}
-use Rattle.std.specs.Cmp.{IsTotalOrder, Equal-is, nat_cmp_total}
+use Rattle.std.specs.Cmp.{IsTotalOrder, Equal-is, eq_by_cmp_equiv, nat_cmp_total}
 use Rattle.std.specs.Cmp.Lexicographic.{nat_list_cmp_total, lists_total}
 use Rattle.std.specs.FinMap as map
 use Rattle.std.specs.FinMap.{FinMap}
@@ -110,6 +110,37 @@ module _ {K : Type 0} {R : K → K → Ordering} (o : IsKeyOrder R) where
 
     pub known_changed : (m : FinMap R X) (k : K) (f : X → X) (q : K) → map.contains_key m q ≡ true → map.contains_key (key_changed m k f) q ≡ true
     known_changed m k f q h = let x = there_of (map.get m q) h in let y = kept_changed m k f q x.0 x.1 in ap is_some y.found
+
+    -- the record that is there, again
+    insert-same : (m : FinMap R X) (k : K) (v : X) → map.get m k ≡ Some v → map.insert m k v ≡ m
+    insert-same m k v h = map.same_map o.total o.same (map.insert m k v) m (λ q. map.get-insert o.total m k v q ∙ go q (eq_by_cmp R q k) refl) where
+      go : (q : K) (b : Bool) → eq_by_cmp R q k ≡ b → cond b (Some v) (map.get m q) ≡ map.get m q
+      go q true t = let same = tied q k t in cc
+      go q false t = refl
+
+    -- a record in place of one that was removed
+    pub insert-remove : (m : FinMap R X) (k : K) (v : X) → map.insert (map.remove m k) k v ≡ map.insert m k v
+    insert-remove m k v =
+        map.same_map o.total o.same (map.insert (map.remove m k) k v) (map.insert m k v)
+        (λ q. map.get-insert o.total (map.remove m k) k v q ∙ ap (cond (eq_by_cmp R q k) (Some v)) (map.get-remove o.total m k q) ∙ go q (eq_by_cmp R q k) ∙ sym (map.get-insert o.total m k v q))
+      where
+        go : (q : K) (b : Bool) → cond b (Some v) (cond b None (map.get m q)) ≡ cond b (Some v) (map.get m q)
+        go q true = refl
+        go q false = refl
+
+    -- a record that was removed, put back
+    pub put_back : (m : FinMap R X) (k : K) (v : X) → map.get m k ≡ Some v → map.insert (map.remove m k) k v ≡ m
+    put_back m k v h = insert-remove m k v ∙ insert-same m k v h
+
+    pub removed_gone : (m : FinMap R X) (k : K) → map.get (map.remove m k) k ≡ None
+    removed_gone m k = map.get-remove o.total m k k ∙ ap (λ (b : Bool). cond b None (map.get m k)) ((eq_by_cmp_equiv o.total).refl k)
+
+    -- what stands where a record was removed was there
+    pub removed_at : (m : FinMap R X) (k q : K) (y : X) → map.get (map.remove m k) q ≡ Some y → map.get m q ≡ Some y
+    removed_at m k q y h = go (eq_by_cmp R q k) (sym (map.get-remove o.total m k q) ∙ h) where
+      go : (b : Bool) → cond b None (map.get m q) ≡ Some y → map.get m q ≡ Some y
+      go true e = absurd cc
+      go false e = e
 
     len_found : (m : FinMap R X) (k : K) (f : X → X) (x : Option X) → map.get m k ≡ x → map.len (found_changed m k f x) ≡ map.len m
     len_found m k f None e = refl

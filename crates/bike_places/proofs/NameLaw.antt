@@ -1,9 +1,12 @@
 -- An accepted command keeps names in further languages sound.
-use Rattle.std.proofs.Common.{◌≡◌, ℕ, ◌+◌, ◌<◌, List, length, true, false, leb, Option, Some, None, is_some, refl, arith, if◌then◌else◌}
+use Rattle.std.proofs.Common.{◌≡◌, ℕ, ◌+◌, ◌<◌, List, length, Bool, true, false, not, ◌||◌, leb, Option, Some, None, is_some, refl, arith, if◌then◌else◌}
 use Rattle.std.specs.FinMap as map
 use Rattle.std.specs.FinMap.{FinMap}
 use Rattle.std.proofs.lemmas.Bool.Decides.{nat_tests}
-use Rattle.bike_operator.specs.Rows.{PlanRow, TypeRow, RegionRow, moved_to, more_docks}
+use Rattle.bike_operator.specs.Bytes.{is_name}
+use Rattle.bike_operator.specs.Rows.{PlanRow, TypeRow, RegionRow, moved_to, more_docks, system_with}
+use Rattle.bike_operator.specs.NameKind.{NameKind}
+use Rattle.bike_operator.specs.NameKind.TheVariants as named
 use Rattle.bike_operator.specs.OrderEnd.{OrderEnd}
 use Rattle.bike_operator.specs.OrderEnd.TheVariants as end
 use Rattle.bike_operator.specs.Side.{Side}
@@ -20,15 +23,15 @@ use Rattle.bike_operator.specs.declared.view.DockedBike.{DockedBike}
 use Rattle.bike_operator.specs.declared.view.RentalView.{RentalView}
 use Rattle.bike_operator.specs.Operator.{Operator, Station, Kept, text_cmp, texts_cmp, name_key, item_numbered}
 use Rattle.bike_operator.specs.Counts.{docked_at}
-use Rattle.bike_operator.specs.Names.{is_own_language, has_named, further_names}
+use Rattle.bike_operator.specs.Names.{is_own_language, has_named, has_language, further_names}
 use Rattle.bike_operator.specs.View.{view_of, end_at, docked_view, rental_of, rental_view}
-use Rattle.bike_operator.specs.Steps.{tests, effect, key_changed, with_report, place_reported, bike_reported, bike_marked, bike_placed, rental_added, with_fare, after_start, after_end, after_recovery, refunded_by, with_delivery, placed_at_end, after_unload, new_station, dock_marked}
+use Rattle.bike_operator.specs.Steps.{tests, effect, key_changed, with_report, place_reported, bike_reported, bike_marked, bike_placed, rental_added, with_fare, after_start, after_end, after_recovery, refunded_by, with_delivery, placed_at_end, after_unload, system_named, own_name_set, further_name_set, further_name_removed, new_station, dock_marked}
 use Rattle.bike_operator.specs.Sound.{AreNamesSound}
 use Rattle.bike_places.specs.Accepted.{AcceptedKeeps}
 use Rattle.bike_places.proofs.Moment.{at_moment, reports}
-use Rattle.bike_places.proofs.MapLemmas.{text_order, known_added, known_changed}
+use Rattle.bike_places.proofs.MapLemmas.{there_of, text_order, known_added, known_changed}
 use Rattle.bike_places.proofs.TestLemmas.{none_holds, none_of, holds, neither}
-use Rattle.bike_places.proofs.NameLemmas.{KeepsNamed, named_parts, same_named, names_kept, system_set_names, settings_changed_names, name_added}
+use Rattle.bike_places.proofs.NameLemmas.{KeepsNamed, named_parts, same_named, names_kept, system_set_names, system_changed_names, name_added, name_changed, name_removed}
 
 -- the further names are the same, and what has them goes on being there
 record KeepsNames (s n : Operator) : Type 0 where
@@ -131,6 +134,55 @@ unchanged : (s : Operator) (now : ℕ) (c : Command) (k : FinMap texts_cmp Kept)
     → AreNamesSound (at_moment (effect s now c) now k)
 unchanged s now c k names parts h = kept_names s (effect s now c) now k (others s (effect s now c) names parts) h
 
+-- ---- names that change
+
+-- the name in the system's language: the further names stay
+module _ (s : Operator) (now : ℕ) (k : FinMap texts_cmp Kept) (id name : List ℕ) (h : AreNamesSound s) where
+  own_named_names : (kind : NameKind) → AreNamesSound (at_moment (own_name_set kind id name s) now k)
+  own_named_names named.System =
+      let n : Operator = own_name_set named.System id name s in
+      kept_names n n now k (others n n refl refl) (system_changed_names (system_named name) (record { id = λ x. refl; language = λ x. refl }) s h)
+  own_named_names named.Station =
+      let f : Station → Station = λ x. record x { row = record x.row { name = name } } in
+      kept_names s (own_name_set named.Station id name s) now k (with_stations s (key_changed s.stations id f) (known_changed text_order s.stations id f)) h
+  own_named_names named.Type =
+      let f : TypeRow → TypeRow = λ t. record t { name = name } in
+      kept_names s (own_name_set named.Type id name s) now k (with_types s (key_changed s.types id f) (known_changed text_order s.types id f)) h
+  own_named_names named.Plan =
+      let f : PlanRow → PlanRow = λ p. record p { name = name } in
+      kept_names s (own_name_set named.Plan id name s) now k (with_plans s (key_changed s.plans id f) (known_changed text_order s.plans id f)) h
+  own_named_names named.Description =
+      let f : PlanRow → PlanRow = λ p. record p { description = name } in
+      kept_names s (own_name_set named.Description id name s) now k (with_plans s (key_changed s.plans id f) (known_changed text_order s.plans id f)) h
+  own_named_names named.Region =
+      let f : RegionRow → RegionRow = λ r. record r { name = name } in
+      kept_names s (own_name_set named.Region id name s) now k (with_regions s (key_changed s.regions id f) (known_changed text_order s.regions id f)) h
+
+-- a language in which there is a name, and which isn't the system's
+further_there : (own there : Bool) → not (own || there) ≡ false → own ≡ false → there ≡ true
+further_there true there has further = absurd cc
+further_there false true has further = refl
+further_there false false has further = absurd cc
+
+module _ (s : Operator) (now : ℕ) (k : FinMap texts_cmp Kept) (kind : NameKind) (id language : List ℕ) (has : not (has_language s kind id language) ≡ false) (h : AreNamesSound s) where
+  old_name : is_own_language s.system language ≡ false → (old : List ℕ) × (map.get s.more_names (name_key kind id language) ≡ Some old)
+  old_name further =
+      there_of (map.get s.more_names (name_key kind id language)) (further_there (is_own_language s.system language) (map.contains_key s.more_names (name_key kind id language)) has further)
+
+  named_names : (name : List ℕ) → is_name name ≡ true → (own : Bool) → is_own_language s.system language ≡ own
+      → AreNamesSound (at_moment (if own then own_name_set kind id name s else further_name_set kind id language name s) now k)
+  named_names name good true is = own_named_names s now k id name h kind
+  named_names name good false is =
+      let old = old_name is in
+      let n : Operator = further_name_set kind id language name s in
+      kept_names n n now k (others n n refl refl) (name_changed s (name_key kind id language) name old.0 old.1 good h)
+
+  unnamed_names : is_own_language s.system language ≡ false → AreNamesSound (at_moment (further_name_removed kind id language s) now k)
+  unnamed_names further =
+      let old = old_name further in
+      let n : Operator = further_name_removed kind id language s in
+      kept_names n n now k (others n n refl refl) (name_removed s (name_key kind id language) old.0 old.1 h)
+
 room_left : (n most : ℕ) → leb most n ≡ false → n < most
 room_left n most full = grind (arith, nat_tests, full)
 
@@ -199,9 +251,16 @@ names_law s now (command.AddName kind id language name) k order good free late =
       named = holds (has_named s kind id) no.1.0;
       further = new.0;
     }) (none_of (map.get s.more_names (name_key kind id language)) new.1) (room_left (length (further_names s kind id)) MOST_FURTHER_NAMES no.1.1.1.0) order.names)
+names_law s now (command.SetName kind id language name) k order good free late =
+    let no = none_holds (tests (view_of s (command.SetName kind id language name)) (command.SetName kind id language name)) free in
+    named_names s now k kind id language no.1.1.0 order.names name good.1.1.1.0 (is_own_language s.system language) refl
+names_law s now (command.RemoveName kind id language) k order good free late =
+    let no = none_holds (tests (view_of s (command.RemoveName kind id language)) (command.RemoveName kind id language)) free in
+    let has = neither (not (has_language s kind id language)) (is_own_language s.system language) no.1.1.0 in
+    unnamed_names s now k kind id language has.0 order.names has.1
 names_law s now (command.ChangeSystem x) k order good free late =
     let n : Operator = effect s now (command.ChangeSystem x) in
-    kept_names n n now k (others n n refl refl) (settings_changed_names x s order.names)
+    kept_names n n now k (others n n refl refl) (system_changed_names (system_with x) (record { id = λ y. refl; language = λ y. refl }) s order.names)
 names_law s now (command.MoveStation station p) k order good free late =
     let f : Station → Station = λ x. record x { row = moved_to p x.row } in
     kept_names s (effect s now (command.MoveStation station p)) now k (with_stations s (key_changed s.stations station f) (known_changed text_order s.stations station f)) order.names

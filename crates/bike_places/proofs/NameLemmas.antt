@@ -9,7 +9,8 @@ use Rattle.std.specs.FinMap as map
 use Rattle.std.specs.FinMap.{FinMap}
 use Rattle.std.specs.FinMap.Entries.{put, by_order}
 use Rattle.std.proofs.lemmas.List.{length-map}
-use Rattle.bike_operator.specs.Rows.{PlanRow, TypeRow, RegionRow, SystemRow, SettingsRow, system_with}
+use Rattle.bike_operator.specs.Bytes.{is_name}
+use Rattle.bike_operator.specs.Rows.{PlanRow, TypeRow, RegionRow, SystemRow}
 use Rattle.bike_operator.specs.NameKinds.{kind_text}
 use Rattle.bike_operator.specs.NameKind.{NameKind}
 use Rattle.bike_operator.specs.NameKind.TheVariants as named
@@ -18,7 +19,7 @@ use Rattle.bike_operator.specs.Operator.{Operator, Station, text_cmp, texts_cmp,
 use Rattle.bike_operator.specs.Counts.{count}
 use Rattle.bike_operator.specs.Names.{is_system, is_own_language, has_named, part_at, is_name_of, further_names}
 use Rattle.bike_operator.specs.Sound.{IsNameAt, AreNamesSound}
-use Rattle.bike_places.proofs.MapLemmas.{IsKeyOrder, texts_order, IsAdded, New, Old, added_at}
+use Rattle.bike_places.proofs.MapLemmas.{IsKeyOrder, texts_order, IsAdded, New, Old, added_at, insert-remove, put_back, removed_gone, removed_at}
 use Rattle.bike_places.proofs.CountLemmas.{one, count-cons}
 use Rattle.bike_places.proofs.TestLemmas.{same_bytes}
 
@@ -41,6 +42,16 @@ module _ {K X : Type 0} {R : K → K → Ordering} (o : IsKeyOrder R) (test : K 
 
   pub count_key-added : (m : FinMap R X) (k : K) (v : X) → map.get m k ≡ None → count (λ e. test e.0) (map.entries (map.insert m k v)) ≡ count (λ e. test e.0) (map.entries m) + one (test k)
   count_key-added m k v free = rw (map.entries-insert o.total m k v) (count_key-put k v (map.entries m) (sym (map.get-entries m k) ∙ free))
+
+  -- a key removed: so many fewer pass
+  pub count_key-removed : (m : FinMap R X) (k : K) (v : X) → map.get m k ≡ Some v → count (λ e. test e.0) (map.entries (map.remove m k)) + one (test k) ≡ count (λ e. test e.0) (map.entries m)
+  count_key-removed m k v found =
+      sym (count_key-added (map.remove m k) k v (removed_gone o m k)) ∙ ap (λ (z : FinMap R X). count (λ e. test e.0) (map.entries z)) (put_back o m k v found)
+
+  -- under a key that is there: as many pass
+  pub count_key-set : (m : FinMap R X) (k : K) (v x : X) → map.get m k ≡ Some x → count (λ e. test e.0) (map.entries (map.insert m k v)) ≡ count (λ e. test e.0) (map.entries m)
+  count_key-set m k v x found =
+      ap (λ (z : FinMap R X). count (λ e. test e.0) (map.entries z)) (sym (insert-remove o m k v)) ∙ count_key-added (map.remove m k) k v (removed_gone o m k) ∙ count_key-removed m k x found
 
 -- ---- how many further names there are of what has a kind and an identifier
 
@@ -139,21 +150,26 @@ names_kept s n same keeps h = record {
 pub system_set_names : (s : Operator) (x : SystemRow) → is_some s.system ≡ false → AreNamesSound s → AreNamesSound (record s { system = Some x })
 system_set_names s x unset h = record { names = λ key name found. let set = (h.names key name found).set in absurd cc; few = h.few }
 
--- the system gets other settings: it goes on being set, under its identifier and with its language
-module _ (x : SettingsRow) where
-  still_set : (o : Option SystemRow) → is_some (option_map (system_with x) o) ≡ is_some o
+-- What the system keeps that changes: its identifier and its language.
+pub record IsKeptSystem (f : SystemRow → SystemRow) : Type 0 where
+  pub id : (x : SystemRow) → (f x).system_id ≡ x.system_id
+  pub language : (x : SystemRow) → (f x).language ≡ x.language
+
+-- the system changes: it goes on being set
+module _ (f : SystemRow → SystemRow) (keeps : IsKeptSystem f) where
+  still_set : (o : Option SystemRow) → is_some (option_map f o) ≡ is_some o
   still_set None = refl
   still_set (Some y) = refl
 
-  still_system : (o : Option SystemRow) (id : List ℕ) → is_system (option_map (system_with x) o) id ≡ is_system o id
+  still_system : (o : Option SystemRow) (id : List ℕ) → is_system (option_map f o) id ≡ is_system o id
   still_system None id = refl
-  still_system (Some y) id = refl
+  still_system (Some y) id = ap (λ (own : List ℕ). bytes_eq own id) (keeps.id y)
 
-  still_own_language : (o : Option SystemRow) (language : List ℕ) → is_own_language (option_map (system_with x) o) language ≡ is_own_language o language
+  still_own_language : (o : Option SystemRow) (language : List ℕ) → is_own_language (option_map f o) language ≡ is_own_language o language
   still_own_language None language = refl
-  still_own_language (Some y) language = refl
+  still_own_language (Some y) language = ap (λ (own : List ℕ). bytes_eq own language) (keeps.language y)
 
-  still_named : (s : Operator) (kind : NameKind) (id : List ℕ) → has_named s kind id ≡ true → has_named (record s { system = option_map (system_with x) s.system }) kind id ≡ true
+  still_named : (s : Operator) (kind : NameKind) (id : List ℕ) → has_named s kind id ≡ true → has_named (record s { system = option_map f s.system }) kind id ≡ true
   still_named s named.System id h = still_system s.system id ∙ h
   still_named s named.Station id h = h
   still_named s named.Type id h = h
@@ -161,7 +177,7 @@ module _ (x : SettingsRow) where
   still_named s named.Description id h = h
   still_named s named.Region id h = h
 
-  still_name : (s : Operator) (key : NameKey) (name : List ℕ) → IsNameAt s key name → IsNameAt (record s { system = option_map (system_with x) s.system }) key name
+  still_name : (s : Operator) (key : NameKey) (name : List ℕ) → IsNameAt s key name → IsNameAt (record s { system = option_map f s.system }) key name
   still_name s key name h = record {
     kind = h.kind;
     id = h.id;
@@ -174,8 +190,8 @@ module _ (x : SettingsRow) where
     further = still_own_language s.system h.language ∙ h.further;
   }
 
-  pub settings_changed_names : (s : Operator) → AreNamesSound s → AreNamesSound (record s { system = option_map (system_with x) s.system })
-  settings_changed_names s h = record { names = λ key name found. still_name s key name (h.names key name found); few = h.few }
+  pub system_changed_names : (s : Operator) → AreNamesSound s → AreNamesSound (record s { system = option_map f s.system })
+  system_changed_names s h = record { names = λ key name found. still_name s key name (h.names key name found); few = h.few }
 
 pub name_added : (s : Operator) (kind : NameKind) (id language name : List ℕ) → IsNameAt s (name_key kind id language) name → map.get s.more_names (name_key kind id language) ≡ None
     → length (further_names s kind id) < MOST_FURTHER_NAMES → AreNamesSound s → AreNamesSound (record s { more_names = map.insert s.more_names (name_key kind id language) name })
@@ -190,3 +206,48 @@ name_added s kind id language name good free room h =
     is_name : (n : Operator) → KeepsNamed s n → (key : NameKey) (y : List ℕ) → IsAdded s.more_names (name_key kind id language) name key y → IsNameAt n key y
     is_name n keeps key y (New same is) = name_stands s n keeps key y (rw (same, is) good)
     is_name n keeps key y (Old apart found) = name_stands s n keeps key y (h.names key y found)
+
+-- a further name that is there becomes another
+pub name_changed : (s : Operator) (key : NameKey) (name old : List ℕ) → map.get s.more_names key ≡ Some old → is_name name ≡ true → AreNamesSound s → AreNamesSound (record s { more_names = map.insert s.more_names key name })
+name_changed s key name old found good h =
+    let n : Operator = record s { more_names = map.insert s.more_names key name } in
+    record {
+      names = λ other y is. name_stands s n (same_named s n refl) other y (is_named other y (added_at texts_order s.more_names key name other y is));
+      few = λ kind id.
+          let all = names_counted n kind id in
+          let before = names_counted s kind id in
+          let same = count_key-set texts_order (is_name_of kind id) s.more_names key name old found in
+          let few = h.few kind id in
+          omega (arith, all, before, same, few);
+    }
+  where
+    renamed : (y : List ℕ) → IsNameAt s key y → IsNameAt s key name
+    renamed y is = record {
+      kind = is.kind;
+      id = is.id;
+      language = is.language;
+      key_is = is.key_is;
+      good_id = is.good_id;
+      good = record { language = is.good.language; name = good };
+      set = is.set;
+      named = is.named;
+      further = is.further;
+    }
+
+    is_named : (other : NameKey) (y : List ℕ) → IsAdded s.more_names key name other y → IsNameAt s other y
+    is_named other y (New same is) = rw (same, is) (renamed old (h.names key old found))
+    is_named other y (Old apart there) = h.names other y there
+
+-- a further name that is there goes
+pub name_removed : (s : Operator) (key : NameKey) (old : List ℕ) → map.get s.more_names key ≡ Some old → AreNamesSound s → AreNamesSound (record s { more_names = map.remove s.more_names key })
+name_removed s key old found h =
+    let n : Operator = record s { more_names = map.remove s.more_names key } in
+    record {
+      names = λ other y is. name_stands s n (same_named s n refl) other y (h.names other y (removed_at texts_order s.more_names key other y is));
+      few = λ kind id.
+          let all = names_counted n kind id in
+          let before = names_counted s kind id in
+          let fewer = count_key-removed texts_order (is_name_of kind id) s.more_names key old found in
+          let few = h.few kind id in
+          omega (arith, all, before, fewer, few);
+    }

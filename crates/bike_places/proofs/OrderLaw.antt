@@ -1,9 +1,11 @@
 -- An accepted command keeps trucks and orders sound.
-use Rattle.std.proofs.Common.{◌≡◌, ℕ, ◌+◌, ◌≤◌, ◌<◌, List, true, false, nat_lt, leb, Option, Some, None, refl, arith, length, if◌then◌else◌}
+use Rattle.std.proofs.Common.{◌≡◌, ℕ, ◌+◌, ◌≤◌, ◌<◌, List, Bool, true, false, nat_lt, leb, Option, Some, None, refl, arith, length, if◌then◌else◌}
 use Rattle.std.specs.FinMap as map
 use Rattle.std.specs.FinMap.{FinMap}
 use Rattle.std.proofs.lemmas.Bool.Decides.{nat_tests}
-use Rattle.bike_operator.specs.Rows.{moved_to, more_docks}
+use Rattle.bike_operator.specs.Rows.{TypeRow, moved_to, more_docks}
+use Rattle.bike_operator.specs.NameKind.{NameKind}
+use Rattle.bike_operator.specs.NameKind.TheVariants as named
 use Rattle.bike_operator.specs.OrderEnd.{OrderEnd}
 use Rattle.bike_operator.specs.OrderEnd.TheVariants as end
 use Rattle.bike_operator.specs.Side.{Side}
@@ -20,8 +22,9 @@ use Rattle.bike_operator.specs.declared.view.RentalView.{RentalView}
 use Rattle.bike_operator.specs.declared.view.TruckView.{TruckView}
 use Rattle.bike_operator.specs.Operator.{Operator, Station, Kept, texts_cmp, item_numbered}
 use Rattle.bike_operator.specs.Counts.{docked_at, is_for_order, truck_load, order_load}
+use Rattle.bike_operator.specs.Names.{is_own_language}
 use Rattle.bike_operator.specs.View.{view_of, truck_view, docked_view, rental_of, rental_view, end_at, has_end}
-use Rattle.bike_operator.specs.Steps.{tests, effect, key_changed, with_report, place_reported, bike_reported, bike_marked, bike_placed, after_start, after_end, after_recovery, refunded_by, placed_at_end, with_delivery, new_station, dock_marked}
+use Rattle.bike_operator.specs.Steps.{tests, effect, key_changed, with_report, place_reported, bike_reported, bike_marked, bike_placed, after_start, after_end, after_recovery, refunded_by, placed_at_end, with_delivery, own_name_set, further_name_set, new_station, dock_marked}
 use Rattle.bike_operator.specs.Sound.{IsOrderAt, AreOrdersSound}
 use Rattle.bike_places.specs.Accepted.{AcceptedKeeps}
 use Rattle.bike_places.proofs.Moment.{at_moment, reports}
@@ -127,6 +130,25 @@ not_below a b e = grind (arith, nat_tests, e)
 end_later : (s : Operator) (now : ℕ) (k : FinMap texts_cmp Kept) (e : OrderEnd) → has_end s e ≡ true → has_end (at_moment s now k) e ≡ true
 end_later s now k e h = end_stands s (at_moment s now k) (λ id known. known) e h
 
+-- ---- names
+
+own_named_orders : (s : Operator) (now : ℕ) (k : FinMap texts_cmp Kept) (kind : NameKind) (id name : List ℕ) → AreOrdersSound s → AreOrdersSound (at_moment (own_name_set kind id name s) now k)
+own_named_orders s now k named.System id name h = same_orders s (at_moment (own_name_set named.System id name s) now k) refl h
+own_named_orders s now k named.Station id name h =
+    let f : Station → Station = λ x. record x { row = record x.row { name = name } } in
+    known_orders (at_moment s now k) s.types (key_changed s.stations id f) (λ id known. known) (known_changed text_order s.stations id f) (later_orders s now k h)
+own_named_orders s now k named.Type id name h =
+    let f : TypeRow → TypeRow = λ t. record t { name = name } in
+    known_orders (at_moment s now k) (key_changed s.types id f) s.stations (known_changed text_order s.types id f) (λ id known. known) (later_orders s now k h)
+own_named_orders s now k named.Plan id name h = same_orders s (at_moment (own_name_set named.Plan id name s) now k) refl h
+own_named_orders s now k named.Description id name h = same_orders s (at_moment (own_name_set named.Description id name s) now k) refl h
+own_named_orders s now k named.Region id name h = same_orders s (at_moment (own_name_set named.Region id name s) now k) refl h
+
+named_orders : (s : Operator) (now : ℕ) (k : FinMap texts_cmp Kept) (kind : NameKind) (id language name : List ℕ) (own : Bool) → AreOrdersSound s
+    → AreOrdersSound (at_moment (if own then own_name_set kind id name s else further_name_set kind id language name s) now k)
+named_orders s now k kind id language name true h = own_named_orders s now k kind id name h
+named_orders s now k kind id language name false h = same_orders s (at_moment (further_name_set kind id language name s) now k) refl h
+
 -- ---- all commands
 
 -- a command that leaves trucks and orders alone, and what they need
@@ -203,6 +225,8 @@ orders_law s now (command.SetRegion station region) k order good free late =
     let f : Station → Station = λ x. record x { region = region } in
     known_orders (at_moment s now k) s.types (key_changed s.stations station f) (λ id known. known) (known_changed text_order s.stations station f) (later_orders s now k order.orders)
 orders_law s now (command.AddName kind id language name) k order good free late = unchanged s now (command.AddName kind id language name) k refl order.orders
+orders_law s now (command.SetName kind id language name) k order good free late = named_orders s now k kind id language name (is_own_language s.system language) order.orders
+orders_law s now (command.RemoveName kind id language) k order good free late = unchanged s now (command.RemoveName kind id language) k refl order.orders
 orders_law s now (command.ChangeSystem x) k order good free late = unchanged s now (command.ChangeSystem x) k refl order.orders
 orders_law s now (command.MoveStation station p) k order good free late =
     let f : Station → Station = λ x. record x { row = moved_to p x.row } in

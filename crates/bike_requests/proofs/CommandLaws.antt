@@ -13,12 +13,12 @@ use Rattle.bike_texts.proofs.Splitting.{is_tab}
 use Rattle.bike_texts.proofs.TabFree.{AreRead, split_join, parts_no_tab, part_is}
 use Rattle.bike_texts.proofs.Chains.{pick}
 use Rattle.bike_commands.specs.declared.command.Command.{Command}
-use Rattle.bike_commands.specs.declared.command.Command.TheVariants.{SetSystem, AddPlan, AddType, SetPlan, AddStation, SetStation, MarkDock, AddBike, MarkBike, RetireBike, AddTruck, AddRider, SetRider, TopUp, Start, End, Recover, Refund, OpenOrder, Load, Unload, CloseOrder, AddRegion, SetRegion, AddName, ChangeSystem, MoveStation, AddDocks}
+use Rattle.bike_commands.specs.declared.command.Command.TheVariants.{SetSystem, AddPlan, AddType, SetPlan, AddStation, SetStation, MarkDock, AddBike, MarkBike, RetireBike, AddTruck, AddRider, SetRider, TopUp, Start, End, Recover, Refund, OpenOrder, Load, Unload, CloseOrder, AddRegion, SetRegion, AddName, SetName, RemoveName, ChangeSystem, MoveStation, AddDocks}
 use Rattle.bike_commands.specs.Commands.{word_of, fields_of, IsCommand, IsSpelling}
 use Rattle.bike_requests.specs.Spelling.{SpellsCommand}
 use Rattle.bike_requests.specs.Readers.{command_by, command_at}
 use Rattle.bike_requests.proofs.KindLaws.{Left, set_plan_sound, set_plan_full, set_station_sound, set_station_full, mark_dock_sound, mark_dock_full, add_bike_sound, add_bike_full, mark_bike_sound, mark_bike_full, retire_bike_sound, retire_bike_full, add_truck_sound, add_truck_full, add_rider_sound, add_rider_full, set_rider_sound, set_rider_full, top_up_sound, top_up_full, start_sound, start_full, end_sound, end_full, recover_sound, recover_full, refund_sound, refund_full, open_order_sound, open_order_full, load_sound, load_full, unload_sound, unload_full, close_order_sound, close_order_full, set_region_sound, set_region_full, add_docks_sound, add_docks_full}
-use Rattle.bike_requests.proofs.RecordLaws.{set_system_sound, set_system_full, add_plan_sound, add_plan_full, add_type_sound, add_type_full, add_station_sound, add_station_full, add_region_sound, add_region_full, add_name_sound, add_name_full, change_system_sound, change_system_full, move_station_sound, move_station_full}
+use Rattle.bike_requests.proofs.RecordLaws.{set_system_sound, set_system_full, add_plan_sound, add_plan_full, add_type_sound, add_type_full, add_station_sound, add_station_full, add_region_sound, add_region_full, add_name_sound, add_name_full, set_name_sound, set_name_full, remove_name_sound, remove_name_full, change_system_sound, change_system_full, move_station_sound, move_station_full}
 
 as_word : {word w : List ℕ} {c : Command} {ps : Parts} → word ≡ w → Left w c [] ps → Left word c [] ps
 as_word {c = c} {ps = ps} same left = subst (λ (v : List ℕ). Left v c [] ps) (sym same) left
@@ -51,10 +51,12 @@ by_word_sound word ps c e =
     pick e (λ w e. as_word w (add_region_sound ps c e)) (λ e.
     pick e (λ w e. as_word w (set_region_sound ps c e)) (λ e.
     pick e (λ w e. as_word w (add_name_sound ps c e)) (λ e.
+    pick e (λ w e. as_word w (set_name_sound ps c e)) (λ e.
+    pick e (λ w e. as_word w (remove_name_sound ps c e)) (λ e.
     pick e (λ w e. as_word w (change_system_sound ps c e)) (λ e.
     pick e (λ w e. as_word w (move_station_sound ps c e)) (λ e.
     pick e (λ w e. as_word w (add_docks_sound ps c e)) (λ e.
-    absurd cc))))))))))))))))))))))))))))
+    absurd cc))))))))))))))))))))))))))))))
 
 by_word_full : (c : Command) (ps : Parts) → AreRead (fields_of c) ps → command_by (word_of c) ps ≡ Some c
 unfolding command_by
@@ -83,6 +85,8 @@ by_word_full (CloseOrder order) ps read = close_order_full order ps read
 by_word_full (AddRegion row) ps read = add_region_full row ps read
 by_word_full (SetRegion station region) ps read = set_region_full station region ps read
 by_word_full (AddName kind id language name) ps read = add_name_full kind id language name ps read
+by_word_full (SetName kind id language name) ps read = set_name_full kind id language name ps read
+by_word_full (RemoveName kind id language) ps read = remove_name_full kind id language ps read
 by_word_full (ChangeSystem row) ps read = change_system_full row ps read
 by_word_full (MoveStation station p) ps read = move_station_full station p ps read
 by_word_full (AddDocks station count) ps read = add_docks_full station count ps read
@@ -113,6 +117,8 @@ word_no_tab (CloseOrder order) = refl
 word_no_tab (AddRegion row) = refl
 word_no_tab (SetRegion station region) = refl
 word_no_tab (AddName kind id language name) = refl
+word_no_tab (SetName kind id language name) = refl
+word_no_tab (RemoveName kind id language) = refl
 word_no_tab (ChangeSystem row) = refl
 word_no_tab (MoveStation station p) = refl
 word_no_tab (AddDocks station count) = refl

@@ -1,9 +1,9 @@
--- Commands with a record of the catalogue are read exactly.
-use Rattle.std.proofs.Common.{◌≡◌, ℕ, ℤ, ◌≤ℤ◌, List, [], ◌∷◌, Bool, true, cond, Some, None, length, refl, ap, lit<, codes, arith}
+-- Commands with a record of the catalogue, or of a name, are read exactly.
+use Rattle.std.proofs.Common.{◌≡◌, ℕ, ℤ, ◌≤ℤ◌, List, [], ◌∷◌, Bool, true, cond, Some, None, length, refl, ap, ◌∙◌, subst, lit<, codes, arith}
 use Rattle.std.specs.Prelude.{nat_le, int_le, pos, neg_ℤ}
 use Rattle.std.proofs.lemmas.Bool.{le-leb}
 use Rattle.std.proofs.lemmas.Int.{ints}
-use Rattle.std.proofs.lemmas.Option.{cond_some}
+use Rattle.std.proofs.lemmas.Option.{option_and_then_some, cond_some, same_Some}
 use Rattle.bike_fixed.specs.Whole.{number_of}
 use Rattle.bike_catalogue.specs.Rows.{SystemRow, PlanRow, TypeRow, StationRow, RegionRow, PositionRow, SettingsRow, IsRange, is_range, IsLatitude, is_latitude}
 use Rattle.bike_catalogue.specs.declared.name_kind.NameKind.{NameKind}
@@ -13,11 +13,11 @@ use Rattle.bike_texts.specs.Parts.{Parts}
 use Rattle.bike_texts.specs.Fields.{Field, Number, Degrees}
 use Rattle.bike_texts.specs.Reading.{◌>>=◌, no_more, degrees_of}
 use Rattle.bike_texts.proofs.TabFree.{AreRead}
-use Rattle.bike_texts.proofs.Chains.{IsReader, number_reader, ident_reader, language_reader, currency_reader, name_reader, ascii_reader, form_reader, kind_reader, propulsion_reader, metres_reader, degrees_reader, segments_reader, takes, ends, gives, given_all}
+use Rattle.bike_texts.proofs.Chains.{IsReader, Rest, number_reader, ident_reader, language_reader, currency_reader, name_reader, ascii_reader, form_reader, kind_reader, propulsion_reader, metres_reader, degrees_reader, segments_reader, takes, ends, gives, given_all}
 use Rattle.bike_commands.specs.declared.command.Command.{Command}
-use Rattle.bike_commands.specs.declared.command.Command.TheVariants.{SetSystem, AddPlan, AddType, AddStation, AddRegion, AddName, ChangeSystem, MoveStation}
+use Rattle.bike_commands.specs.declared.command.Command.TheVariants.{SetSystem, AddPlan, AddType, AddStation, AddRegion, AddName, SetName, RemoveName, ChangeSystem, MoveStation}
 use Rattle.bike_commands.specs.Commands.{word_of, fields_of}
-use Rattle.bike_requests.specs.RecordReaders.{set_system_at, add_plan_at, add_type_at, add_station_at, add_region_at, add_name_at, change_system_at, move_station_at}
+use Rattle.bike_requests.specs.RecordReaders.{set_system_at, add_plan_at, add_type_at, add_station_at, add_region_at, name_fields_at, add_name_at, set_name_at, remove_name_at, change_system_at, move_station_at}
 use Rattle.bike_requests.proofs.KindLaws.{Left, dock_reader, flag_reader}
 
 price_reader : IsReader (number_of 0 1000000) (Number 0 1000000)
@@ -153,22 +153,69 @@ add_region_full row ps whole =
     gives _ row.region_id ps ident_reader whole (λ ps read.
     gives _ row.name ps name_reader read given_all)
 
-pub add_name_sound : (ps : Parts) (c : Command) → add_name_at ps ≡ Some c → Left (codes "add-name") c [] ps
-unfolding add_name_at
-add_name_sound ps c e =
+-- what a name is of, its language, and the name
+abbrev NameFields : Type 0
+NameFields = NameKind × List ℕ × List ℕ × List ℕ
+
+abbrev fields_of_name : NameFields → List Field
+fields_of_name n = fields_of (AddName n.0 n.1 n.2 n.3)
+
+name_fields_sound : (ps : Parts) (n : NameFields) → name_fields_at ps ≡ Some n → Rest (λ _. []) fields_of_name [] n [] ps
+unfolding name_fields_at
+name_fields_sound ps n e =
     takes _ ps kind_reader e (λ kind ps e.
     takes _ ps ident_reader e (λ id ps e.
     takes _ ps language_reader e (λ language ps e.
     takes _ ps name_reader e (λ name ps e.
-    ends (AddName kind id language name) ps refl refl e))))
+    ends (kind, id, language, name) ps refl refl e))))
+
+name_fields_full : (n : NameFields) (ps : Parts) → AreRead (fields_of_name n) ps → name_fields_at ps ≡ Some n
+unfolding name_fields_at
+name_fields_full n ps whole =
+    gives _ n.0 ps kind_reader whole (λ ps read.
+    gives _ n.1 ps ident_reader read (λ ps read.
+    gives _ n.2 ps language_reader read (λ ps read.
+    gives _ n.3 ps name_reader read given_all)))
+
+-- a command of those fields
+named_sound : {word : List ℕ} {c : Command} (made : NameFields → Command) (ps : Parts) → ((n : NameFields) → word ≡ word_of (made n)) → ((n : NameFields) → fields_of (made n) ≡ fields_of_name n)
+    → (name_fields_at ps >>= λ n. Some (made n)) ≡ Some c → Left word c [] ps
+named_sound {word = word} {c = c} made ps w f e =
+    option_and_then_some (λ n. Some (made n)) (name_fields_at ps) c e (λ n read is.
+    let rest = name_fields_sound ps n read in
+    let left : Left word (made n) [] ps = record { word_is = w n; fields = rest.fields; whole = f n ∙ rest.whole; read = rest.read } in
+    subst (λ (c : Command). Left word c [] ps) (same_Some (made n) c is) left)
+
+pub add_name_sound : (ps : Parts) (c : Command) → add_name_at ps ≡ Some c → Left (codes "add-name") c [] ps
+unfolding add_name_at
+add_name_sound ps c e = named_sound (λ n. AddName n.0 n.1 n.2 n.3) ps (λ n. refl) (λ n. refl) e
 
 pub add_name_full : (kind : NameKind) (id : List ℕ) (language : List ℕ) (name : List ℕ) (ps : Parts) → AreRead (fields_of (AddName kind id language name)) ps → add_name_at ps ≡ Some (AddName kind id language name)
 unfolding add_name_at
-add_name_full kind id language name ps whole =
+add_name_full kind id language name ps whole = rw (name_fields_full (kind, id, language, name) ps whole) refl
+
+pub set_name_sound : (ps : Parts) (c : Command) → set_name_at ps ≡ Some c → Left (codes "set-name") c [] ps
+unfolding set_name_at
+set_name_sound ps c e = named_sound (λ n. SetName n.0 n.1 n.2 n.3) ps (λ n. refl) (λ n. refl) e
+
+pub set_name_full : (kind : NameKind) (id : List ℕ) (language : List ℕ) (name : List ℕ) (ps : Parts) → AreRead (fields_of (SetName kind id language name)) ps → set_name_at ps ≡ Some (SetName kind id language name)
+unfolding set_name_at
+set_name_full kind id language name ps whole = rw (name_fields_full (kind, id, language, name) ps whole) refl
+
+pub remove_name_sound : (ps : Parts) (c : Command) → remove_name_at ps ≡ Some c → Left (codes "remove-name") c [] ps
+unfolding remove_name_at
+remove_name_sound ps c e =
+    takes _ ps kind_reader e (λ kind ps e.
+    takes _ ps ident_reader e (λ id ps e.
+    takes _ ps language_reader e (λ language ps e.
+    ends (RemoveName kind id language) ps refl refl e)))
+
+pub remove_name_full : (kind : NameKind) (id : List ℕ) (language : List ℕ) (ps : Parts) → AreRead (fields_of (RemoveName kind id language)) ps → remove_name_at ps ≡ Some (RemoveName kind id language)
+unfolding remove_name_at
+remove_name_full kind id language ps whole =
     gives _ kind ps kind_reader whole (λ ps read.
     gives _ id ps ident_reader read (λ ps read.
-    gives _ language ps language_reader read (λ ps read.
-    gives _ name ps name_reader read given_all)))
+    gives _ language ps language_reader read given_all))
 
 pub change_system_sound : (ps : Parts) (c : Command) → change_system_at ps ≡ Some c → Left (codes "change-system") c [] ps
 unfolding change_system_at

@@ -8,7 +8,7 @@ use Rattle.bike_texts.specs.Parts.{Parts}
 use Rattle.bike_texts.specs.Reading.{◌>>=◌, part_at, field_at, no_more, choice_of, side_of, end_of, ident_or_none_of}
 use Rattle.bike_commands.specs.declared.command.Command.{Command}
 use Rattle.bike_commands.specs.declared.command.Command.TheVariants.{SetPlan, SetStation, MarkDock, AddBike, MarkBike, RetireBike, AddTruck, AddRider, SetRider, TopUp, Start, End, Recover, Refund, OpenOrder, Load, Unload, CloseOrder, SetRegion, AddDocks}
-use Rattle.bike_requests.specs.RecordReaders.{set_system_at, add_plan_at, add_type_at, add_station_at, add_region_at, add_name_at, change_system_at, move_station_at}
+use Rattle.bike_requests.specs.RecordReaders.{set_system_at, add_plan_at, add_type_at, add_station_at, add_region_at, add_name_at, set_name_at, remove_name_at, change_system_at, move_station_at}
 
 -- riders, bicycles and trucks; docks, and 0 at the depot; rentals and orders; payments in hundredths; bicycles on a truck
 abbrev pub numbered_of : List ℕ → Option ℕ
@@ -208,10 +208,12 @@ command_by word ps =
     if bytes_eq word (codes "add-region") then add_region_at ps else (
     if bytes_eq word (codes "set-region") then set_region_at ps else (
     if bytes_eq word (codes "add-name") then add_name_at ps else (
+    if bytes_eq word (codes "set-name") then set_name_at ps else (
+    if bytes_eq word (codes "remove-name") then remove_name_at ps else (
     if bytes_eq word (codes "change-system") then change_system_at ps else (
     if bytes_eq word (codes "move-station") then move_station_at ps else (
     if bytes_eq word (codes "add-docks") then add_docks_at ps else (
-    None))))))))))))))))))))))))))))
+    None))))))))))))))))))))))))))))))
 
 unfoldable pub command_at : Parts → Option Command
 command_at ps = do

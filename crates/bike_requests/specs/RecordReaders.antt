@@ -1,5 +1,5 @@
--- What is read of a command with a record of the catalogue, a block for each kind.
-use Rattle.std.specs.Prelude.{Option, Some, None, nat_le, length, if◌then◌else◌, codes}
+-- What is read of a command with a record of the catalogue, or of a name, a block for each kind.
+use Rattle.std.specs.Prelude.{ℕ, List, Option, Some, None, nat_le, length, if◌then◌else◌, codes}
 use Rattle.bike_fixed.specs.declared.micro.TheConstants.{GREATEST_COORDINATE}
 use Rattle.bike_fixed.specs.Whole.{number_of}
 use Rattle.bike_catalogue.specs.declared.limits.TheConstants.{GREATEST_LATITUDE}
@@ -8,12 +8,13 @@ use Rattle.bike_fields.specs.Bytes.{ident_of, language_of, currency_of}
 use Rattle.bike_catalogue.specs.Rows.{is_range, is_latitude}
 use Rattle.bike_catalogue.specs.Vehicle.{form_of, propulsion_of}
 use Rattle.bike_catalogue.specs.NameKinds.{kind_of}
+use Rattle.bike_catalogue.specs.declared.name_kind.NameKind.{NameKind}
 use Rattle.bike_texts.specs.Parts.{Parts}
 use Rattle.bike_texts.specs.Reading.{◌>>=◌, field_at, no_more, degrees_of, metres_of, choice_of}
 use Rattle.bike_texts.specs.Escapes.{name_at, ascii_at}
 use Rattle.bike_texts.specs.SegmentReading.{segments_of}
 use Rattle.bike_commands.specs.declared.command.Command.{Command}
-use Rattle.bike_commands.specs.declared.command.Command.TheVariants.{SetSystem, AddPlan, AddType, AddStation, AddRegion, AddName, ChangeSystem, MoveStation}
+use Rattle.bike_commands.specs.declared.command.Command.TheVariants.{SetSystem, AddPlan, AddType, AddStation, AddRegion, AddName, SetName, RemoveName, ChangeSystem, MoveStation}
 
 unfoldable pub set_system_at : Parts → Option Command
 set_system_at ps = do
@@ -68,14 +69,33 @@ add_region_at ps = do
   end ← no_more name.1
   Some (AddRegion (record { region_id = region_id.0; name = name.0 }))
 
-unfoldable pub add_name_at : Parts → Option Command
-add_name_at ps = do
+-- what a name is of, its language, and the name
+unfoldable pub name_fields_at : Parts → Option (NameKind × List ℕ × List ℕ × List ℕ)
+name_fields_at ps = do
   kind ← field_at kind_of ps
   id ← field_at ident_of kind.1
   language ← field_at language_of id.1
   name ← field_at name_at language.1
   end ← no_more name.1
-  Some (AddName kind.0 id.0 language.0 name.0)
+  Some (kind.0, id.0, language.0, name.0)
+
+unfoldable pub add_name_at : Parts → Option Command
+add_name_at ps = do
+  named ← name_fields_at ps
+  Some (AddName named.0 named.1 named.2 named.3)
+
+unfoldable pub set_name_at : Parts → Option Command
+set_name_at ps = do
+  named ← name_fields_at ps
+  Some (SetName named.0 named.1 named.2 named.3)
+
+unfoldable pub remove_name_at : Parts → Option Command
+remove_name_at ps = do
+  kind ← field_at kind_of ps
+  id ← field_at ident_of kind.1
+  language ← field_at language_of id.1
+  end ← no_more language.1
+  Some (RemoveName kind.0 id.0 language.0)
 
 unfoldable pub change_system_at : Parts → Option Command
 change_system_at ps = do

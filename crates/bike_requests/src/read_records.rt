@@ -1,10 +1,10 @@
-//! Reading the commands with a record of the catalogue, or with a name in a further language.
+//! Reading the commands with a record of the catalogue, or of a name.
 
 ghost use Rattle.bike_fields.specs.Reads.{IsReadAs};
-ghost use Rattle.bike_requests.specs.RecordReaders.{set_system_at, add_plan_at, add_type_at, add_station_at, add_region_at, add_name_at, change_system_at, move_station_at};
+ghost use Rattle.bike_requests.specs.RecordReaders.{set_system_at, add_plan_at, add_type_at, add_station_at, add_region_at, name_fields_at, add_name_at, set_name_at, remove_name_at, change_system_at, move_station_at};
 
 use bike_catalogue::{
-    GREATEST_LATITUDE, Plan, Position, Region, Settings, Station, System, VehicleType,
+    GREATEST_LATITUDE, NameKind, Plan, Position, Region, Settings, Station, System, VehicleType,
 };
 use bike_commands::Command;
 use bike_fields::{Ascii, Currency, GREATEST_COORDINATE, Ident, Language, Name};
@@ -178,9 +178,13 @@ pub fn read_add_region(alloc: Global, mut fields: Fields) -> Result<Option<Comma
     Ok(Some(Command::AddRegion(Region::from_fields(region_id, name))))
 }
 
-#[tactic(auto, unfolding(crate::specs::RecordReaders::add_name_at))]
-pub fn read_add_name(alloc: Global, mut fields: Fields) -> Result<Option<Command>, AllocError>
-    ensures { IsReadAs (add_name_at fields.entry) result }
+/// What `add-name` and `set-name` are followed by: the kind, the identifier, the language and the name.
+#[tactic(auto, unfolding(crate::specs::RecordReaders::name_fields_at))]
+fn read_name_fields(
+    alloc: Global,
+    mut fields: Fields,
+) -> Result<Option<(NameKind, Ident, Language, Name)>, AllocError>
+    ensures { IsReadAs (name_fields_at fields.entry) result }
 {
     let Some(kind) = fields.name_kind() else {
         return Ok(None);
@@ -200,12 +204,58 @@ pub fn read_add_name(alloc: Global, mut fields: Fields) -> Result<Option<Command
     let id = Ident::of(alloc, id)?;
     let language = Language::of(alloc, language)?;
     let name = Name::of(alloc, name.as_str())?;
+    Ok(Some((kind, id, language, name)))
+}
+
+#[tactic(auto, unfolding(crate::specs::RecordReaders::add_name_at))]
+pub fn read_add_name(alloc: Global, fields: Fields) -> Result<Option<Command>, AllocError>
+    ensures { IsReadAs (add_name_at fields.entry) result }
+{
+    let Some((kind, id, language, name)) = read_name_fields(alloc, fields)? else {
+        return Ok(None);
+    };
     Ok(Some(Command::AddName {
         kind,
         id,
         language,
         name,
     }))
+}
+
+#[tactic(auto, unfolding(crate::specs::RecordReaders::set_name_at))]
+pub fn read_set_name(alloc: Global, fields: Fields) -> Result<Option<Command>, AllocError>
+    ensures { IsReadAs (set_name_at fields.entry) result }
+{
+    let Some((kind, id, language, name)) = read_name_fields(alloc, fields)? else {
+        return Ok(None);
+    };
+    Ok(Some(Command::SetName {
+        kind,
+        id,
+        language,
+        name,
+    }))
+}
+
+#[tactic(auto, unfolding(crate::specs::RecordReaders::remove_name_at))]
+pub fn read_remove_name(alloc: Global, mut fields: Fields) -> Result<Option<Command>, AllocError>
+    ensures { IsReadAs (remove_name_at fields.entry) result }
+{
+    let Some(kind) = fields.name_kind() else {
+        return Ok(None);
+    };
+    let Some(id) = fields.ident() else {
+        return Ok(None);
+    };
+    let Some(language) = fields.language() else {
+        return Ok(None);
+    };
+    let Some(()) = fields.end() else {
+        return Ok(None);
+    };
+    let id = Ident::of(alloc, id)?;
+    let language = Language::of(alloc, language)?;
+    Ok(Some(Command::RemoveName { kind, id, language }))
 }
 
 #[tactic(auto, unfolding(crate::specs::RecordReaders::change_system_at))]

@@ -14,7 +14,7 @@ use crate::read_network::{
 use crate::read_orders::{read_close_order, read_load, read_open_order, read_unload};
 use crate::read_records::{
     read_add_name, read_add_plan, read_add_region, read_add_station, read_add_type,
-    read_change_system, read_move_station, read_set_system,
+    read_change_system, read_move_station, read_remove_name, read_set_name, read_set_system,
 };
 use crate::read_riding::{
     read_add_rider, read_end, read_recover, read_refund, read_set_rider, read_start, read_top_up,
@@ -53,6 +53,8 @@ fn read_kind(alloc: Global, word: &str, fields: Fields) -> Result<Option<Command
         "add-region" => read_add_region(alloc, fields),
         "set-region" => read_set_region(alloc, fields),
         "add-name" => read_add_name(alloc, fields),
+        "set-name" => read_set_name(alloc, fields),
+        "remove-name" => read_remove_name(alloc, fields),
         "change-system" => read_change_system(alloc, fields),
         "move-station" => read_move_station(alloc, fields),
         "add-docks" => read_add_docks(alloc, fields),

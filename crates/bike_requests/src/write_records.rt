@@ -1,9 +1,9 @@
-//! Writing the fields of the catalogue's records, and of names in further languages.
+//! Writing the fields of the catalogue's records, and of names.
 
 ghost use Rattle.std.specs.Prelude.{◌≡◌, ◌++◌, ◌∷◌, [], OnOk, string_bytes};
 ghost use Rattle.bike_fields.specs.declared.numbers.TheConstants.{LONGEST_TIME_TO_LIVE};
 ghost use Rattle.bike_texts.specs.Fields.{Number, Currency, Ascii, fields_text};
-ghost use Rattle.bike_commands.specs.declared.command.Command.TheVariants.{SetSystem, AddPlan, AddType, AddStation, AddRegion, AddName, ChangeSystem, MoveStation};
+ghost use Rattle.bike_commands.specs.declared.command.Command.TheVariants.{SetSystem, AddPlan, AddType, AddStation, AddRegion, AddName, RemoveName, ChangeSystem, MoveStation};
 ghost use Rattle.bike_commands.specs.Commands.{fields_of};
 
 use crate::write_fields::{
@@ -95,6 +95,23 @@ pub fn put_region(out: &mut String, region: &Region) -> Result<(), AllocError>
     put_escaped(out, region.name().as_str())
 }
 
+/// What a name is of, and its language: all the fields of `remove-name`.
+#[tactic(auto, unfolding(bike_texts::specs::Fields::fields_text))]
+pub fn put_named(
+    out: &mut String,
+    kind: NameKind,
+    id: &Ident,
+    language: &Language,
+) -> Result<(), AllocError>
+    ensures { OnOk result (string_bytes out.new ≡ string_bytes out.old
+        ++ fields_text (fields_of (RemoveName kind id.now language.now))) }
+{
+    put_text(out, kind.as_str())?;
+    put_ident(out, id)?;
+    put_text(out, language.as_str())
+}
+
+/// The fields of `add-name`, which are those of `set-name`.
 #[tactic(auto, unfolding(bike_texts::specs::Fields::fields_text))]
 pub fn put_name(
     out: &mut String,
@@ -106,9 +123,7 @@ pub fn put_name(
     ensures { OnOk result (string_bytes out.new ≡ string_bytes out.old
         ++ fields_text (fields_of (AddName kind id.now language.now name.now))) }
 {
-    put_text(out, kind.as_str())?;
-    put_ident(out, id)?;
-    put_text(out, language.as_str())?;
+    put_named(out, kind, id, language)?;
     put_escaped(out, name.as_str())
 }
 

@@ -10,7 +10,8 @@ use crate::write_fields::{
     put_choice, put_end, put_ident, put_ident_or_none, put_number, put_text,
 };
 use crate::write_records::{
-    put_name, put_plan, put_position, put_region, put_settings, put_station, put_system, put_type,
+    put_name, put_named, put_plan, put_position, put_region, put_settings, put_station, put_system,
+    put_type,
 };
 use bike_commands::Command;
 use bike_fields::{
@@ -49,6 +50,8 @@ fn word(command: &Command) -> &'static str
         Command::AddRegion(_) => "add-region",
         Command::SetRegion { .. } => "set-region",
         Command::AddName { .. } => "add-name",
+        Command::SetName { .. } => "set-name",
+        Command::RemoveName { .. } => "remove-name",
         Command::ChangeSystem(_) => "change-system",
         Command::MoveStation { .. } => "move-station",
         Command::AddDocks { .. } => "add-docks",
@@ -254,7 +257,14 @@ fn put_fields(out: &mut String, command: &Command) -> Result<(), AllocError>
             id,
             language,
             name,
+        }
+        | Command::SetName {
+            kind,
+            id,
+            language,
+            name,
         } => put_name(out, *kind, id, language, name),
+        Command::RemoveName { kind, id, language } => put_named(out, *kind, id, language),
         Command::ChangeSystem(settings) => put_settings(out, settings),
         Command::MoveStation { station, position } => put_position(out, station, position),
         Command::AddDocks { station, count } => {

@@ -10,13 +10,13 @@ use Rattle.sqlite.specs.declared.error.Error.{Error}
 use Rattle.sqlite.specs.Held.{Held, state}
 use Rattle.sqlite.specs.State.{State, ExecutesInside}
 use Rattle.bike_rows.specs.Outcome.{ToldAs}
-use Rattle.bike_rows.specs.View.{put_row_by, rows_after_update, with_values, IsFree}
+use Rattle.bike_rows.specs.View.{put_row_by, rows_after_update, rows_after_removal, with_values, IsFree}
 use Rattle.bike_rows.specs.Runs.{RunsInside}
 use Rattle.bike_rows.proofs.CallLaws.{Does, insert_returns}
-use Rattle.bike_rows.proofs.WriteLaws.{Inserts, Updates, changes_inside}
+use Rattle.bike_rows.proofs.WriteLaws.{Inserts, Updates, Removes, changes_inside}
 use Rattle.bike_rows.specs.Stands.{rows_of, is_same_text, Stands, Sets}
 use Rattle.bike_book.specs.Tables.{TableName, Tables, keys_of, is_table, rows_in, tables_by, with_rows}
-use Rattle.bike_book.specs.Writes.{RowWrite, Add, Set, Columns, table_of_write, rows_after, tables_after, tables_after_all}
+use Rattle.bike_book.specs.Writes.{RowWrite, Add, Set, Remove, Columns, table_of_write, rows_after, tables_after, tables_after_all}
 use Rattle.bike_schema.specs.Layouts.{layout_of, name_of}
 use Rattle.bike_schema.specs.Tables.{tables_of, HasTables, IsOurs}
 use Rattle.bike_schema.specs.declared.fault.StatementFault.{StatementFault}
@@ -122,6 +122,18 @@ sets_columns t {text} {params} key columns it = record { does = λ old new ours 
     puts old new ours done =
         let w = Set t key columns in
         let set = subst (λ rows. Sets old.now new.now (keys_of t) (layout_of t) (rows_after_update (keys_of t) key (with_values columns) rows)) (sym (rows_of_table old.now t)) done.1 in
+        (record { continues = done.0; makes = sets_makes old.now new.now w ours.has set }, tt)
+
+-- A DELETE of the row with a key is that write.
+pub removes_row : (t : TableName) {text : List ℕ} {params : Row} (key : Row) → Removes (keys_of t) (layout_of t) text params key
+    → Does IsOurs (λ db. WasFree (Remove t key) (tables_of db)) (Puts (Remove t key ∷ [])) text params
+removes_row t {text} {params} key it = record { does = λ old new ours r ran. on_ok_weaker r (puts old new ours) (changes_inside it old new ours.sound (ours.has t) r ran) }
+  where
+    puts : (old new : State) (ours : IsOurs old.now) → Continues old new × Sets old.now new.now (keys_of t) (layout_of t) (rows_after_removal (keys_of t) key (rows_of (keys_of t) (name_of t) old.now)) × Unit {0}
+        → Puts (Remove t key ∷ []) old new × WasFree (Remove t key) (tables_of old.now)
+    puts old new ours done =
+        let w = Remove t key in
+        let set = subst (λ rows. Sets old.now new.now (keys_of t) (layout_of t) (rows_after_removal (keys_of t) key rows)) (sym (rows_of_table old.now t)) done.1 in
         (record { continues = done.0; makes = sets_makes old.now new.now w ours.has set }, tt)
 
 -- What a function of one statement tells, from what its text does and what the engine makes of it. The values that it sends compute to the parameters.

@@ -10,7 +10,7 @@ use Rattle.sqlite.specs.State.{HasCleanDisk, ExecutesInside}
 use Rattle.bike_rows.specs.View.{IsFree}
 use Rattle.bike_rows.specs.Calls.{ReadsWhere, WritesWhere, WalksWhere, LendsWhere}
 use Rattle.bike_book.specs.Tables.{Tables, keys_of, rows_in}
-use Rattle.bike_book.specs.Writes.{RowWrite, Add, Set}
+use Rattle.bike_book.specs.Writes.{RowWrite, Add, Set, Remove}
 use Rattle.bike_schema.specs.Tables.{IsOurs, tables_of}
 use Rattle.bike_schema.specs.declared.fault.StatementFault.{StatementFault}
 use Rattle.bike_schema.specs.Faults.{fault_of}
@@ -20,6 +20,7 @@ use Rattle.bike_schema.specs.Makes.{Puts}
 abbrev pub WasFree : RowWrite → Tables → Type 0
 WasFree (Add name row) t = IsFree (keys_of name) row (rows_in t name)
 WasFree (Set name key columns) t = Unit {0}
+WasFree (Remove name key) t = Unit {0}
 
 -- a read: what is so of the tables and its value
 abbrev pub Reads : {S X E : Type 0} → Ghosts S → Held S → Held S → Result X E → (Tables → X → Type 0) → Type 0

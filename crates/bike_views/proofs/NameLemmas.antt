@@ -1,5 +1,6 @@
--- Names in further languages: one in a language is among those of its kind and identifier.
-use Rattle.std.proofs.Common.{◌≡◌, inl, inr, ℕ, List, [], ◌∷◌, map, filter, Bool, true, false, cond, ◌&&◌, ◌||◌, refl, sym, ap, ap₂, subst, ◌∙◌}
+-- Names: whether the system is set, by its key; a further one in a language is among those of its kind and identifier.
+use Rattle.std.proofs.Common.{◌≡◌, inl, inr, ℕ, List, [], ◌∷◌, map, filter, Bool, true, false, cond, ◌&&◌, ◌||◌, Option, Some, None, refl, sym, ap, ap₂, subst, ◌∙◌}
+use Rattle.std.specs.Prelude.{is_some, option_map}
 use Rattle.std.specs.List.{list_any}
 use Rattle.std.specs.Str.{bytes_eq}
 use Rattle.std.specs.Ordering.{eq_by_cmp}
@@ -8,14 +9,20 @@ use Rattle.std.specs.Cmp.Lexicographic.{nat_list_cmp_total, lists_total, lists_t
 use Rattle.std.specs.FinMap as fin
 use Rattle.std.proofs.lemmas.Map.Text.{is_eq-slice_cmp}
 use Rattle.sqlite_rules.specs.Lists.{Has}
+use Rattle.bike_operator.specs.Rows.{SystemRow}
 use Rattle.bike_operator.specs.NameKind.{NameKind}
 use Rattle.bike_operator.specs.NameKinds.{kind_text}
 use Rattle.bike_operator.specs.Operator.{Operator, NameKey, name_key, text_cmp, texts_cmp}
 use Rattle.bike_operator.specs.Names.{part_at, is_name_of, further_names}
 use Rattle.bike_operator.specs.Sound.{AreNamesSound}
 use Rattle.bike_book.proofs.MapRows.{has_get}
+use Rattle.bike_office_reads.specs.Accounts.{system_key}
 use Rattle.bike_office_reads.specs.ReadRows.{named_in}
 use Rattle.bike_views.specs.Parts.{is_among}
+
+pub is_set : (o : Option SystemRow) → is_some (option_map system_key o) ≡ is_some o
+is_set None = refl
+is_set (Some x) = refl
 
 texts_total : IsTotalOrder texts_cmp
 texts_total = lists_total nat_list_cmp_total

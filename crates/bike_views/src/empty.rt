@@ -16,6 +16,7 @@ pub(crate) fn empty_view() -> View
         has_region: false,
         has_named: false,
         has_language: false,
+        is_own_language: false,
         has_from: false,
         has_to: false,
         has_rider: false,

@@ -1,9 +1,9 @@
-//! What a new name in a further language names.
+//! What a command on names names: one in a further language that is new, and one that is there.
 
 ghost use Rattle.std.specs.Prelude.{◌≡◌, ◌||◌, ℕ, List, option_map};
 ghost use Rattle.bike_commands.specs.declared.command.Command.TheVariants as command;
 ghost use Rattle.bike_operator.specs.Names.{has_named, is_own_language, is_system};
-ghost use Rattle.bike_operator.specs.View.{view_of};
+ghost use Rattle.bike_operator.specs.View.{name_view, view_of};
 ghost use Rattle.bike_schema.specs.Answers.{Answers};
 ghost use Rattle.bike_office_reads.specs.Accounts.{system_key};
 ghost use Rattle.bike_views.specs.Open.{AnswersOpen};
@@ -94,6 +94,28 @@ pub(crate) fn view_to_add_name<S: Alter>(
         has_named,
         has_language: has_language(&system, names.as_slice(), language),
         is_full: names.len() >= MOST_FURTHER_NAMES as usize,
+        ..empty_view()
+    })
+}
+
+/// The view for a name that changes or goes.
+pub(crate) fn view_to_change_name<S: Alter>(
+    alloc: Global,
+    conn: &mut Connection<S>,
+    kind: NameKind,
+    id: &Ident,
+    language: &Language,
+) -> Result<View, StatementFault>
+    ensures { Answers S.Store conn.old conn.new result (λ s m view. view ≡ name_view s kind id.now language.now) }
+{
+    let system = find_system_key(alloc, conn)?;
+    let has_named = is_named_there(conn, kind, id, &system)?;
+    let names = find_names(alloc, conn, kind, id)?;
+    Ok(View {
+        has_system: system.is_some(),
+        has_named,
+        has_language: has_language(&system, names.as_slice(), language),
+        is_own_language: is_own_language(&system, language),
         ..empty_view()
     })
 }

@@ -10,7 +10,7 @@ use crate::catalogue::{
     view_to_set_plan, view_to_set_system,
 };
 use crate::figures::Known;
-use crate::names::view_to_add_name;
+use crate::names::{view_to_add_name, view_to_change_name};
 use crate::orders::{
     view_to_add_truck, view_to_close_order, view_to_load, view_to_open_order, view_to_unload,
 };
@@ -116,6 +116,15 @@ pub fn find_view<S: Alter>(
             language,
             ..
         } => without_dock(view_to_add_name(alloc, conn, *kind, id, language)),
+        Command::SetName {
+            kind,
+            id,
+            language,
+            ..
+        } => without_dock(view_to_change_name(alloc, conn, *kind, id, language)),
+        Command::RemoveName { kind, id, language } => without_dock(view_to_change_name(
+            alloc, conn, *kind, id, language,
+        )),
         Command::ChangeSystem(_) => without_dock(view_to_change_system(conn)),
         Command::MoveStation { station, .. } => without_dock(view_to_move_station(conn, station)),
         Command::AddDocks { station, .. } => without_dock(view_to_add_docks(conn, station)),

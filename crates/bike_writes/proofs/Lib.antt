@@ -1,5 +1,6 @@
 mod TextLemmas
 mod CatalogueTexts
+mod NameTexts
 mod StationTexts
 mod FleetTexts
 mod RiderTexts

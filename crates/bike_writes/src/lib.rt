@@ -8,6 +8,7 @@ mod catalogue;
 mod columns;
 mod fleet;
 mod ledger;
+mod names;
 mod orders;
 mod rentals;
 mod riders;

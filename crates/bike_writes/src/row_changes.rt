@@ -9,6 +9,7 @@ use crate::catalogue::{
 };
 use crate::fleet::{add_bike, add_truck, set_bike};
 use crate::ledger::{add_entry, add_kept, set_meta};
+use crate::names::{remove_name, set_further_name, set_own_name};
 use crate::orders::{add_order, set_order};
 use crate::rentals::{add_rental, close_rental, set_refunded};
 use crate::riders::{add_rider, set_balance, set_blocked};
@@ -21,9 +22,9 @@ use bike_schema::{Staged, StatementFault};
 use sqlite::Alter;
 
 /// Makes one row change, inside the transaction. The key of a row that is added has to be free; columns that are set
-/// in a row that isn't there change nothing. `NoMemory` comes where the database wanted memory that was refused, and
-/// `StoreFailed` for all else that it refused. After an error the tables are as before the call, or the transaction is
-/// undone.
+/// in a row that isn't there change nothing, nor does the removal of such a row. `NoMemory` comes where the database
+/// wanted memory that was refused, and `StoreFailed` for all else that it refused. After an error the tables are as
+/// before the call, or the transaction is undone.
 pub fn put<S: Alter>(tx: &mut Staged<'_, S>, change: &RowChange<'_>) -> Result<(), StatementFault>
     ensures { Writes S.Store tx.old.conn tx.new.conn result (write_of change.now) }
 {
@@ -133,5 +134,13 @@ pub fn put<S: Alter>(tx: &mut Staged<'_, S>, change: &RowChange<'_>) -> Result<(
             language,
             name,
         } => add_name(tx, kind, id, language, name),
+        RowChange::SetOwnName { kind, id, name } => set_own_name(tx, kind, id, name),
+        RowChange::SetFurtherName {
+            kind,
+            id,
+            language,
+            name,
+        } => set_further_name(tx, kind, id, language, name),
+        RowChange::RemoveName { kind, id, language } => remove_name(tx, kind, id, language),
     }
 }

@@ -1,4 +1,5 @@
 use Rattle.bike_book.proofs.CatalogueBooks.{set_system, add_type, set_plan, add_region, add_station, set_station, set_region, add_name, change_system, move_station}
+use Rattle.bike_book.proofs.NameBooks.{set_own_name, set_further_name, remove_name}
 use Rattle.bike_book.proofs.PlanBooks.{add_plan}
 use Rattle.bike_book.proofs.laws.books_catalogue.Goals as goal
 
@@ -28,6 +29,15 @@ returns-clause-set_region c = set_region
 
 pub returns-clause-add_name : goal.returns-clause-add_name
 returns-clause-add_name c = add_name
+
+pub returns-clause-set_own_name : goal.returns-clause-set_own_name
+returns-clause-set_own_name c = set_own_name
+
+pub returns-clause-set_further_name : goal.returns-clause-set_further_name
+returns-clause-set_further_name c = set_further_name
+
+pub returns-clause-remove_name : goal.returns-clause-remove_name
+returns-clause-remove_name c = remove_name
 
 pub returns-clause-change_system : goal.returns-clause-change_system
 returns-clause-change_system c = change_system

@@ -121,6 +121,18 @@ returns-in-AddName-clause-decides c = rw c.in-AddName.is (λ s e. c.decide_add_n
 pub returns-in-AddName-clause-found : goal.returns-in-AddName-clause-found
 returns-in-AddName-clause-found c = finds_at c.args.view.now c.args.now c.args.command.now c.decide_add_name.result (rw c.in-AddName.is c.decide_add_name.ensures.found)
 
+pub returns-in-SetName-clause-decides : goal.returns-in-SetName-clause-decides
+returns-in-SetName-clause-decides c = rw c.in-SetName.is (λ s e. c.decide_set_name.ensures.decides s c.args.now e)
+
+pub returns-in-SetName-clause-found : goal.returns-in-SetName-clause-found
+returns-in-SetName-clause-found c = finds_at c.args.view.now c.args.now c.args.command.now c.decide_set_name.result (rw c.in-SetName.is c.decide_set_name.ensures.found)
+
+pub returns-in-RemoveName-clause-decides : goal.returns-in-RemoveName-clause-decides
+returns-in-RemoveName-clause-decides c = rw c.in-RemoveName.is (λ s e. c.decide_remove_name.ensures.decides s c.args.now e)
+
+pub returns-in-RemoveName-clause-found : goal.returns-in-RemoveName-clause-found
+returns-in-RemoveName-clause-found c = finds_at c.args.view.now c.args.now c.args.command.now c.decide_remove_name.result (rw c.in-RemoveName.is c.decide_remove_name.ensures.found)
+
 pub returns-in-ChangeSystem-clause-decides : goal.returns-in-ChangeSystem-clause-decides
 returns-in-ChangeSystem-clause-decides c = rw c.in-ChangeSystem.is (λ s e. c.decide_change_system.ensures.decides s c.args.now e)
 

@@ -1,13 +1,11 @@
-use Rattle.std.proofs.Common.{◌≡◌, rules, refl, length, nat_le, Bool, ◌||◌, Option, Some, None, ap, ◌∙◌}
-use Rattle.std.specs.Prelude.{is_some, option_map}
-use Rattle.bike_catalogue.specs.Rows.{SystemRow}
-use Rattle.bike_office_reads.specs.Accounts.{system_key}
+use Rattle.std.proofs.Common.{◌≡◌, rules, length, nat_le, Bool, ◌||◌, ap, ◌∙◌}
+use Rattle.std.specs.Prelude.{is_some}
 use Rattle.bike_rows.proofs.ChainLaws.{reads_as, reads_both, reads_failed}
 use Rattle.bike_operator.specs.declared.limits.TheConstants.{MOST_FURTHER_NAMES}
 use Rattle.bike_operator.specs.Names.{is_own_language}
 use Rattle.bike_views.specs.Parts.{is_among}
 use Rattle.bike_views.proofs.OpenLaws.{open_both}
-use Rattle.bike_views.proofs.NameLemmas.{language_among}
+use Rattle.bike_views.proofs.NameLemmas.{is_set, language_among}
 use Rattle.bike_views.proofs.names.view_to_add_name.Goals as goal
 
 pub returns-in_err-has_named : goal.returns-in_err-has_named
@@ -15,10 +13,6 @@ returns-in_err-has_named g c = reads_failed (open_both c.in_ok-system.ensures c.
 
 pub returns-in_err-names : goal.returns-in_err-names
 returns-in_err-names g c = reads_failed (reads_both (open_both c.in_ok-system.ensures c.in_ok-has_named.ensures) c.in_err-names.ensures) (search rules)
-
-is_set : (o : Option SystemRow) → is_some (option_map system_key o) ≡ is_some o
-is_set None = refl
-is_set (Some r) = refl
 
 pub returns : goal.returns
 returns g c = reads_as (reads_both (open_both c.in_ok-system.ensures c.in_ok-has_named.ensures) c.in_ok-names.ensures) (λ db it s h name.

@@ -117,6 +117,12 @@ returns-in-SetRegion g c = seen_plain (view_for c.view_to_set_region.ensures c.i
 pub returns-in-AddName : goal.returns-in-AddName
 returns-in-AddName g c = seen_plain (view_for (reads_weaker c.view_to_add_name.ensures (λ db x it s h. it s h [])) c.in-AddName.is) c.without_dock-in-AddName.ensures c.in-AddName.is (λ s m x. tt)
 
+pub returns-in-SetName : goal.returns-in-SetName
+returns-in-SetName g c = seen_plain (view_for c.view_to_change_name.ensures c.in-SetName.is) c.without_dock-in-SetName.ensures c.in-SetName.is (λ s m x. tt)
+
+pub returns-in-RemoveName : goal.returns-in-RemoveName
+returns-in-RemoveName g c = seen_plain (view_for c.view_to_change_name-in-RemoveName.ensures c.in-RemoveName.is) c.without_dock-in-RemoveName.ensures c.in-RemoveName.is (λ s m x. tt)
+
 pub returns-in-ChangeSystem : goal.returns-in-ChangeSystem
 returns-in-ChangeSystem g c = seen_plain (view_for (reads_weaker c.view_to_change_system.ensures (λ db x it s h. it s h c.in-ChangeSystem.field-0)) c.in-ChangeSystem.is) c.without_dock-in-ChangeSystem.ensures c.in-ChangeSystem.is (λ s m x. tt)
 

@@ -1,0 +1,7 @@
+use Rattle.bike_schema.proofs.MakesLemmas.{writes_told}
+use Rattle.bike_writes.proofs.TextLemmas.{bindings}
+use Rattle.bike_writes.proofs.NameTexts.{removes_name}
+use Rattle.bike_writes.proofs.names.remove_name.Goals as goal
+
+pub returns : goal.returns
+returns g c = writes_told (removes_name c.args.kind c.args.id c.args.language) c.run.ensures (search bindings)

@@ -1,0 +1,90 @@
+//! The statements on names that are there: in the own row of what has one, and in `more_names`.
+
+ghost use Rattle.bike_book.specs.declared.row_change.RowChange.TheVariants as row;
+ghost use Rattle.bike_book.specs.Writes.{write_of};
+ghost use Rattle.bike_schema.specs.Calls.{Writes};
+
+use bike_catalogue::NameKind;
+use bike_fields::{Ident, Language, Name};
+use bike_rows::write::run;
+use bike_schema::{Staged, StatementFault};
+use sqlite::{Alter, params};
+
+/// Sets the name of what has this kind and identifier, or a plan's description. `system` has one row, under a key of its own.
+pub(crate) fn set_own_name<S: Alter>(
+    tx: &mut Staged<'_, S>,
+    kind: NameKind,
+    id: &Ident,
+    name: &Name,
+) -> Result<(), StatementFault>
+    ensures { Writes S.Store tx.old.conn tx.new.conn result (write_of (row.SetOwnName kind id.entry name.entry)) }
+{
+    let (id, name) = (id.as_str(), name.as_str());
+    match kind {
+        NameKind::System => run(
+            tx,
+            "UPDATE system SET name = ?2 WHERE one = ?1",
+            params![1_i64, name],
+        ),
+        NameKind::Station => run(
+            tx,
+            "UPDATE stations_3 SET name = ?2 WHERE station_id = ?1",
+            params![id, name],
+        ),
+        NameKind::Type => run(
+            tx,
+            "UPDATE types SET name = ?2 WHERE type_id = ?1",
+            params![id, name],
+        ),
+        NameKind::Plan => run(
+            tx,
+            "UPDATE plans SET name = ?2 WHERE plan_id = ?1",
+            params![id, name],
+        ),
+        NameKind::Description => run(
+            tx,
+            "UPDATE plans SET description = ?2 WHERE plan_id = ?1",
+            params![id, name],
+        ),
+        NameKind::Region => run(
+            tx,
+            "UPDATE regions SET name = ?2 WHERE region_id = ?1",
+            params![id, name],
+        ),
+    }
+}
+
+/// Sets a name in a further language.
+pub(crate) fn set_further_name<S: Alter>(
+    tx: &mut Staged<'_, S>,
+    kind: NameKind,
+    id: &Ident,
+    language: &Language,
+    name: &Name,
+) -> Result<(), StatementFault>
+    ensures { Writes S.Store tx.old.conn tx.new.conn result
+        (write_of (row.SetFurtherName kind id.entry language.entry name.entry)) }
+{
+    run(
+        tx,
+        "UPDATE more_names SET name = ?4 WHERE kind = ?1 AND id = ?2 AND language = ?3",
+        params![kind.as_str(), id.as_str(), language.as_str(), name.as_str()],
+    )
+}
+
+/// Removes a name in a further language.
+pub(crate) fn remove_name<S: Alter>(
+    tx: &mut Staged<'_, S>,
+    kind: NameKind,
+    id: &Ident,
+    language: &Language,
+) -> Result<(), StatementFault>
+    ensures { Writes S.Store tx.old.conn tx.new.conn result
+        (write_of (row.RemoveName kind id.entry language.entry)) }
+{
+    run(
+        tx,
+        "DELETE FROM more_names WHERE kind = ?1 AND id = ?2 AND language = ?3",
+        params![kind.as_str(), id.as_str(), language.as_str()],
+    )
+}
