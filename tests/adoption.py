@@ -432,6 +432,22 @@ CHANGES = [
     ("UPDATE kept SET command = 'add-name\tsystem\tother\tit\tPonte' WHERE req_key = 'k2'", None),
     ("UPDATE kept SET command = 'add-name\tbike\tb2\tit\tPonte' WHERE req_key = 'k2'", "unsound kept office/k2"),
     ("UPDATE kept SET command = 'add-name\tstation\tb2\ti\tPonte' WHERE req_key = 'k2'", "unsound kept office/k2"),
+    *(
+        (f"UPDATE kept SET command = '{text}' WHERE req_key = 'k2'", None)
+        for text in (
+            "set-name\tstation\tb2\tit\tPonte", "set-name\tsystem\tother\ten\tPonte", "remove-name\tplan\tgold\tde",
+            "remove-name\tstation\tb2\ten",
+        )
+    ),
+    *(
+        (f"UPDATE kept SET command = '{text}' WHERE req_key = 'k2'", "unsound kept office/k2")
+        for text in (
+            "set-name\tbike\tb2\tit\tPonte", "set-name\tstation\tb2\ti\tPonte", "set-name\tstation\tb2\tit",
+            "set-name\tstation\tb2\tit\t", "set-name\tstation\tB2\tit\tPonte", "remove-name\tstation\tb2\tit\tPonte",
+            "remove-name\tstation\tb2", "remove-name\tstation\tb2\ti_t", "remove-name\ttruck\t3\tit",
+        )
+    ),
+    ("UPDATE kept SET reply = 'refused\t39\tunknown_name' WHERE req_key = 'k2'", "unsound kept office/k2"),
     ("UPDATE kept SET command = 'add-station\tz9\tNew\t0.000000\t0.000000\t500' WHERE req_key = 'k2'", None),
     (
         "UPDATE kept SET command = 'add-station\tz9\tNew\t0.000000\t0.000000\t501' WHERE req_key = 'k2'",

@@ -23,7 +23,12 @@ EDGES = {
     "end": (["*", "-", "z" * 36], ["", "**", "z" * 37]),
     "caller": (["office", "rider:1", "crew:999999", "dock:-", "import:" + "z" * 36], ["rider:0", "crew:1000000"]),
     "key": (["-", "Z" * 64], ["", "Z" * 65, "a.b"]),
-    "command": (["add-rider\t999999", "add-docks\ta1\t500"], ["add-rider\t1000000", "add-docks\ta1\t501", "ok", ""]),
+    "command": (
+        ["add-rider\t999999", "add-docks\ta1\t500", "remove-name\tplan\tday\tde", "set-name\ttype\tcity\ten\tC"],
+        [
+            "add-rider\t1000000", "add-docks\ta1\t501", "remove-name\tplan\tday", "set-name\tbike\t7\ten\tC", "ok", "",
+        ],
+    ),
     "reply": (
         ["ok", "order\t100000000", "fare\t34561800000\t-1", f"balance\t{LEAST}"],
         ["order\t0", "fare\t34561800001\t0", f"balance\t{MOST + 1}", "refused\t4\tunknown_rider"],

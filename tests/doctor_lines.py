@@ -120,6 +120,13 @@ BAD_LINES = (
     (ASKED + b"set-system\tm\ten\tM\tt\xc3\xa4glich\tx@x.example\tEtc/UTC\tEUR\thttps://x.de\t1", ", opening_hours"),
     (ASKED + b"add-name\tcolour\ta1\tde\tHafen", ", kind"),
     (ASKED + b"add-name\tsystem\tother\tde\tRad", ", id"),
+    (ASKED + b"set-name\tcolour\ta1\tde\tHafen", ", kind"), (ASKED + b"set-name\tsystem\tother\ten\tRad", ", id"),
+    (ASKED + b"set-name\tstation\ta1\tde", ", command"), (ASKED + b"set-name\tstation\ta1\td\tHafen", ", language"),
+    (ASKED + b"set-name\tplan\tbasic\ten\t", ", name"), (ASKED + b"set-name\tregion\tNorth\ten\tNorth", ", id"),
+    (ASKED + b"remove-name\tname\ta1\tde", ", kind"), (ASKED + b"remove-name\tsystem\tother\tde", ", id"),
+    (ASKED + b"remove-name\tstation\ta1\tde\tHafen", ", command"),
+    (ASKED + b"remove-name\ttype\tcity\td_e", ", language"),
+    (ASKED + b"rename-station\ta1\tHaven", ", command"),
     (ASKED + b"change-system\tMetro\t24/7\tx@example.org\tEtc/UTC\tEUR\thttps://x.example\t30", ", command"),
     (ASKED + b"change-system\tMetro\t24/7\tx@example.org\tEtc/UTC\thttps://x.example\t86401", ", ttl"),
     (ASKED + b"change-system\t\t24/7\tx@example.org\tEtc/UTC\thttps://x.example\t30", ", name"),
@@ -176,7 +183,7 @@ def test_lines_that_are_changed_anywhere(program):
     """Lines with a byte taken away, put in or changed: those are found that the program answers bad_field."""
     rnd = random.Random(1)
     more = ["add-region\tnorth\tNor\\\\d", "add-name\tstation\ta1\tde\tHafen", "move-station\ta1\t41.9\t12.5"]
-    more.append("add-docks\ta1\t10")
+    more += ["add-docks\ta1\t10", "set-name\tstation\ta1\ten\tHa\\\\ven", "remove-name\tstation\ta1\tde"]
     more.append("change-system\tMetro\t24/7\tx@example.org\tEtc/UTC\thttps://x.example\t60")
     good = requests_of([*CITY, *more]).splitlines()
     put_in = [it.encode() for it in ("", "\t", "0", "-", " ", "A", "\\", "9", ".", "\r", ":", ";")] + [b"\xc3"]
@@ -201,8 +208,8 @@ def station_lines(*places):
     return "\n" + requests_of(commands, at=NOW, key="s").decode()
 
 
-# A field of set-system with a value that shouldn't stand, and a word of what is said. Those alone that change-system
-# hasn't can't be taken back.
+# A field of set-system with a value that shouldn't stand, and a word of what is said. Those alone that neither
+# change-system nor set-name has can't be taken back.
 LASTING = ("language", "currency")
 DOUBTFUL = (
     ("base_url", "foo", "http"), ("base_url", "BASE_URL", "http"), ("base_url", "ftp://x.example", "http"),
@@ -342,6 +349,7 @@ def test_lines_that_cannot_be_taken_back(program):
         wanted = FOR_GOOD if field in LASTING else FOR_NOW
         assert [place_of(it) for it in found] == [(f"line 1, {field}", wanted)], (field, value, found)
         assert word in found[0].text, (field, value, found)
+        assert ("set-name" in found[0].text) == (field == "name"), (field, value, found)
     for field, value in FREE_OF_DOUBT:
         found = doctor.findings_of_lines(system_line(**{field: value}).encode(), NOW)
         assert not found, (field, value, found)
@@ -349,7 +357,7 @@ def test_lines_that_cannot_be_taken_back(program):
     lines = system_line(**worst) + f"\n{NOW}\toffice\tk2\tadd-name\tsystem\tmetro\tDE\t  "
     found = {place_of(it) for it in doctor.findings_of_lines(lines.encode(), NOW)}
     wanted = {(f"line 1, {it}", FOR_GOOD if it in LASTING else FOR_NOW) for it in worst}
-    assert found == wanted | {("line 2, language", FOR_GOOD), ("line 2, name", FOR_GOOD)}, found
+    assert found == wanted | {("line 2, language", FOR_NOW), ("line 2, name", FOR_NOW)}, found
     assert program.run(given=lines.encode()) == (0, b"ok\nok\n", b"")
 
 
@@ -363,13 +371,48 @@ def test_further_names_of_lines(program):
     commands += ["add-name\tplan\tday\tzh-Hant\t日"]
     lines = f"{system_line()}\n".encode() + requests_of(commands, at=NOW, key="n")
     found = doctor.findings_of_lines(lines, NOW)
-    assert [place_of(it) for it in found] == [("line 3, name", FOR_GOOD), ("line 8, language", FOR_GOOD)], found
-    assert "further languages (de) stay" in found[0].text and "en, de-CH" in found[1].text, found
+    assert [place_of(it) for it in found] == [("line 3, name", FOR_NOW), ("line 8, language", FOR_NOW)], found
+    assert "further languages (de) stay" in found[0].text and "set-name changes them" in found[0].text, found
+    assert "en, de-CH" in found[1].text and "remove-name" in found[1].text, found
     alike = requests_of(["change-system\tMetro\t24/7\tx@example.org\tEtc/UTC\thttps://x.example\t60"], at=NOW, key="m")
     first = f"{system_line()}\n".encode() + requests_of(commands[:1], at=NOW, key="n")
     assert doctor.findings_of_lines(first + alike, NOW) == []
     answers = program.run(given=lines)[1].splitlines()
     assert answers == [*[b"ok"] * 3, *[b"refused\t10\talready_there"] * 2, *[b"ok"] * 3], answers
+
+
+def test_names_that_lines_correct(program):
+    """A name in a further language that changes or goes later isn't told any more where the system's own changed. Of
+    fields of names a language is doubted where one comes, and what is said tells how a name is corrected."""
+    change = "change-system\tRoma\t24/7\tx@example.org\tEtc/UTC\thttps://x.example\t60"
+    begin = ["add-name\tsystem\tmetro\tde\tRad", "add-name\tsystem\tmetro\tfr\tVelo", change]
+    for more, wanted in (
+        ([], "(de, fr)"), (["set-name\tsystem\tmetro\tde\tRom"], "(fr)"), (["remove-name\tsystem\tmetro\tfr"], "(de)"),
+        (["set-name\tsystem\tmetro\tde\tRom", "remove-name\tsystem\tmetro\tfr"], None),
+        (["set-name\tsystem\tmetro\ten\tMetro"], "(de, fr)"), (["set-name\tstation\tmetro\tde\tRom"], "(de, fr)"),
+        (["remove-name\tsystem\tmetro\ten"], "(de, fr)"), (["set-name\tsystem\tmetro\tDE\tRom"], "(de, fr)"),
+    ):
+        lines = f"{system_line()}\n".encode() + requests_of([*begin, *more], at=NOW, key="n")
+        found = doctor.findings_of_lines(lines, NOW)
+        assert [place_of(it) for it in found] == [("line 4, name", FOR_NOW)] * bool(wanted), (more, found)
+        assert not wanted or f"further languages {wanted} stay" in found[0].text, (more, found)
+    # The further one went before: the own one may change.
+    gone = ["remove-name\tsystem\tmetro\tde", "remove-name\tsystem\tmetro\tfr"]
+    lines = f"{system_line()}\n".encode() + requests_of([*begin[:2], *gone, change], at=NOW, key="n")
+    assert doctor.findings_of_lines(lines, NOW) == []
+    assert program.run(given=lines) == (0, b"ok\n" * 6, b"")
+    # An own name that set-name gave is the one that change-system may give again.
+    same = ["set-name\tsystem\tmetro\ten\tRoma", *begin]
+    lines = f"{system_line()}\n".encode() + requests_of(same, at=NOW, key="n")
+    assert doctor.findings_of_lines(lines, NOW) == []
+    amiss = ["add-name\tsystem\tmetro\tDE\tRad", "set-name\tsystem\tmetro\tDE\tVÃ©lo"]
+    amiss.append("remove-name\tsystem\tmetro\tDE")
+    lines = f"{system_line()}\n".encode() + requests_of(amiss, at=NOW, key="n")
+    found = doctor.findings_of_lines(lines, NOW)
+    assert [place_of(it) for it in found] == [("line 2, language", FOR_NOW), ("line 3, name", FOR_NOW)], found
+    assert found[0].text.endswith(doctor.FURTHER_AMISS) and "Is it 'Vélo'?" in found[1].text, found
+    assert found[1].text.endswith(doctor.NAME_AMISS), found
+    assert program.run(given=lines) == (0, b"ok\n" * 4, b"")
 
 
 def test_moments_of_lines(program):
@@ -468,6 +511,16 @@ def test_stations_that_are_there_twice(program):
     assert [place_of(it) for it in doctor.findings_of_lines(moved, NOW)] == [("line 3", FOR_GOOD)]
     again = requests_of(["move-station\ta1\t41.92\t12.5"], at=NOW, key="m")
     assert doctor.findings_of_lines(moved + again, NOW) == []
+    near = ["add-station\ta1\tHarbour\t41.9\t12.5\t5", "add-station\ta2\tHarbour\t41.90004\t12.5001\t5"]
+    for named, wanted in (
+        ([], [("line 3", FOR_GOOD)]), (["set-name\tstation\ta2\ten\tCanal"], []),
+        (["set-name\tstation\ta1\ten\tCanal"], []),
+        (["set-name\tstation\ta2\tde\tCanal"], [("line 3", FOR_GOOD)]),
+        (["set-name\ttype\ta2\ten\tCanal"], [("line 3", FOR_GOOD)]),
+        ([f"set-name\tstation\ta{it}\ten\tCanal" for it in (1, 2, 3)], [("line 3", FOR_GOOD)]),
+    ):
+        lines = f"{system_line()}\n".encode() + requests_of([*near, *named], at=NOW, key="n")
+        assert [place_of(it) for it in doctor.findings_of_lines(lines, NOW)] == wanted, named
     sea = requests_of([f"add-station\ta{it}\tHarbour\t0\t0\t5" for it in (1, 2)], at=NOW, key="s")
     assert all("0, 0" in it.text for it in doctor.findings_of_lines(sea, NOW))
     again = HEADER + 'c1,"HÃ´tel",45,9.1,10\n' * 2

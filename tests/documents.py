@@ -474,7 +474,7 @@ def test_refusals_of_commands(program):
         rows[word] = [
             int(it) if it.isdigit() else "the kind's" for it in re.sub(r" \((?:from|to)\)", "", refusals).split(", ")
         ]
-    assert len(rows) == 28 and rows == wanted, [
+    assert len(rows) == 30 and rows == wanted, [
         (it, rows.get(it), wanted.get(it)) for it in wanted if rows.get(it) != wanted[it]
     ]
     kinds = dict(re.findall(r"^unknown_of named\.(\w+) = refusal\.(\w+)$", steps, re.M))

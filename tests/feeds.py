@@ -628,8 +628,14 @@ def made_city(seed):
         *(("region", f"r{it}") for it in range(5)),
     ]
     for kind, ident in [*things, *(("station", it) for it in docks)]:
-        for language in pick.sample(["de", "DE", "fr", "it", "zh-Hant", "-0", "En"], pick.randint(0, 3)):
+        languages = pick.sample(["de", "DE", "fr", "it", "zh-Hant", "-0", "En"], pick.randint(0, 3))
+        for language in languages:
             commands.append(f"add-name\t{kind}\t{ident}\t{language}\t{kind} {ident} in {language}")
+        if pick.random() < 0.3:
+            language = pick.choice(["en", *languages])
+            commands.append(f"set-name\t{kind}\t{ident}\t{language}\tAnother {kind} {ident} in {language}")
+        if languages and pick.random() < 0.2:
+            commands.append(f"remove-name\t{kind}\t{ident}\t{pick.choice(languages)}")
     return commands + docked(pick, docks, types)
 
 

@@ -14,7 +14,7 @@ REFUSALS = dict(enumerate((
     "unknown_order already_there bad_field dock_empty dock_full dock_broken bike_disabled not_renting not_returning "
     "rider_blocked balance_negative rider_is_riding not_rented not_in_depot bike_retired truck_too_small wrong_place "
     "wrong_type order_closed order_filled bikes_on_truck refund_too_large rental_open limit_reached key_reused "
-    "truck_full rental_closed wrong_truck_or_ends unknown_region system_missing"
+    "truck_full rental_closed wrong_truck_or_ends unknown_region system_missing unknown_name"
 ).split(), 1))
 
 
@@ -157,6 +157,8 @@ COMMANDS = {
     b"unload": [COUNTED, SERIALS, COUNTED, one_of("from", "to"), within(0, MOST_DOCKS)],
     b"close-order": [SERIALS],
     b"add-name": [one_of(*NAMED), is_ident, is_language, is_name],
+    b"set-name": [one_of(*NAMED), is_ident, is_language, is_name],
+    b"remove-name": [one_of(*NAMED), is_ident, is_language],
 }
 
 

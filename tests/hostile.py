@@ -128,7 +128,7 @@ class Fields:
         return self.number(1, formats.MOST_DOCKS) if self.pick.random() < 0.2 else str(self.pick.randint(1, 6))
 
     def named(self):
-        """The fields of add-name."""
+        """The fields of add-name, as of set-name."""
         what = self.pick.choice(list(NAMED))
         if self.pick.random() < 0.9:
             ident = self.pick.choice(NAMED[what])
@@ -137,7 +137,8 @@ class Fields:
         good = self.pick.random() < 0.9
         if not good:
             what = self.pick.choice(["Station", "", "bike", "stations", "system "])
-        return [what, ident, self.pick.choice(FURTHER if good else LANGUAGES), self.text()]
+        language = self.mostly(0.6, ["en", "de"], FURTHER) if good else self.pick.choice(LANGUAGES)
+        return [what, ident, language, self.text()]
 
 
 def of_the_catalogue(pick, some):
@@ -191,6 +192,8 @@ def of_the_day(pick, some):
         ],
         "close-order": lambda: [some.serial()],
         "add-name": some.named,
+        "set-name": some.named,
+        "remove-name": lambda: some.named()[:3],
         "raise": lambda: [""],
     }
 
@@ -200,6 +203,7 @@ def command(pick):
     some = Fields(pick)
     made = {**of_the_catalogue(pick, some), **of_the_day(pick, some)}
     often = ["start", "end", "load", "unload", "open-order", "add-bike", "top-up", "mark-bike", "mark-dock"]
+    often += ["add-name", "set-name", "remove-name"]
     name = pick.choice(often if pick.random() < 0.6 else list(made))
     return [name, *made[name]()]
 
@@ -275,7 +279,9 @@ CITY = [
     "add-region\tnorth\tNorth", "set-region\tb2\tnorth", "add-name\tstation\ta1\tde\tHafen",
     "add-name\tdescription\tday\tfr\tJour",
     "change-system\tMetro Bikes\tMo-Su\toffice@example.org\tEurope/Rome\thttps://example.org\t60",
-    "move-station\tb2\t-45.000001\t9.2", "add-docks\tb2\t2",
+    "move-station\tb2\t-45.000001\t9.2", "add-docks\tb2\t2", "set-name\tplan\tday\ten\tA day",
+    "set-name\tdescription\tday\tfr\tUn jour", "add-name\tregion\tnorth\tde\tNorden",
+    "remove-name\tregion\tnorth\tde",
     *(f"add-bike\t{it}\t{'cargo' if it % 3 == 0 else 'city'}" for it in range(1, 9)),
     *(f"add-rider\t{it}" for it in range(1, 9)), *(f"top-up\t{it}\t10000" for it in range(1, 9)),
     "open-order\t3\t*\ta1\tcity\t4", *(f"load\t3\t1\t{it}" for it in (1, 2, 4)),

@@ -65,10 +65,19 @@ def alike(pick, number):
         lambda: post("/docks/a1/end", json.dumps({"key": f"e{number}", "bike": 7, "dock": to})),
         lambda: post("/docks/a1/mark-dock", json.dumps({"key": f"d{number}", "dock": dock, "state": state})),
         lambda: office(f"t{number}", f"top-up\t{rider}\t{pick.randint(1, 999)}"),
+        lambda: naming(pick, number),
         lambda: get(f"/riders/{rider}"),
         lambda: get("/bikes/7"),
         lambda: get_feed("station_status"),
+        lambda: get_feed("station_information"),
     ])()
+
+
+def naming(pick, number):
+    """A name of the station comes, changes or goes, in the system's language or in another."""
+    word, language = pick.choice(["add-name", "set-name", "set-name", "remove-name"]), pick.choice(["en", "de"])
+    fields = [word, "station", "a1", language, f"Name {number}"]
+    return office(f"n{number}", "\t".join(fields[:4] if word == "remove-name" else fields))
 
 
 def cut(pick, asked, is_changing):
@@ -143,7 +152,10 @@ def test_exchanges_byte_by_byte(program):
     files = "city.db", "beside.db"
     for file in files:
         is_sound(program, file)
-    for query in "SELECT rider, balance FROM riders ORDER BY rider", "SELECT caller, req_key FROM kept ORDER BY 1, 2":
+    for query in (
+        "SELECT rider, balance FROM riders ORDER BY rider", "SELECT caller, req_key FROM kept ORDER BY 1, 2",
+        "SELECT name FROM stations_3", "SELECT * FROM more_names",
+    ):
         one, other = (rows_of(query, program.folder, file) for file in files)
         assert one == other, query
     one, other = (timeless(feed(program, "station_status", file=file).encode()) for file in files)

@@ -115,9 +115,24 @@ LIST = [
     ("office", "add-docks b2 3"),
     ("office", "add-docks c3 1"),
     ("office", "add-docks b2 500"),
+    ("office", "set-name station a1 en Haven"),
+    ("office", "set-name station a1 de Kai"),
+    ("office", "set-name region north fr Nord"),
+    ("office", "set-name description day en Whole_day"),
+    ("office", "add-name station b2 it Ponte"),
+    ("office", "remove-name station b2 it"),
+    ("office", "remove-name station b2 it"),
+    ("office", "remove-name station a1 en"),
+    ("office", "set-name system metro en Metro"),
+    ("office", "remove-name description day de"),
+    ("office", "add-name description day de Ein_Tag"),
+    ("office", "set-name plan gold en Gold"),
     *[("office", f"top-up 17 {it}") for it in range(1, MORE + 1)],
 ]
-REFUSED = {8: 10, 24: 4, 31: 11, 50: 30, 56: 35, 62: 33, 63: 10, 67: 37, 71: 10, 72: 11, 76: 1, 79: 1, 80: 32}
+REFUSED = {
+    8: 10, 24: 4, 31: 11, 50: 30, 56: 35, 62: 33, 63: 10, 67: 37, 71: 10, 72: 11, 76: 1, 79: 1, 80: 32, 83: 39, 87: 39,
+    88: 39, 92: 7,
+}
 
 # The columns that hold moments: HTTP requests have the clock's.
 MOMENTS = {"meta": ["now"], "stations_3": ["reported"], "rentals": ["start", "finish"], "entries": ["at"]}

@@ -10,13 +10,14 @@ SYSTEM = [
 CHANGE = [b"change-system", *SYSTEM[3:7], *SYSTEM[8:]]
 REGION = [b"add-region", b"north", b"North"]
 NAME = [b"add-name", b"system", b"metro", b"de", b"Metro"]
+OWN = [b"set-name", b"system", b"metro", b"en", b"Metro"]
 
 
 def is_read(program, fields, at, text):
-    """Whether the command is accepted with this text in the place of one field. A name in a further language and a
-    change of the system want a system."""
+    """Whether the command is accepted with this text in the place of one field. A name in a further language, another
+    name and a change of the system want a system."""
     command = b"\t".join([*fields[:at], text, *fields[at + 1 :]])
-    before = [HEAD + b"k0\t" + b"\t".join(SYSTEM) + b"\n"] if fields in (NAME, CHANGE) else []
+    before = [HEAD + b"k0\t" + b"\t".join(SYSTEM) + b"\n"] if fields in (NAME, OWN, CHANGE) else []
     status, found, said = program.run(given=b"".join([*before, HEAD + b"k1\t" + command + b"\n"]))
     assert found.startswith(OK * len(before)), found
     found = found.removeprefix(OK * len(before))
@@ -56,6 +57,7 @@ def test_names_in_further_languages(program):
     has_lengths(program, NAME, 3, b"a", 2, 35)
     for unit, most in ((b"N", 120), (b"\\\\", 120), ("é".encode(), 60), ("🚲".encode(), 30)):
         has_lengths(program, NAME, 4, unit, 1, most)
+        has_lengths(program, OWN, 4, unit, 1, most)
 
 
 def test_printable_fields(program):
@@ -71,11 +73,19 @@ def test_currencies(program):
 
 
 def test_the_longest_system(program):
-    """And its longest change, and its longest name in a further language."""
+    """And its longest change, and its longest name in a further language, which changes, goes and comes again."""
     fields = [b"set-system", b"m" * 36, b"e" * 35, b"\\\\" * 120, *[b"\\\\" * 200] * 3, b"EUR", b"\\\\" * 200, b"86400"]
     head = b"253402300799\timport:" + b"i" * 36 + b"\t"
     line = head + b"k" * 64 + b"\t" + b"\t".join(fields) + b"\n"
-    name = head + b"n" * 64 + b"\t" + b"\t".join([b"add-name", b"system", b"m" * 36, b"f" * 35, b"\\\\" * 120]) + b"\n"
+    named = [b"system", b"m" * 36, b"f" * 35, b"\\\\" * 120]
+    name, other, own, gone, again = (
+        head + key * 64 + b"\t" + b"\t".join(texts) + b"\n"
+        for key, texts in (
+            (b"n", [b"add-name", *named]), (b"s", [b"set-name", *named[:3], b"\\t" * 120]),
+            (b"o", [b"set-name", *named[:2], b"e" * 35, b"\\r" * 120]), (b"r", [b"remove-name", *named[:3]]),
+            (b"a", [b"add-name", *named]),
+        )
+    )
     texts = [b"change-system", b"\\n" * 120, *[b"\\\\" * 200] * 4, b"86400"]
     change = head + b"c" * 64 + b"\t" + b"\t".join(texts) + b"\n"
-    program.answers(line + line + change + change + name + name, OK * 6)
+    program.answers(line * 2 + change * 2 + name * 2 + other * 2 + own * 2 + gone * 2 + again * 2, OK * 14)

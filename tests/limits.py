@@ -99,6 +99,24 @@ def test_three_further_names(program):
     asks(program, rows)
 
 
+def test_a_name_that_goes_makes_room(program):
+    """Of each kind and identifier: one that goes makes room for one, and one that changes needs none."""
+    rows = [(SYSTEM, "ok"), (PLAN.replace("basic", "x"), "ok"), ("add-type\tx\tCity\tbicycle\thuman\t0\tx", "ok")]
+    rows += [("add-station\tx\tHarbour\t0\t0\t1", "ok"), ("add-region\tx\tNorth", "ok")]
+    unknown = "refused\t39\tunknown_name"
+    for kind in "system", "station", "type", "plan", "description", "region":
+        for word, language, answer in (
+            ("add", "fr", "ok"), ("add", "de", "ok"), ("add", "it", "ok"), ("add", "es", LIMIT_REACHED),
+            ("set", "de", "ok"), ("set", "es", unknown), ("set", "en", "ok"), ("add", "es", LIMIT_REACHED),
+            ("remove", "en", unknown), ("remove", "es", unknown), ("remove", "de", "ok"), ("add", "es", "ok"),
+            ("add", "de", LIMIT_REACHED), ("remove", "fr", "ok"), ("remove", "it", "ok"), ("remove", "es", "ok"),
+            ("add", "de", "ok"), ("add", "fr", "ok"), ("add", "it", "ok"), ("add", "es", LIMIT_REACHED),
+        ):
+            fields = [f"{word}-name", kind, "metro" if kind == "system" else "x", language]
+            rows.append(("\t".join(fields if word == "remove" else [*fields, "Name"]), answer))
+    asks(program, rows)
+
+
 def served(program, rows):
     """As `asks`, over a file that is sound then."""
     given = "".join(f"{HEAD}{key}\t{command}\n" for key, command, _ in rows)

@@ -150,7 +150,11 @@ def served(program, request, **refusal):
 
 
 def test_http(program):
-    named = get_feed("station_information"), office("o2", "add-name\tstation\ta1\tit\tPorto")
+    named = (
+        get_feed("station_information"), office("o2", "add-name\tstation\ta1\tit\tPorto"),
+        office("o6", "set-name\tstation\ta1\ten\tHaven"), office("o7", "set-name\tstation\tb2\tfr\tPasserelle"),
+        office("o8", "remove-name\tstation\tb2\tde"),
+    )
     change = "change-system\tMetro\tMo-Su\toffice@example.org\tEurope/Rome\thttps://bikes.example\t60"
     corrected = (
         office("o3", change), office("o4", "move-station\ta1\t-45.5\t9.1"), office("o5", "add-docks\ta1\t3")
@@ -243,6 +247,9 @@ SET_UP = [
     "crew:7|k2|change-system|Town|Mo-Su|b@example.org|Etc/UTC|https://example.com|0",
     "rider:7|k2|move-station|a1|-45.5|180",
     "dock:a1|k3|add-docks|a1|499",
+    "import:csv|k3|set-name|region|north|pt-BR|Norte",
+    "crew:7|k3|set-name|description|day|zh-Hant-TW|dd",
+    "rider:7|k3|remove-name|description|day|zh-Hant-TW",
 ]
 
 

@@ -175,8 +175,8 @@ class Operator:
         refuse(37, region != "*" and region not in self.regions)
         self.stations[station]["region"] = None if region == "*" else region
 
-    def add_name(self, kind, ident, language, name):
-        """A plan has two lists, of its name and of its description. A language is another where one byte is."""
+    def further_of(self, kind, ident):
+        """The further names of a thing by their languages; the refusal where there is no such thing, or no system."""
         refuse(38, self.system is None)
         there, unknown = {
             "system": ([self.system[0]], 11), "station": (self.stations, 1), "type": (self.types, 6),
@@ -184,10 +184,29 @@ class Operator:
             "description": (self.plans, 7), "region": (self.regions, 37),
         }[kind]
         refuse(unknown, ident not in there)
-        given = self.further.get((kind, ident), {})
+        return self.further.get((kind, ident), {})
+
+    def add_name(self, kind, ident, language, name):
+        """A plan has two lists, of its name and of its description. A language is another where one byte is."""
+        given = self.further_of(kind, ident)
         refuse(10, language == self.system[1] or language in given)
         refuse(32, len(given) >= 3)
         self.further[kind, ident] = {**given, language: name}
+
+    def set_name(self, kind, ident, language, name):
+        """In the system's language it is the thing's own name, which is always there."""
+        given = self.further_of(kind, ident)
+        refuse(39, language != self.system[1] and language not in given)
+        if language == self.system[1]:
+            self.named[kind, ident] = name
+        else:
+            self.further[kind, ident] = {**given, language: name}
+
+    def remove_name(self, kind, ident, language):
+        """An own name is none that may go."""
+        given = self.further_of(kind, ident)
+        refuse(39, language not in given)
+        self.further[kind, ident] = {other: name for other, name in given.items() if other != language}
 
     def set_station(self, station, *flags):
         refuse(1, station not in self.stations)

@@ -310,6 +310,7 @@ def test_what_came_later_is_served_of_a_raised_file(program):
             (f"{AT} office n2 set-region a1 north", "ok"),
             (f"{AT} office n3 add-name station a1 de Hafen", "ok"),
             (f"{AT} office n4 add-name station a1 en Harbour", "refused 10 already_there"),
+            (f"{AT} office n4 remove-name station a1 en", "refused 39 unknown_name"),
         )
         tells(
             program, file, station_status=STATUS, system_regions=f'{{"regions":[{NORTH}]}}',
@@ -334,10 +335,16 @@ def test_what_came_later_is_served_of_a_raised_file(program):
             (f"{AT} office n11 add-docks b2 1", "refused 32 limit_reached"),
             (f"{AT} office n11 add-docks a1 7", "ok"),
             (f"{AT} office n12 mark-dock a1 9 broken", "ok"),
+            (f"{AT} office n13 set-name station a1 en Haven", "ok"),
+            (f"{AT} office n14 set-name station a1 de Kai", "ok"),
+            (f"{AT} office n15 set-name region north en Norden", "ok"),
+            (f"{AT} office n16 add-name plan basic de Einfach", "ok"),
+            (f"{AT} office n17 remove-name plan basic de", "ok"),
         )
         texts = {name: program.run("feed", file.name, name)[1] for name in ("gbfs", "station_information")}
         assert b'"url":"https://x.example/gbfs/3.0/' in texts["gbfs"], texts
         assert b'"lat":-45.500000,"lon":9.000000,' in texts["station_information"], texts
+        assert b'"Haven","language":"en"},{"text":"Kai","language":"de"}]' in texts["station_information"], texts
         assert program.run("check", file.name) == SOUND
         assert program.run("raise", file.name) == DONE
 
@@ -346,7 +353,7 @@ def test_cities_of_traffic(program):
     """What today's program holds of them, less what came later, is what a raised file holds."""
     for seed, version in (SEED, 1), (SEED + 1, 2):
         file = Path(program.folder, f"city{version}.db")
-        lines, told = traffic.made(seed, 600)
+        lines, told = traffic.made(seed, 600, languages=["en"])
         regions = [f"0\toffice\tr{it}\tadd-region\tr{it}\tRegion {it}\n" for it in range(3)]
         regions += [f"0\toffice\ts{it}\tset-region\ts000{1 + it}\tr{it % 3}\n" for it in range(5)]
         given = "".join([*lines, *(regions if version == 2 else [])]).encode()

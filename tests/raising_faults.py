@@ -162,11 +162,12 @@ def test_kept_requests_are_judged_by_todays_texts(program):
         "add-name|station|a1|de|Hafen", "add-region|north|North", "set-region|a1|*",
         "add-station|b2|Hall|1.000000|2.000000|500", "mark-dock|a1|201|broken",
         "change-system|N|24/7|c|UTC|https://x|0", "move-station|a1|1.000000|2.000000",
-        "add-docks|a1|500",
+        "add-docks|a1|500", "set-name|station|zz|de|N", "set-name|system|other|en|N", "remove-name|region|zz|de",
     ]
     bad = [
         "add-name|bike|7|de|N", "add-station|b2|Hall|1.000000|2.000000|501", "add-station|b2|Hall|1|2|500",
         "change-system|N|24/7|c|UTC|https://x|86401", "move-station|a1|1|2", "add-docks|a1|501",
+        "set-name|bike|7|de|N", "set-name|station|zz|de", "remove-name|station|zz|d", "remove-name|station|zz|de|N",
         "raise|city",
     ]
     for version in OLD:

@@ -377,6 +377,66 @@ def test_the_worked_names(program):
     is_sound(program)
 
 
+def test_the_worked_names_that_change_and_go(program):
+    """The same feeds, whole, while names in the system's language and in further ones are corrected."""
+    city(program, "add-name\tstation\ta1\tde\tHaven", "add-name\tstation\ta1\tfr\tPort")
+    head = f'{{"last_updated":"{MOMENT}","ttl":30,"version":"3.0","data":'
+    place, system = head + NAMED_PLACE, head + NAMED_SYSTEM
+    haven, hafen, port = (f',{{"text":"{text}","language":"{language}"}}' for text, language in (
+        ("Haven", "de"), ("Hafen", "de"), ("Port", "fr")
+    ))
+    places, about = get_feed("station_information"), get_feed("system_information")
+    unknown = refused(39, "unknown_name")
+    holds(program, [
+        (places, answer(200, place % (haven + port))),
+        (office("n1", "set-name\tstation\ta1\tit\tPorto"), unknown),
+        (office("n1", "set-name\tstation\ta1\tDE\tHafen"), unknown),
+        (office("n1", "set-name\tstation\tzz\ten\tX"), refused(1, "unknown_station")),
+        (office("n1", "set-name\ttype\tzz\ten\tX"), refused(6, "unknown_type")),
+        (office("n1", "set-name\tplan\tzz\ten\tX"), refused(7, "unknown_plan")),
+        (office("n1", "set-name\tdescription\tzz\tde\tX"), refused(7, "unknown_plan")),
+        (office("n1", "set-name\tregion\tzz\tde\tX"), refused(37, "unknown_region")),
+        # The operator's answer, and the reader's, which has no such kind.
+        (office("n1", "set-name\tsystem\tother\ten\tX"), BAD_FIELD),
+        (office("n1", "set-name\tbike\t7\ten\tX"), BAD_FIELD),
+        (office("n1", "set-name\tstation\ta1\tde\tHafen"), DONE),
+        (places, answer(200, place % (hafen + port))),
+        (office("n1", "set-name\tstation\ta1\tde\tHafen"), DONE),
+        (office("n1", "set-name\tstation\ta1\tde\tHaven"), refused(33, "key_reused")),
+        (office("n1", "remove-name\tstation\ta1\tde"), refused(33, "key_reused")),
+        (office("n1", "set-name\tsystem\tother\ten\tX"), refused(33, "key_reused")),
+        (office("n2", "set-name\tsystem\tmetro\ten\tMetro"), DONE),
+        (office("n3", "set-name\tstation\ta1\ten\tOld harbour"), DONE),
+        (places, answer(200, (place % (hafen + port)).replace("Harbour", "Old harbour"))),
+        (about, answer(200, (system % (',"de","fr"', "")).replace("Metro Bikes", "Metro"))),
+        (office("n4", "remove-name\tstation\ta1\ten"), unknown),
+        (office("n4", "remove-name\tstation\ta1\tit"), unknown),
+        (office("n4", "remove-name\tsystem\tmetro\tde"), unknown),
+        (office("n4", "remove-name\tsystem\tother\tde"), BAD_FIELD),
+        (office("n4", "remove-name\tstation\ta1\tde\tHafen"), BAD_FIELD),
+        (office("n4", "remove-name\tstation\tzz\tde"), refused(1, "unknown_station")),
+        (office("n4", "remove-name\tstation\ta1\tde"), DONE),
+        (office("n4", "remove-name\tstation\ta1\tde"), DONE),
+        (office("n5", "remove-name\tstation\ta1\tde"), unknown),
+        (office("n5", "set-name\tstation\ta1\tde\tHafen"), unknown),
+        (places, answer(200, (place % port).replace("Harbour", "Old harbour"))),
+        (about, answer(200, (system % (',"fr"', "")).replace("Metro Bikes", "Metro"))),
+        # What was answered once is answered again, and changes nothing.
+        (office("n1", "set-name\tstation\ta1\tde\tHafen"), DONE),
+        (places, answer(200, (place % port).replace("Harbour", "Old harbour"))),
+        (office("n5", "add-name\tstation\ta1\tde\tHaven"), DONE),
+        (office("n6", "set-name\tstation\ta1\ten\tHarbour"), DONE),
+        (office("n4", "remove-name\tstation\ta1\tde"), DONE),
+        (places, answer(200, place % (haven + port))),
+        (office("n7", "remove-name\tstation\ta1\tde"), DONE),
+        (office("n8", "remove-name\tstation\ta1\tfr"), DONE),
+        (office("n9", "set-name\tsystem\tmetro\ten\tMetro Bikes"), DONE),
+        (places, answer(200, place % "")),
+        (about, answer(200, system % ("", ""))),
+    ])
+    is_sound(program)
+
+
 def test_the_worked_corrections(program):
     """The feeds, whole, before and after the system and a station's place are corrected."""
     city(program)
@@ -469,6 +529,8 @@ def test_no_system(program):
         (office("o1", "add-name\tstation\ta1\tde\tHafen"), refused(38, "system_missing")),
         (office("o1", "add-name\tsystem\tmetro\tde\tMetro"), refused(38, "system_missing")),
         (office("o1", "change-system\tM\t24/7\tc\tEtc/UTC\thttps://x.example\t60"), refused(38, "system_missing")),
+        (office("o1", "set-name\tsystem\tmetro\ten\tMetro"), refused(38, "system_missing")),
+        (office("o1", "remove-name\tstation\ta1\tde"), refused(38, "system_missing")),
         (office("o1", "move-station\ta1\t0\t0"), refused(1, "unknown_station")),
         (office("o1", "add-docks\ta1\t1"), refused(1, "unknown_station")),
         *((get_feed(name), error(404)) for name in FEEDS),

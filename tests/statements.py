@@ -19,6 +19,14 @@ OF_A_CORRECTION = {
     "UPDATE system SET name = ?2, hours = ?3, contact = ?4, zone = ?5, base_url = ?6, ttl = ?7 WHERE one = ?1",
     "UPDATE stations_3 SET lat = ?2, lon = ?3 WHERE station_id = ?1",
     "UPDATE stations_3 SET docks = ?2, free = ?3 WHERE station_id = ?1",
+    "UPDATE system SET name = ?2 WHERE one = ?1",
+    "UPDATE stations_3 SET name = ?2 WHERE station_id = ?1",
+    "UPDATE types SET name = ?2 WHERE type_id = ?1",
+    "UPDATE plans SET name = ?2 WHERE plan_id = ?1",
+    "UPDATE plans SET description = ?2 WHERE plan_id = ?1",
+    "UPDATE regions SET name = ?2 WHERE region_id = ?1",
+    "UPDATE more_names SET name = ?4 WHERE kind = ?1 AND id = ?2 AND language = ?3",
+    "DELETE FROM more_names WHERE kind = ?1 AND id = ?2 AND language = ?3",
 }
 
 

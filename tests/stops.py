@@ -80,6 +80,11 @@ OTHERS = [
     ("1700004980 office n19 change-system Metro Mo-Su office@example.org Europe/Rome https://bikes.example 60", "ok"),
     ("1700004980 office n20 move-station a1 -45.5 9.1", "ok"),
     ("1700004990 office n21 add-docks a1 3", "ok"),
+    ("1700004990 office n22 set-name station a1 en Haven", "ok"),
+    ("1700004990 office n23 set-name station a1 de Kai", "ok"),
+    ("1700004990 office n24 remove-name station a1 fr", "ok"),
+    ("1700004995 office n25 remove-name description day de", "ok"),
+    ("1700004995 office n26 set-name description day en Daily", "ok"),
 ]
 
 

@@ -118,8 +118,8 @@ VALUES = {
     ],
 }
 
-# Commands behind those that correct the system, and places and docks of stations, each with its own text, and what the
-# fields are then: no others of the row have changed.
+# Commands behind those that correct the system, places and docks of stations, and names, each with its own text, and
+# what the fields are then: no others of the row have changed.
 CORRECTED = [
     ('change-system|Q "1"\\t🚲|\\\\ "|c|z|u/|0', 'change-system|Q "1"\\t🚲|\\\\ "|c|z|u/|0'),
     ("move-station|a1|-000.5|180", "move-station|a1|-0.500000|180.000000"),
@@ -129,11 +129,28 @@ CORRECTED = [
     ("add-docks|a1|499", "add-docks|a1|499"),
     ("add-docks|a4|1", "add-docks|a4|1"),
     ("add-docks|a4|12", "add-docks|a4|12"),
+    ("set-name|system|s|de|\\\\N", "set-name|system|s|de|\\\\N"),
+    ('set-name|station|a1|de|Q "1"\\t', 'set-name|station|a1|de|Q "1"\\t'),
+    ("set-name|plan|p1|de|P", "set-name|plan|p1|de|P"),
+    ("set-name|description|p3|de|\\n\\r🚲", "set-name|description|p3|de|\\n\\r🚲"),
+    ("set-name|region|r1|de|R", "set-name|region|r1|de|R"),
+    ("set-name|station|a1|DE|Ö\\\\", "set-name|station|a1|DE|Ö\\\\"),
+    ("set-name|description|p1|fr|D", "set-name|description|p1|fr|D"),
+    ("remove-name|station|a1|en", "remove-name|station|a1|en"),
+    ("remove-name|region|-r_2|zh-Hant-TW", "remove-name|region|-r_2|zh-Hant-TW"),
+    ("add-name|region|-r_2|zh-Hant|M", "add-name|region|-r_2|zh-Hant|M"),
+    ("remove-name|system|s|fr", "remove-name|system|s|fr"),
 ]
 CORRECTED_VALUES = {
-    "SELECT * FROM system": [(1, "s", "de", 'Q "1"\t🚲', '\\ "', "c", "z", "EUR", "u/", 0)],
+    "SELECT * FROM system": [(1, "s", "de", "\\N", '\\ "', "c", "z", "EUR", "u/", 0)],
+    "SELECT name, description FROM plans ORDER BY plan_id": [("P", "D"), ("\n\r\\", "D"), ("Corso, nörd", "\n\r🚲")],
+    "SELECT * FROM regions ORDER BY region_id": [("-r_2", "\n\r\\🚲"), ("r1", "R")],
+    "SELECT * FROM more_names ORDER BY kind, id, language": [
+        ("description", "p1", "fr", "D"), ("plan", "p1", "fr", "Q"), ("region", "-r_2", "zh-Hant", "M"),
+        ("station", "a1", "DE", "Ö\\"),
+    ],
     "SELECT * FROM stations_3 ORDER BY station_id": [
-        ("a1", "N", -500000, 180000000, 500, 1, 1, 1, 1700000000, 500, 0, None),
+        ("a1", 'Q "1"\t', -500000, 180000000, 500, 1, 1, 1, 1700000000, 500, 0, None),
         ("a2", "N", 0, -180000000, 1, 1, 1, 1, 1700000000, 1, 0, "-r_2"),
         ("a3", "N", 7000000, 180000000, 1, 1, 1, 1, 1700000000, 1, 0, None),
         ("a4", "N", 0, 45100000, 23, 1, 1, 1, 1700000000, 23, 0, None),

@@ -67,6 +67,8 @@ ASKED = [
     "set-station c3 false true true", "set-rider 19 blocked", "retire-bike 8",
     "change-system Stadtrad Mo-Su office@example.org Europe/Rome https://bikes.example 60",
     "move-station c3 -0.000001 180", "move-station c3 45 9.1", "add-docks c3 4", "mark-dock c3 5 broken",
+    "set-name station c3 en Closed_until_May", "set-name description day de Ein_ganzer_Tag",
+    "add-name type city it Città", "remove-name type city it",
 ]
 
 
@@ -204,7 +206,9 @@ WORDS = [
     "balance\t-0", "refused\t4\tunknown_rider", "rental\t1\t7", "fare\t1\t2", "order\t0", "x" * 9000, "k1",
     "add-region\tnorth\tNorth", "set-region\ta1\t*", "set-region\ta1\t", "add-name\tstation\ta1\tde\tHafen",
     "move-station\tzz\t0.000000\t0.000000", "move-station\tzz\t0\t0", *CORRECTIONS,
-    "add-docks\tzz\t500", "add-docks\tzz\t501", "add-docks\tzz\t07",
+    "add-docks\tzz\t500", "add-docks\tzz\t501", "add-docks\tzz\t07", "set-name\tsystem\tother\ten\tX",
+    "set-name\tbike\t7\ten\tX", "set-name\tstation\ta1\tde", "remove-name\tplan\tgold\tde",
+    "remove-name\tplan\tgold\tde\tX",
     "add-name\tbike\t7\tde\tX", "en", "de", "EN", "zz-Zzzz", "d_e", "-" * 35, "metro", "system", "station", "type",
     "plan", "description", "region", "Region", "names",
 ]

@@ -10,24 +10,43 @@ city = loaded(TOP / "bench/city.py")
 SIZES = {"stations": 9, "docks": 8, "types": 3, "bicycles": 40, "riders": 60, "trucks": 3, "daily": 600}
 
 
-def made(seed, requests, refused=0.1, repeated=0.05):
+# Few things, some that aren't there, and few languages, of which the first is the system's: so names are there that
+# change and go.
+NAMED = [("system", "metro"), ("station", "s0001"), ("type", "model-02"), ("plan", "basic"), ("description", "basic")]
+MISSING = [("system", "other"), ("station", "s0099"), ("plan", "none"), ("description", "none"), ("region", "north")]
+LANGUAGES = ["en", "de", "DE", "fr", "it"]
+
+
+def made(seed, requests, refused=0.1, repeated=0.05, languages=LANGUAGES):
     """The requests that build a small city, and those of its traffic, a share of them refused or sent twice, with their
     answers."""
     it = city.City(seed=seed, **SIZES)
-    lines = [*it.setup(), *itertools.islice(corrected(it.traffic(refused, repeated), seed), requests)]
+    lines = [*it.setup(), *itertools.islice(corrected(it.traffic(refused, repeated), seed, languages), requests)]
     operator = model.Operator()
     answers = [operator.answer(line.rstrip("\n").encode()) for line in lines]
     return lines, answers
 
 
-def corrected(lines, seed):
-    """The lines, and behind one of twenty a correction of what was entered, some of them refused or sent twice."""
+def corrected(lines, seed, languages=LANGUAGES):
+    """The lines, and behind one of twenty a correction of what was entered, some of them refused or sent twice; behind
+    another of twenty one of a name in these languages."""
     pick = random.Random(f"{seed} corrections")
     for number, line in enumerate(lines):
         yield line
-        if pick.random() < 0.05:
+        drawn = pick.random()
+        if drawn < 0.1:
             moment, _ = line.split("\t", 1)
-            yield from [f"{moment}\toffice\tc{number}\t{correction(pick)}\n"] * pick.choice([1, 1, 2])
+            command = correction(pick) if drawn < 0.05 else naming(pick, languages)
+            yield from [f"{moment}\toffice\tc{number}\t{command}\n"] * pick.choice([1, 1, 2])
+
+
+def naming(pick, languages):
+    """A command that adds, changes or removes a name of what may not be there, in a language in which it may have
+    none."""
+    word = pick.choice(["add-name", "set-name", "remove-name"])
+    kind, ident = pick.choice(NAMED if pick.random() < 0.8 else MISSING)
+    fields = [word, kind, ident, pick.choice(languages)]
+    return "\t".join(fields if word == "remove-name" else [*fields, f"Name {pick.randint(0, 99)}"])
 
 
 def correction(pick):
@@ -55,7 +74,7 @@ def test_three_cities_in_memory(program):
     for seed in (1, 2, 3):
         lines, answers = made(seed, 1200)
         wanted = {"start", "end", "top-up", "mark-dock", "mark-bike", "open-order", "load", "unload", "close-order"}
-        wanted |= {"change-system", "move-station", "add-docks"}
+        wanted |= {"change-system", "move-station", "add-docks", "add-name", "set-name", "remove-name"}
         assert wanted <= told_apart(lines, answers), (
             f"seed {seed} has no accepted {wanted - told_apart(lines, answers)}"
         )

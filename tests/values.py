@@ -27,6 +27,7 @@ THERE = "refused|10|already_there"
 BAD_FIELD = "refused|11|bad_field"
 NOT_SET = "refused|38|system_missing"
 UNKNOWN_STATION = "refused|1|unknown_station"
+UNKNOWN_NAME = "refused|39|unknown_name"
 
 NO_DEGREES = [
     "180.000001", "-180.000001", "1000", "0001", ".5", "1.", "+1", "1.0000000", "", "-", "--1", "1 ", " 1", "1.5.5",
@@ -43,6 +44,7 @@ NO_REGIONS = [it for it in NO_IDENTS if it != "*"]
 LATITUDES = ["0", "-0", "48.1", "048.100000", "-0.000001", "90", "-90", "90.000000"]
 NO_LATITUDES = ["90.000001", "-90.000001", "-180", *NO_DEGREES]
 LONGITUDES = ["-0", "007", "45.5", "90.000001", "-90.000001", "180", "-180", "-180.000000", "12.034567"]
+IDENTS = ["az_09-", "-", "a0z9", "a" * 36]
 NAMES = ["Rue é", "a\\\\b", "\\t\\n\\r", "Mo-Su 06:00", "a;b", "\\\\" * 120]
 NO_NAMES = ["a\rb", "a\\", "a\\x", "a\\0", "a\\T", "a\0", "", "\\\\" * 121]
 ASCIIS = ["a\\\\b", "Mo-Su 06:00", "a;b", "\\\\" * 121, "\\\\" * 200]
@@ -61,6 +63,17 @@ def change(at):
     texts = [*GOOD[2:6], *GOOD[7:]]
     return "|".join(["change-system", *texts[:at], "{}", *texts[at + 1 :]])
 
+
+# The commands of names, with what stands behind the language. The answers where there is no such thing of a kind; texts
+# that are no kind, and ones that are languages and that aren't.
+NAMING = [("add-name", "|N"), ("set-name", "|N"), ("remove-name", "")]
+NO_SUCH = {
+    "station": UNKNOWN_STATION, "type": "refused|6|unknown_type", "plan": "refused|7|unknown_plan",
+    "description": "refused|7|unknown_plan", "region": "refused|37|unknown_region", "system": BAD_FIELD,
+}
+NO_KINDS = ["Station", "stations", "bike", "rider", "truck", "order", "system_regions", "*", ""]
+LANGUAGES = ["EUR", "de-AT", "--", "00", "a" * 35]
+NO_LANGUAGES = ["az_09-", "", "e", "a" * 36, "aa\0", "e n"]
 
 # Of each field: a command with {} in its place, the answer where it is read, texts that are read, and texts that
 # aren't.
@@ -133,31 +146,24 @@ FIELDS = [
         ["en", "EUR", "de-AT", "pt-BR", "a0z9", "a" * 35],
         ["az_09-", "", "e", "a" * 36, "a" * 37, "aa\0"],
     ),
-    (
-        "add-name|{}|zz|de|N",
-        "refused|1|unknown_station",
-        ["station"],
-        ["Station", "stations", "bike", "rider", "truck", "order", "system_regions", "*", ""],
+    *((f"{word}|{{}}|zz|de{name}", UNKNOWN_STATION, ["station"], NO_KINDS) for word, name in NAMING),
+    *(
+        (line, answer, ["plan", "description"], ["Plan", "plans", "names", "descriptions", " plan", ""])
+        for line, answer in (
+            ("add-name|{}|day|en|N", THERE), ("set-name|{}|day|de|N", UNKNOWN_NAME),
+            ("remove-name|{}|day|en", UNKNOWN_NAME),
+        )
     ),
-    ("add-name|{}|day|en|N", THERE, ["plan", "description"], ["Plan", "plans", "names", "descriptions", " plan", ""]),
-    ("add-name|station|{}|de|N", "refused|1|unknown_station", ["az_09-", "-", "a0z9", "a" * 36], NO_IDENTS),
-    ("add-name|type|{}|de|N", "refused|6|unknown_type", ["az_09-", "-", "a0z9", "a" * 36], NO_IDENTS),
-    ("add-name|plan|{}|de|N", "refused|7|unknown_plan", ["az_09-", "-", "a0z9", "a" * 36], NO_IDENTS),
-    ("add-name|description|{}|de|N", "refused|7|unknown_plan", ["az_09-", "-", "a0z9", "a" * 36], NO_IDENTS),
-    ("add-name|region|{}|de|N", "refused|37|unknown_region", ["az_09-", "-", "a0z9", "a" * 36], NO_IDENTS),
-    ("add-name|system|{}|de|N", BAD_FIELD, ["az_09-", "-", "a0z9", "a" * 36], NO_IDENTS),
-    (
-        "add-name|station|zz|{}|N",
-        "refused|1|unknown_station",
-        ["en", "EUR", "de-AT", "--", "00", "a" * 35],
-        ["az_09-", "", "e", "a" * 36, "aa\0", "e n"],
+    *(
+        (f"{word}|{kind}|{{}}|de{name}", answer, IDENTS, NO_IDENTS)
+        for word, name in NAMING
+        for kind, answer in NO_SUCH.items()
     ),
-    (
-        "add-name|station|a1|en|{}",
-        THERE,
-        ["Rue é", "a\\\\b", "\\t\\n\\r", "*", "-", "\\\\" * 120],
-        ["a\rb", "a\\", "a\\x", "a\0", "", "\\\\" * 121],
-    ),
+    *((f"{word}|station|zz|{{}}{name}", UNKNOWN_STATION, ["en", *LANGUAGES], NO_LANGUAGES) for word, name in NAMING),
+    ("set-name|station|a1|{}|N", UNKNOWN_NAME, LANGUAGES, NO_LANGUAGES),
+    ("remove-name|station|a1|{}", UNKNOWN_NAME, ["en", *LANGUAGES], ["en|N", "en|", *NO_LANGUAGES]),
+    ("add-name|station|a1|en|{}", THERE, ["*", "-", *NAMES], ["N|N", "N|", *NO_NAMES]),
+    ("set-name|station|a1|de|{}", UNKNOWN_NAME, ["*", "-", *NAMES], ["N|N", "N|", *NO_NAMES]),
     (system(6), THERE, ["EUR", "AMZ"], ["EU", "EURO", "eur", "az_09-", "de-AT", "", "a" * 36, "E R", "aa\0", "E0R"]),
     (system(2), THERE, NAMES, NO_NAMES),
     (system(3), THERE, ASCIIS, NO_ASCIIS),
@@ -316,7 +322,7 @@ NO_REPLIES = [
     *(f"fare|{it}|0" for it in [*BAD_NUMBERS, "-1", "34561800001", "9223372036854775807", "-9223372036854775808"]),
     "fare|0", "fare|0|-0", "order|0", "order|100000001", "refused|11", "refused|10|bad_field", "refused|0|bad_field",
     "refused|11|bad_field", "refused|37|unknown_region",
-    "refused|38|system_missing", "refused|39|system_missing",
+    "refused|38|system_missing", "refused|39|system_missing", "refused|39|unknown_name", "refused|40|unknown_name",
 ]
 
 
