@@ -282,6 +282,49 @@ def test_bytes_that_were_changed(program):
     is_alike(program, Path(program.folder, "wide.db"), "store failed", "UTF-16")
 
 
+def test_a_declaration_that_is_not_utf8(program):
+    """SQLite tells of it by a text that isn't UTF-8 either."""
+    city = city_file(program)
+    # Else there are declarations of before in what is free.
+    changed(city, "VACUUM")
+    made = taken(city)[""]
+    file = Path(program.folder, "declared.db")
+    for was, byte, wanted in (
+        (b"(station_id TEXT PRIMARY KEY NOT NULL, name", 30, "foreign"), (b"CREATE TABLE riders", 4, "store failed"),
+    ):
+        assert made.count(was) == 1, was
+        at = made.index(was) + byte
+        put({"": made[:at] + b"\xcc" + made[at + 1 :]}, file)
+        is_alike(program, file, wanted, "declaration", "restore the last copy")
+        status, lines = told(file, "unsound", "riders", "17")
+        assert status == 1 and len(lines) == 2, lines
+
+
+def test_counts_in_the_head(program):
+    """The two counts of changes are the same, and the form of tables is 4 or 0; a log that has the first page has
+    another head. Less than a page behind the last one is passed over."""
+    made = taken(city_file(program))[""]
+    page = int.from_bytes(made[16:18], "big")
+    file = Path(program.folder, "head.db")
+    for data, wanted in (
+        *((made[:at] + bytes([made[at] ^ 1]) + made[at + 1 :], "store failed") for at in (24, 27, 44, 46, 92, 95)),
+        *((made[:47] + bytes([form]) + made[48:], "store failed") for form in (1, 2, 3, 5)),
+        (made[:47] + b"\0" + made[48:], None), (made[:24] + b"same" + made[28:92] + b"same" + made[96:], None),
+        (made + b"x", None), (made + bytes(page - 1), None),
+    ):
+        put({"": data}, file)
+        is_alike(program, file, wanted, *(["head is damaged. Restore"] if wanted else []))
+    young = taken(killed_city(program, "young.db"))
+    put({"": young[""][:27] + b"\x55" + young[""][28:], "-wal": young["-wal"]}, file)
+    is_alike(program, file, None)
+    killed_again = Path(program.folder, "city.db")
+    accepted(program, ["add-rider\t18"], file=killed_again, key="h")
+    killed(program, requests_of(["add-rider\t19"], key="n"))
+    grown = taken(killed_again)
+    put({"": grown[""][:27] + b"\x55" + grown[""][28:], "-wal": grown["-wal"]}, file)
+    is_alike(program, file, "store failed", "head is damaged. Restore")
+
+
 def test_databases_of_other_programs(program):
     """Of a database with none of the tables check says `sound`, and the script that it holds no city."""
     for name, change, wanted in (
@@ -898,6 +941,36 @@ def test_a_user_without_rights(program):
     assert nobody.run("lines", str(file), user=NOBODY, group=NOBODY, extra_groups=[]) == STORE_FAILED
 
 
+def test_a_log_of_somebody_else(program):
+    """Of a log that can't be read nothing more is told. Where there is one, a folder of root's is good enough."""
+    nobody = as_nobody(program)
+    if nobody is None or not os.access("/usr/bin/python3", os.X_OK):
+        return
+    home = Path(program.folder, "home")
+    home.mkdir()
+    file = home / "city.db"
+    whole = taken(killed_city(program))
+    put({"": whole[""], "-wal": whole["-wal"]}, file)
+    log = Path(f"{file}-wal")
+    for folder_owner, log_owner, mode, has_log, hint in (
+        (NOBODY, 0, 0o755, True, f"{log}, which is root's, can't be read"), (0, NOBODY, 0o755, True, None),
+        (0, NOBODY, 0o711, True, f"{home}, which is root's, can't be read by nobody"),
+        (0, NOBODY, 0o755, False, f"{home}, which is root's, can't be read and written by nobody"),
+    ):
+        if not has_log:
+            # FILE has all of it by now.
+            log.unlink()
+        for path, owner in (home, folder_owner), (file, NOBODY), (log, log_owner):
+            if path.exists():
+                os.chown(path, owner, owner)
+                os.chmod(path, mode if path == home else 0o600)
+        as_user = {"user": NOBODY, "group": NOBODY, "extra_groups": []}
+        status, said = ran("/usr/bin/python3", "-I", Path(program.folder, "script"), file, **as_user)
+        assert status == (1 if hint else 0) and said.count("\n") == 1, (hint, said)
+        assert ("nothing found" if hint is None else hint) in said, (hint, said)
+        assert nobody.run("lines", str(file), **as_user) == (STORE_FAILED if hint else (0, b"", b"")), hint
+
+
 def test_a_folder_without_rights(program):
     """Where nobody may not write, or read, a folder, an absent FILE can't be made there, and that is told to nobody,
     and to root of nobody's folder."""
@@ -1003,6 +1076,11 @@ def test_what_the_program_said(program):
         assert ("another table? Then give it a NAME of its own" in text) == other, (said, text)
         assert re.search("import (it )?again under the same name", text, re.I), (said, text)
     assert told(file, "--port", "0", "unsound", "bikes", "7")[0] == 1 == told(file, "gone", "fishing")[0]
+    file = city_file(program, "whole.db")
+    for said in "ready", "sound", "version 3", "rows 7", "listening 127.0.0.1:8080":
+        status, lines = told(file, *said.split())
+        assert status == 0 and lines[0].startswith(f"{file}: {said}: that line is no fault"), (said, lines)
+    assert "no such line" in told(file, "version", "x")[1][-1], said
 
 
 def test_the_schema_is_the_programs(program):
@@ -1208,8 +1286,8 @@ def test_what_is_said_of_feeds(program):
          ("station_information: doubtful: a1: 'HÃ´tel 0' ", " (and 2 more alike).")),
         ((*information, 1), {**places[1], "lat": places[0]["lat"], "lon": places[0]["lon"]},
          ("station_information: doubtful: a1 and b2: one place", "stands twice?")),
-        (information, [{**it, "name": places[0]["name"], "lat": 41.9 + at / 10_000, "lon": 12} for at, it in numbered],
-         ("station_information: doubtful: a1 and b2, b2 and c3: ", "one name within 20 metres")),
+        (information, [{**it, "name": places[0]["name"], "lat": 41.9 + at / 1_500, "lon": 12} for at, it in numbered],
+         ("station_information: doubtful: a1 and b2, b2 and c3: ", "one name within 100 metres")),
         ((*words[:2], "name", 0, "text"), "VÃ©lo", ("system_information: doubtful: name: 'VÃ©lo' ", "'Vélo'?")),
         ((*information, 0), exchanged[0], ("station_information: doubtful: a1: ", "exchanged")),
         (information, exchanged, ("station_information: doubtful: a1: the stations lie far from Europe/Rome",)),

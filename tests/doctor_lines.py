@@ -381,6 +381,21 @@ def test_further_names_of_lines(program):
     assert answers == [*[b"ok"] * 3, *[b"refused\t10\talready_there"] * 2, *[b"ok"] * 3], answers
 
 
+def test_tags_of_the_own_language(program):
+    """Of feeds, remove-name is told of further languages alone: the program refuses it of the system's own."""
+    for own, further, wanted in (
+        ("EN", [], [(True, False)]), ("zh-Hans", ["de"], [(True, False)]), ("en", ["DE"], [(False, True)]),
+        ("EN", ["en"], [(True, False), (True, True)]), ("EN", ["zh-Hans"], [(True, True)]), ("en", ["de"], []),
+    ):
+        feeds = doctor.Feeds("https://x.example", NOW)
+        feeds.data = {"system_information": {"languages": [own, *further]}}
+        feeds.see_languages()
+        found = [("stays for good" in it.text, "goes by remove-name" in it.text) for it in feeds.found]
+        assert found == wanted, (own, further, feeds.found)
+    lines = f"{system_line(language='EN')}\n{NOW}\toffice\tk2\tremove-name\tsystem\tmetro\tEN"
+    assert program.run(given=lines.encode())[1].startswith(b"ok\nrefused\t39\t")
+
+
 def test_names_that_lines_correct(program):
     """A name in a further language that changes or goes later isn't told any more where the system's own changed. Of
     fields of names a language is doubted where one comes, and what is said tells how a name is corrected."""
@@ -478,15 +493,41 @@ def test_places_of_lines(program):
     assert program.run(given=exchanged)[1] == b"ok\nok\nrefused\t11\tbad_field\n"
 
 
+def test_all_stations_far_from_their_zone(program):
+    """All stations with their coordinates exchanged, or with a sign lost, are told by the place of the time zone."""
+    for zone, lat, lon in (
+        ("Europe/Athens", 37.98, 23.73), ("Europe/Bucharest", 44.43, 26.1), ("Europe/Istanbul", 41.01, 28.98),
+        ("Europe/Sofia", 42.7, 23.32), ("Europe/Rome", 38.12, 13.36), ("America/Sao_Paulo", -22.9, -43.2),
+        ("America/New_York", 25.77, -80.19),
+    ):
+        for places, word in (
+            ((lat, lon), ""), ((lon, lat), "the two exchanged"), ((-lat, lon), "sign of the latitude"),
+            ((lat, -lon), "sign of the longitude"),
+        ):
+            found = doctor.findings_of_lines((system_line(timezone=zone) + station_lines(places)).encode(), NOW)
+            assert [place_of(it) for it in found] == [("line 2, lat and lon", FOR_NOW)] * bool(word), (zone, found)
+            assert all(word in it.text and zone in it.text for it in found), (zone, word, found)
+    # From Jerusalem the exchanged ones lie some 500 km.
+    near = (system_line(timezone="Asia/Jerusalem") + station_lines((35.22, 31.78))).encode()
+    assert doctor.findings_of_lines(near, NOW) == []
+
+
 # Stations by their names and places, and the number of the one that seems to be the first.
 TWINS = (
     ((("Harbour", 41.9, 12.5), ("Harbour", 41.9, 12.5)), 2), ((("Harbour", 41.9, 12.5), ("Canal", 41.9, 12.5)), 2),
     ((("Harbour", 41.9, 12.5), ("Canal", 41.91, 12.5), (" harbour ", 41.90004, 12.5001)), 3),
     ((("Harbour", 41.900499, 12.500499), ("Harbour", 41.900501, 12.500501)), 2),
-    ((("Harbour", 41.9, 12.5), ("Harbour", 41.9, 12.5003)), None),
-    ((("Harbour", 41.9, 12.5), ("Canal", 41.9, 12.500001)), None),
-    ((("Harbour", 78.2, 15.6), ("Harbour", 78.2, 15.6008)), 2),
-    ((("Harbour", 78.2, 15.6), ("Harbour", 78.2, 15.602)), None),
+    ((("Harbour", 41.9, 12.5), ("HARBOUR", 41.9, 12.5012)), 2),
+    ((("Harbour", 41.9, 12.5), ("Harbour", 41.9, 12.5013)), None),
+    ((("Harbour", 41.9, 12.5), ("harbour", 41.900899, 12.5)), 2),
+    ((("Harbour", 41.9, 12.5), ("Harbour", 41.901, 12.5)), None),
+    ((("Harbour", 41.9, 12.5), ("Canal", 41.9, 12.500024)), 2),
+    ((("Harbour", 41.9, 12.5), ("Canal", 41.9, 12.500025)), None),
+    ((("Harbour", 41.9, 12.5), ("Canal", 41.900017, 12.5)), 2),
+    ((("Harbour", 41.9, 12.5), ("Canal", 41.900019, 12.5)), None),
+    ((("Harbour", 78.2, 15.6), ("Harbour", 78.2, 15.6043)), 2),
+    ((("Harbour", 78.2, 15.6), ("Harbour", 78.2, 15.6045)), None),
+    ((("Harbour", 78.2004, 15.6), ("Harbour", 78.2006, 15.604)), 2),
 )
 
 
@@ -521,6 +562,12 @@ def test_stations_that_are_there_twice(program):
     ):
         lines = f"{system_line()}\n".encode() + requests_of([*near, *named], at=NOW, key="n")
         assert [place_of(it) for it in doctor.findings_of_lines(lines, NOW)] == wanted, named
+    feeds = doctor.Feeds("https://x.example", NOW)
+    rows = [("a1", "Canal", 41.9), ("a2", "Harbour", 41.900017), ("a3", "harbour", 41.9008), ("a4", "Canal", 41.901)]
+    rows = [{"station_id": it, "name": [{"text": name}], "lat": lat, "lon": 12.5} for it, name, lat in rows]
+    feeds.data = {"station_information": {"stations": rows}}
+    feeds.see_places()
+    assert [it.text.split(":")[0] for it in feeds.found] == ["a1 and a2, a2 and a3"], feeds.found
     sea = requests_of([f"add-station\ta{it}\tHarbour\t0\t0\t5" for it in (1, 2)], at=NOW, key="s")
     assert all("0, 0" in it.text for it in doctor.findings_of_lines(sea, NOW))
     again = HEADER + 'c1,"HÃ´tel",45,9.1,10\n' * 2
@@ -636,3 +683,22 @@ def test_what_is_said_of_tables(program):
     found = doctor.findings_of_table(many.encode())
     assert [place_of(it) for it in found] == [("row 5001 (line 5002)", "limit_reached")], found
     assert not doctor.findings_of_table((TOP / "examples/city/stations.csv").read_bytes())
+
+
+def test_what_an_import_said_of_a_row(program):
+    """A station that stands already isn't imported under another identifier; for want of room no row is corrected."""
+    table = (HEADER + ROW).encode()
+    twice = [program.run("import", "rows.db", it, "--at", "0", given=table) for it in ("x", "y", "x")]
+    assert [it[2] for it in twice] == [b"", b"row 1 already_there\n", b""], twice
+    two, three = (ROW.replace("c1", it) for it in ("c2", "c3"))
+    for name, rows, said in (
+        ("y", (two, ROW, three), b"row 2 already_there\n"), ("y", (two, three), b""),
+        ("x", (ROW, two), b"row 2 already_there\n"), ("x", (ROW, ROW.replace("c1", "c4")), b""),
+    ):
+        done = program.run("import", "rows.db", name, "--at", "0", given=(HEADER + "".join(rows)).encode())
+        assert done[2] == said, (name, rows, done)
+    (found,) = doctor.findings_of_said("none.db", "row 1 already_there")
+    for word in "take the row out", "under the earlier NAME", "twice for good", "Only if it is another station":
+        assert word in found.text, (word, found)
+    (found,) = doctor.findings_of_said("none.db", "row 9 limit_reached")
+    assert "no command takes one away" in found.text and "Correct it" not in found.text, found
