@@ -10,7 +10,7 @@ mod create;
 mod fault;
 mod schema;
 
-pub use columns::{
+pub use columns::{str_at, 
     cents_at, flag_at, ident_at, language_at, moment_at, name_at, number_at, optional_cents_at,
     optional_ident_at, optional_moment_at, optional_number_at, state_at, text_at,
 };
