@@ -1,9 +1,10 @@
 //! Decisions on names: those in further languages, and what becomes of one that is there.
 
-ghost use Rattle.std.specs.Prelude.{◌≡◌, IfOk, Ok, Err, if◌then◌else◌};
+ghost use Rattle.std.specs.Prelude.{◌≡◌, ◌∷◌, [], not, IfOk};
 ghost use Rattle.bike_commands.specs.declared.command.Command.TheVariants as command;
 ghost use Rattle.bike_commands.specs.declared.refusal.Refusal.TheVariants.{SystemMissing};
-ghost use Rattle.bike_operator.specs.Steps.{unknown_of};
+ghost use Rattle.bike_operator.specs.Changes.{refusal_in};
+ghost use Rattle.bike_operator.specs.Steps.{first, unknown_of};
 ghost use Rattle.bike_accepted.specs.Effects.{DecidesOn};
 ghost use Rattle.bike_accepted.specs.Found.{FindsOn};
 
@@ -28,8 +29,8 @@ fn unknown_of(kind: NameKind) -> Refusal
 
 /// The first refusal that all three commands have alike: there is no system, or nothing of this kind and identifier.
 fn check_named(view: &View, kind: NameKind) -> Result<(), Refusal>
-    ensures { result ≡ (if view.now.has_system then (if view.now.has_named then Ok () else Err (unknown_of kind))
-        else Err SystemMissing) }
+    ensures { refusal_in result
+        ≡ first ((not view.now.has_system, SystemMissing) ∷ (not view.now.has_named, unknown_of kind) ∷ []) }
 {
     if !view.has_system {
         return Err(Refusal::SystemMissing);
