@@ -9,7 +9,7 @@ use Rattle.bike_json.specs.declared.level.Level.TheVariants.{EmptyObject, Filled
 use Rattle.bike_json.proofs.Series.{Wrote_then, Wrote_as}
 use Rattle.bike_answers.specs.Bodies.{members, member_text}
 
--- of an object there was written what, with the text of the members that are left and its end, is its text
+-- what was written of an object, with the text of the members that are left, is its text but for its end
 pub record SoFar (from to : Place) (old new : OutputState) (all left : List (List ℕ × Tree)) : Type 0 where
   pub front : List ℕ
   pub wrote : Wrote from to old new front
