@@ -2,6 +2,7 @@ use Rattle.std.proofs.Common.{◌≡◌, ℕ, false, Result, Ok, Err, [], refl, 
 use Rattle.sqlite_trees.specs.declared.store.Store.{Ghosts}
 use Rattle.sqlite.specs.Held.{Held}
 use Rattle.bike_commands.specs.declared.command.Command.{Command}
+use Rattle.bike_commands.specs.declared.command.Command.TheVariants.{MarkDock}
 use Rattle.bike_operator.specs.declared.view.View.{View}
 use Rattle.bike_operator.specs.Operator.{Operator}
 use Rattle.bike_operator.specs.View.{dock_view, view_of}
@@ -63,7 +64,7 @@ returns-in-SetStation g c = seen_plain (view_for c.find_station_view.ensures c.i
 pub returns-in-MarkDock : goal.returns-in-MarkDock
 returns-in-MarkDock g c = reads_weaker c.find_dock_view.ensures (λ db x it s h known.
     let station = c.in-MarkDock.station in
-    let seen = record {
+    let seen : IsSight s h.listed (MarkDock station c.in-MarkDock.dock c.in-MarkDock.broken) x = record {
       view_is = (it s h).0 ∙ ap (dock_view s station) c.get.ensures.value;
       read = subst (λ d. IsDockRead s h.listed station d x.numbers x.mark) c.get.ensures.value (it s h).1;
     } in
