@@ -87,9 +87,10 @@ def test_a_file_moved_while_it_is_served(program):
                 status, lines = told(name, *port, cwd=folder)
                 assert status == 1 and len(lines) == (2 if port else 1), lines
                 assert lines[0].startswith(f"{name}: moved: process {server.child.pid} ("), lines
+                assert "That is this city's own service. Its file was moved" in lines[-1] or not port, lines
                 for line in lines:
-                    assert "That is this city's own service, whose file" in line and "End it before" in line, line
-                    assert f"it serves {folder}/kept/city.db." in line and "another port." not in line, line
+                    assert f"it has {folder}/kept/city.db open." in line and "End it before" in line, line
+                    assert "another port." not in line, line
         # What was called with another FILE is another city's.
         status, lines = told(other, "--port", server.port, cwd=folder)
         assert f"That is another city ({folder}/kept/city.db): give this one another port." in lines[-1], lines
@@ -109,7 +110,7 @@ def test_a_folder_moved_while_it_is_served(program):
         city.parent.rename(folder / "second")
         (found,) = doctor.findings_of_file(str(city))
         assert found.word == "moved" and f"process {server.child.pid} (" in found.text, found
-        assert f"it serves {folder}/second/city.db." in found.text, found
+        assert f"it has {folder}/second/city.db open." in found.text, found
     assert "there is no folder" in doctor.findings_of_file(str(city))[0].text
     link.symlink_to("second/city.db")
     with Server(program, file="link.db", seconds=60):
@@ -117,10 +118,19 @@ def test_a_folder_moved_while_it_is_served(program):
         link.unlink()
         link.symlink_to("other.db")
         (found,) = looked_at(link)
-        assert found.word == "moved" and f"it serves {folder}/second/city.db." in found.text, found
+        assert found.word == "moved" and f"it has {folder}/second/city.db open." in found.text, found
         # Of the one to which the link leads now nothing is wrong.
         assert f"and not in {link}." in found.text and looked_at(other) == [], found
     assert looked_at(link) == []
+    # So it is where lines has the file.
+    with program.started("lines", "other.db", stdin=subprocess.PIPE) as running:
+        running.stdin.write(MORE)
+        running.stdin.flush()
+        assert running.stdout.readline()
+        for it in list(folder.glob("other.db*")):
+            it.rename(folder / f"moved{it.name.removeprefix('other')}")
+        (found,) = looked_at(other)
+        assert found.word == "moved" and f"it has {folder}/moved.db open." in found.text, found
 
 
 def test_a_damaged_head_that_the_log_has(program):
