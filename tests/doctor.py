@@ -204,11 +204,41 @@ CHANGES = (
     ("DELETE FROM meta", "unsound meta 1", "no row 1"),
     ("CREATE VIRTUAL TABLE words USING fts5 (a)", "store failed", "virtual table words"),
     ("PRAGMA auto_vacuum = 1; VACUUM", "store failed", "auto_vacuum"),
+    *((f"PRAGMA writable_schema = ON; UPDATE sqlite_master SET {change} = 'sqlite_autoindex_docks_1'", *wanted)
+      for change, *wanted in (
+          ("type = 'Index' WHERE name", "store failed", "has the type 'Index'"),
+          ("type = 'tndex' WHERE name", "store failed", "has the type 'tndex'"),
+          ("type = x'696e646578' WHERE name", "store failed", "has no text as its type"),
+          ("tbl_name = 'Docks' WHERE name", "store failed", "the table Docks, and there is none such"),
+          ("tbl_name = 'plans' WHERE name", "store failed", "names the index sqlite_autoindex_docks_1, which"),
+          ("tbl_name = x'646f636b73' WHERE name", "store failed", "has no text as its type or name"),
+          ("name = 'sqlite_autoindex_Docks_1' WHERE name", "store failed", "is declared otherwise"),
+          ("rowid = 70000 WHERE name", "store failed", "a number that is out of bounds"),
+          ("rowid = -1 WHERE name", "store failed", "it is damaged: "),
+          ("sql = '' WHERE name", "store failed", "has no text that declares sqlite_autoindex_docks_1"),
+          ("rootpage = CAST(rootpage AS BLOB) WHERE name", "store failed", "has no number of a page"),
+      )),
+    *((f"PRAGMA writable_schema = ON; UPDATE sqlite_master SET {change}", *wanted) for change, *wanted in (
+        ("type = 'Table' WHERE name = 'riders'", "store failed", "has the type 'Table'"),
+        ("name = 'Riders' WHERE name = 'riders'", "store failed", "has the names Riders and riders"),
+        ("tbl_name = x'726964657273' WHERE name = 'riders'", "store failed", "has no text as its type or name"),
+        ("sql = CAST(sql AS BLOB) WHERE name = 'riders'", "store failed", "has no text that declares riders"),
+        ("sql = replace(sql, 'riders', 'Riders') WHERE name = 'riders'", "foreign", "declared with other capitals"),
+        ("sql = replace(sql, 'docks', 'Docks') WHERE name = 'docks'", "foreign", "declared with other capitals"),
+        ("sql = replace(sql, 'CREATE', 'create') WHERE sql LIKE '%riders%'", None, ""),
+        ("sql = replace(sql, 'NOT NULL', 'not null') WHERE name = 'riders'", None, ""),
+        ("sql = replace(sql, 'bikes_by', 'Bikes_by') WHERE name = 'bikes_by_dock'", "store failed", "otherwise"),
+        ("sql = replace(sql, 'ON bikes', 'ON Bikes') WHERE name = 'bikes_by_dock'", None, ""),
+        ("sql = replace(sql, ', dock', ', DOCK') WHERE name = 'bikes_by_dock'", None, ""),
+        ("name = 'Bikes_by_dock' WHERE name = 'bikes_by_dock'", "store failed", "is declared otherwise"),
+        ("rowid = 500 WHERE name = 'more_names_by_thing'", None, ""),
+    )),
 )
 
 
 def test_tables_that_were_changed(program):
-    """What somebody did to the city's file by SQL: what is found is what `check` says, and the hint names it."""
+    """What somebody, or a damaged disk, did to the city's file: what is found is what `check` says, and the hint names
+    it."""
     made = taken(city_file(program))
     for number, (change, wanted, hint) in enumerate(CHANGES):
         file = Path(program.folder, f"changed{number}.db")
@@ -216,6 +246,46 @@ def test_tables_that_were_changed(program):
         changed(file, change)
         is_alike(program, file, wanted, *([hint] if wanted else []))
         removed(file)
+
+
+def number_at(data, at):
+    """The number that stands there as SQLite writes those of cells, and where it ends."""
+    found = re.match(rb"[\x80-\xff]*[\0-\x7f]", data[at : at + 9], re.S)[0]
+    return sum((byte & 127) << 7 * place for place, byte in enumerate(reversed(found))), at + len(found)
+
+
+def listed_bytes(data, page=1):
+    """Where the cells of SQLite's list of tables and indexes stand in a file."""
+    begin = (page - 1) * int.from_bytes(data[16:18], "big")
+    head = begin + (100 if page == 1 else 0)
+    count, is_leaf = int.from_bytes(data[head + 3 : head + 5], "big"), data[head] == 13
+    for place in range(count):
+        at = head + (8 if is_leaf else 12) + 2 * place
+        at = begin + int.from_bytes(data[at : at + 2], "big")
+        if is_leaf:
+            size, end = number_at(data, at)
+            yield from range(at, number_at(data, end)[1] + size)
+        else:
+            yield from listed_bytes(data, int.from_bytes(data[at : at + 4], "big"))
+    if not is_leaf:
+        yield from listed_bytes(data, int.from_bytes(data[head + 8 : head + 12], "big"))
+
+
+def test_bytes_of_the_list_of_tables(program):
+    """A byte of it is changed: what `check` refuses the doctor doesn't pass, and where check says `sound` it finds
+    nothing. So many are tried as BIKESHARE_LISTED says, or 40."""
+    city = city_file(program)
+    changed(city, "VACUUM")
+    made, rnd, file = taken(city)[""], random.Random(1), Path(program.folder, "listed.db")
+    places = list(listed_bytes(made))
+    assert len(places) > 4000 and made[places[0] :].find(b"CREATE TABLE meta") < 60, (len(places), places[0])
+    # Letters of other capitals are what SQLite passes over.
+    flips = 1, 0x20, 0x20, 0x80
+    tried = ((at, made[at] ^ rnd.choice(flips)) for at in iter(lambda: rnd.choice(places), None))
+    for at, byte in itertools.islice(tried, int(os.environ.get("BIKESHARE_LISTED", "40"))):
+        put({"": made[:at] + bytes([byte]) + made[at + 1 :]}, file)
+        found, ended = looked_at(file), program.run("check", "listed.db")
+        assert bool(found) == (ended != SOUND), (at, made[at - 20 : at + 9], byte, found, ended)
 
 
 def test_what_somebody_added(program):
@@ -1193,6 +1263,12 @@ def planted():
         ((*kind, "form_factor"), "scooter", "vehicle_types, data.vehicle_types[0].form_factor", "GBFS"),
         ((*kind, "max_range_meters"), None, "vehicle_types, cargo", "GBFS"),
         ((*kind, "default_pricing_plan_id"), None, "vehicle_types, cargo", "GBFS"),
+        ((*about, "languages"), ["en", "de", "zh", "eng"], "system_information", "doubtful"),
+        ((*about, "languages"), ["en", "de", "zh", "fr-UK"], "system_information", "doubtful"),
+        ((*about, "languages"), ["en", "de", "zh", "xx"], "system_information", "doubtful"),
+        ((*about, "languages"), ["en", "de", "zh", "e-"], "system_information, data.languages[3]", "GBFS"),
+        ((*plan, "currency"), "BGN", "system_pricing_plans", "doubtful"),
+        ((*plan, "currency"), "ZZZ", "system_pricing_plans, data.plans[0].currency", "GBFS"),
         ((*plan, "price"), "1.00", "system_pricing_plans, data.plans[0].price", "GBFS"),
         ((*segment, "interval"), None, "system_pricing_plans, data.plans[0].per_min_pricing[0]", "GBFS"),
         ((*about, "feed_contact_email"), "x", "system_information, data.feed_contact_email", "GBFS"),
@@ -1271,6 +1347,7 @@ def test_what_is_said_of_feeds(program):
     in_two_cases = json.loads(json.dumps(feeds["station_information"]).replace('"de"', '"DE"'))
     twice = json.dumps(feeds["system_regions"]).replace('"ttl":', '"ttl": 60, "ttl":')
     information, words = ("station_information", "data", "stations"), ("system_information", "data", "languages")
+    plans = "system_pricing_plans", "data", "plans"
     numbered = list(enumerate(places))
     for path, value, *wanted in (
         (information, [{**it, "name": name} for it, name in zip(places, (blank, unseen, places[2]["name"]))],
@@ -1302,7 +1379,9 @@ def test_what_is_said_of_feeds(program):
         (("system_regions",), twice, ("system_regions: GBFS: an object has ttl twice",)),
         (("gbfs", "data", "feeds", 5), feeds["gbfs"]["data"]["feeds"][4],
          ("gbfs: GBFS: it lists system_pricing_plans twice",)),
-        (("station_information",), in_two_cases, ("system_information: doubtful: DE: ", "validators"),
+        (words, ["en", "de", "zh", "eng"], ("system_information: doubtful: eng begins with eng, ", "Write en.")),
+        ((*plans, 0, "currency"), "BGN", ("system_pricing_plans: doubtful: BGN has ended, ", "Write EUR")),
+        (("station_information",), in_two_cases, ("system_information: doubtful: DE differs from de only", "Write de."),
          ("system_information: doubtful: DE and de: ", "one language"), ("station_information: missing: ", "DE")),
     ):
         changed_feeds = json.loads(json.dumps(feeds))
@@ -1352,8 +1431,8 @@ def test_feeds_of_another_host(program):
 
 
 def test_addresses_that_planners_do_not_reach(program):
-    """Where gbfs lists addresses at which no planner elsewhere reaches the feeds, it is told. Those of the own machine
-    aren't, where gbfs is asked there."""
+    """Where gbfs lists addresses at which no planner elsewhere reaches the feeds, it is told as of base_url in lines.
+    Those of the own machine aren't, where gbfs is asked there."""
     at_home, elsewhere = "http://127.0.0.1:8080", ("https://metro.example", "http://192.0.2.2:8080", "http://10.0.0.3")
     names = ["system_information", "station_information", "station_status"]
     for base, word, is_told_at_home in (
@@ -1363,7 +1442,12 @@ def test_addresses_that_planners_do_not_reach(program):
         ("http://169.254.1.1", "private network", True), ("https://[fd00::1]", "private network", True),
         ("https://lyon", "without a point", True), ("https://user:pw@metro.example", "password", True),
         ("https://user@127.0.0.1:8080", "password", True), ("https://metro.example", None, False),
-        ("http://192.0.2.2:8080", None, False), ("https://:8080", None, False), ("https://[", None, False),
+        ("http://192.0.2.2:8080", "Write https://192.0.2.2:8080, if", True), ("https://:8080", "names no host", True),
+        ("https://[", "names no host", True), ("https://metro.example/bikes", None, False),
+        ("http://metro.example", "not every planner follows", True), ("https://x.example/", "ends in /", True),
+        ("http://x.example//", "ends in /", True), ("https://x.example//bikes", "holds //", True),
+        ("https://x.example/gbfs/3.0", "put behind it", True), ("https://x..example", "nothing between", True),
+        ("https://x_y.example", "other characters", True),
     ):
         listed = [{"name": name, "url": f"{base}/gbfs/3.0/{name}.json"} for name in names]
         frame = {"last_updated": moment_in(0), "ttl": 30, "version": "3.0"}
@@ -1380,6 +1464,12 @@ def test_addresses_that_planners_do_not_reach(program):
                 is_told = bool(word) and (url != at_home or is_told_at_home)
                 assert [it.where for it in found] == ["gbfs"] * is_told, (url, base, found)
                 assert not is_told or word in found[0].text and "and 2 more alike" in found[0].text, (url, base, found)
+    feeds = doctor.Feeds(at_home, NOW)
+    # A slash is too much at home as well, and what another program lists has other paths.
+    urls = f"{at_home}//gbfs/3.0/a.json", "http://metro.example/en/a.json", "https://metro.example/a?b=//c", "ftp://x"
+    feeds.data = {"gbfs": {"feeds": [{"name": "a", "url": it} for it in urls]}}
+    feeds.see_addresses()
+    assert [it.text.split(": ")[1].split()[0] for it in feeds.found] == [f"'{at_home}/'", "'http://metro.example'"]
 
 
 def test_feeds_of_the_example_city(program):

@@ -4,6 +4,8 @@ it lets through the program takes. Its fields are those of the documents.
 
 import contextlib
 import functools
+import itertools
+import math
 import os
 import random
 import re
@@ -156,6 +158,22 @@ def test_lines_that_are_answered_bad_field(program):
     assert program.run(given=with_mark)[1] == b"refused\t11\tbad_field\n"
 
 
+def test_lines_in_utf16(program):
+    """They are told by one finding, as such a table is."""
+    given, table = SYSTEM + requests_of(CITY[1:]), (TOP / "examples/city/stations.csv").read_text()
+    for coded in "utf-16", "utf-16-le", "utf-16-be":
+        lines, rows = given.decode().encode(coded), table.encode(coded)
+        assert [(*place_of(it), it.text) for it in doctor.findings_of_lines(lines, NOW)] == [
+            ("input", BAD_FIELD, "it is saved as UTF-16. Save it as UTF-8.")
+        ], coded
+        (found,) = doctor.findings_of_table(rows)
+        assert place_of(found) == ("header", "bad header") and "saved as UTF-16" in found.text, found
+        assert set(program.run(given=lines)[1].splitlines()) == {b"refused\t11\tbad_field"}, coded
+        assert program.run("import", ":memory:", "x", given=rows)[2] == b"bad header\n", coded
+    for data in b"", b"a", b"a\0b\0", b"\0" * 40, b"17\0\0" * 20, given:
+        assert not any("UTF-16" in it.text for it in doctor.findings_of_lines(data, NOW)), data
+
+
 def test_lines_and_their_answers(program):
     """Of all lines beside these tests, and of the example city, those are found whose wanted answer is bad_field. No
     others are, but ones that are refused for their key."""
@@ -267,7 +285,9 @@ DOUBTFUL = (
     ("feed_contact_email", "not-an-email", "address"), ("feed_contact_email", "a@b", "address"),
     ("timezone", "Mars/Base", "time zone"),
     ("timezone", "europe/rome", "Europe/Rome"), ("timezone", "CET-1CEST,M3.5.0,M10.5.0/3", "time zone"),
-    ("currency", "ZZZ", "ISO 4217"),
+    ("currency", "ZZZ", "ISO 4217"), ("currency", "BGN", "EUR is in its place. Write EUR."),
+    ("currency", "ANG", "XCG is in its place. Write XCG."), ("currency", "HRK", "Write EUR."),
+    ("currency", "ZWL", "Write ZWG."), ("base_url", "https://lyon.example//bikes", "holds //"),
 )
 # And ones of which nothing is found.
 FREE_OF_DOUBT = (
@@ -285,7 +305,7 @@ FREE_OF_DOUBT = (
     ("opening_hours", "Mo-Fr 06:00-22:00; Sa,Su,PH 08:00-20:00"),
     ("opening_hours", "sunrise-sunset"), ("opening_hours", 'Apr-Oct 06:00-24:00 "in summer"'),
     ("feed_contact_email", "o'neil+gbfs@mail.example.org"),
-    ("timezone", "Etc/UTC"), ("timezone", "America/Argentina/Buenos_Aires"), ("currency", "CHF"),
+    ("timezone", "Etc/UTC"), ("timezone", "America/Argentina/Buenos_Aires"), ("currency", "CHF"), ("currency", "XCG"),
 )
 
 
@@ -337,6 +357,13 @@ def test_codes_of_languages(program):
         assert doctor.REGIONS - {"XK"} == found, doctor.REGIONS ^ found
 
 
+def test_currencies_that_ended(program):
+    """Each has another in its place, which is in use."""
+    assert len(doctor.SUCCESSORS) == 55 and not doctor.SUCCESSORS.keys() & doctor.CURRENCIES
+    assert set(doctor.SUCCESSORS.values()) <= doctor.CURRENCIES
+    assert all(re.fullmatch("[A-Z]{3}", it) for it in [*doctor.SUCCESSORS, *doctor.CURRENCIES])
+
+
 def test_lines_of_the_example(program):
     """Nothing is found in the lines that the package gives as an example of a city's first ones."""
     assert not doctor.findings_of_lines((TOP / "deploy/begin.txt").read_bytes(), int(time.time()))
@@ -385,7 +412,8 @@ def test_tags_of_the_own_language(program):
     """Of feeds, remove-name is told of further languages alone: the program refuses it of the system's own."""
     for own, further, wanted in (
         ("EN", [], [(True, False)]), ("zh-Hans", ["de"], [(True, False)]), ("en", ["DE"], [(False, True)]),
-        ("EN", ["en"], [(True, False), (True, True)]), ("EN", ["zh-Hans"], [(True, True)]), ("en", ["de"], []),
+        ("EN", ["en"], [(True, False), (True, True)]), ("EN", ["zh-Hans"], [(True, False), (False, True)]),
+        ("en", ["de"], []), ("zz", ["de-UK", "eng"], [(False, True), (False, True), (True, False)]),
     ):
         feeds = doctor.Feeds("https://x.example", NOW)
         feeds.data = {"system_information": {"languages": [own, *further]}}
@@ -423,11 +451,72 @@ def test_names_that_lines_correct(program):
     amiss = ["add-name\tsystem\tmetro\tDE\tRad", "set-name\tsystem\tmetro\tDE\tVÃ©lo"]
     amiss.append("remove-name\tsystem\tmetro\tDE")
     lines = f"{system_line()}\n".encode() + requests_of(amiss, at=NOW, key="n")
-    found = doctor.findings_of_lines(lines, NOW)
+    found = doctor.findings_of_lines(lines[: lines.rindex(b"\n", 0, -1) + 1], NOW)
     assert [place_of(it) for it in found] == [("line 2, language", FOR_NOW), ("line 3, name", FOR_NOW)], found
     assert found[0].text.endswith(doctor.FURTHER_AMISS) and "Is it 'Vélo'?" in found[1].text, found
     assert found[1].text.endswith(doctor.NAME_AMISS), found
-    assert program.run(given=lines) == (0, b"ok\n" * 4, b"")
+    assert doctor.findings_of_lines(lines, NOW) == [] and program.run(given=lines) == (0, b"ok\n" * 4, b"")
+
+
+GOOD = "Metro\t24/7\tfeeds@example.org\tEurope/Rome\thttps://bikes.example\t60"
+WRONG = {
+    "name": "HÃ´tel", "opening_hours": "whenever", "feed_contact_email": "x", "timezone": "Mars/Base",
+    "base_url": "http://10.0.0.3",
+}
+STATION, PLAN = "add-station\ta1\tHÃ´tel\t41.9\t12.5\t5", "add-plan\tday\tHÃ´tel\t250\tfalse\tHÃ´tel\t-"
+TYPE, REGION = "add-type\tcity\tHÃ´tel\tbicycle\thuman\t0\tday", "add-region\ta1\tHÃ´tel"
+# Fields of set-system that are amiss, lines behind it, and where something is still doubted. The last line is refused
+# where None stands behind that.
+MENDED = (
+    (WRONG, [], [f"1, {it}" for it in WRONG]), (WRONG, [f"change-system\t{GOOD}"], []),
+    ({**WRONG, "language": "EN", "currency": "ANG"}, [f"change-system\t{GOOD}"], ["1, language", "1, currency"]),
+    (WRONG, [f"change-system\t{GOOD}".replace("https", "http")], ["2, base_url"]),
+    (WRONG, [f"change-system\t{GOOD}".replace("Metro", "MÃ´")], ["2, name"]),
+    (WRONG, ["set-name\tsystem\tmetro\ten\tMetro"], [f"1, {it}" for it in list(WRONG)[1:]]),
+    (WRONG, ["set-name\tsystem\tmetro\tde\tMetro"], [f"1, {it}" for it in WRONG], None),
+    (WRONG, ["remove-name\tsystem\tmetro\ten"], [f"1, {it}" for it in WRONG], None),
+    (WRONG, ["set-name\tsystem\tother\ten\tMetro"], [*(f"1, {it}" for it in WRONG), "2, id"], None),
+    (WRONG, [f"change-system\t{GOOD}000000"], [*(f"1, {it}" for it in WRONG), "2, ttl"], None),
+    ({}, [STATION], ["2, name"]), ({}, [STATION, "set-name\tstation\ta1\ten\tHôtel"], []),
+    ({}, [STATION, "set-name\tstation\ta1\ten\tHÃ´tel 2"], ["3, name"]),
+    ({}, [STATION, "set-name\tstation\ta1\tde\tHotel"], ["2, name"], None),
+    ({}, [STATION, "set-name\tstation\ta2\ten\tHotel"], ["2, name"], None),
+    ({}, [STATION, "set-name\tregion\ta1\ten\tHotel"], ["2, name"], None),
+    ({}, [STATION, "remove-name\tstation\ta1\ten"], ["2, name"], None),
+    ({}, [STATION, REGION, "set-name\tregion\ta1\ten\tHotel"], ["2, name"]),
+    ({}, [PLAN, "set-name\tplan\tday\ten\tHotel"], ["2, description"]),
+    ({}, [PLAN, "set-name\tdescription\tday\ten\tHotel"], ["2, name"]),
+    ({}, [PLAN, TYPE, "set-name\ttype\tcity\ten\tHotel"], ["2, name", "2, description"]),
+    ({}, [STATION, "add-name\tstation\ta1\tDE\tHÃ´tel"], ["2, name", "3, language", "3, name"]),
+    ({}, [STATION, "add-name\tstation\ta1\tDE\tHÃ´tel", "set-name\tstation\ta1\tDE\tHotel"],
+     ["2, name", "3, language"]),
+    ({}, [STATION, "add-name\tstation\ta1\tDE\tHÃ´tel", "remove-name\tstation\ta1\tDE"], ["2, name"]),
+    ({}, [STATION, "add-name\tstation\ta1\tDE\tHÃ´tel", "remove-name\tstation\ta1\tde"],
+     ["2, name", "3, language", "3, name"], None),
+    ({}, ["set-name\tstation\ta1\ten\tHotel", STATION], ["3, name"]),
+    ({}, [STATION.replace("41.9", "0").replace("12.5", "0"), "set-name\tstation\ta1\ten\tHotel"], ["2, lat and lon"]),
+    ({}, [STATION.replace("41.9\t12.5", "0\t0").replace("HÃ´", "Ho"), "move-station\ta1\t41.9\t12.5"], []),
+)
+
+
+def test_doubts_that_later_lines_mend(program):
+    """What a later line sets right isn't told any more, and what it sets amiss is told of that line. One that is
+    refused mends nothing."""
+    for fields, commands, wanted, *refused in MENDED:
+        lines = f"{system_line(**fields)}\n".encode() + requests_of(commands, at=NOW, key="n")
+        found = doctor.findings_of_lines(lines, NOW)
+        assert sorted(it.where for it in found) == sorted(f"line {it}" for it in wanted), (commands, found)
+        answers = program.run(given=lines)[1].splitlines()
+        assert answers[-1].startswith(b"refused") == bool(refused), (commands, answers)
+    # A key that another command has, and a line that comes again behind one that was answered.
+    change = f"{NOW}\toffice\tk1\tchange-system\t{GOOD}"
+    wrong = change.replace("k1", "k2").replace("https", "http")
+    for rows, wanted in (
+        ([system_line(**WRONG), change], [*(f"line 1, {it}" for it in WRONG), "line 2, key"]),
+        ([system_line(), change.replace("k1", "k3"), wrong, change.replace("k1", "k3")], ["line 3, base_url"]),
+    ):
+        found = doctor.findings_of_lines("\n".join(rows).encode(), NOW)
+        assert sorted(it.where for it in found) == sorted(wanted), (rows, found)
 
 
 def test_moments_of_lines(program):
@@ -507,9 +596,62 @@ def test_all_stations_far_from_their_zone(program):
             found = doctor.findings_of_lines((system_line(timezone=zone) + station_lines(places)).encode(), NOW)
             assert [place_of(it) for it in found] == [("line 2, lat and lon", FOR_NOW)] * bool(word), (zone, found)
             assert all(word in it.text and zone in it.text for it in found), (zone, word, found)
-    # From Jerusalem the exchanged ones lie some 500 km.
-    near = (system_line(timezone="Asia/Jerusalem") + station_lines((35.22, 31.78))).encode()
-    assert doctor.findings_of_lines(near, NOW) == []
+
+
+# Cities that lie far from the chief place of their time zone, or near the border of another country, or where a place
+# with latitude and longitude exchanged isn't far.
+CITIES = """
+Europe/Berlin 48.14,11.58 47.56,10.7; Europe/Moscow 68.97,33.08 42.98,47.5 43.6,39.73 67.5,64.05 59.94,30.31 64.54,40.54
+Europe/Istanbul 36.9,30.7 38.5,43.38 37,35.32 41,39.72 36.2,36.16; Asia/Jerusalem 31.77,35.21 29.56,34.95 32.79,34.99
+Africa/Cairo 31.2,29.92 31.35,27.24 24.09,32.9 27.91,34.33 31.56,25.15 29.2,25.52; Asia/Amman 29.53,35.01 32.55,35.85
+Asia/Makassar 4.14,117.66 1.49,124.84 -10.16,123.6 3.3,117.63; Asia/Jakarta 5.55,95.32 3.59,98.67 -8.21,114.37
+Asia/Nicosia 34.68,33.04 34.77,32.42; Asia/Famagusta 35.34,33.32; Asia/Beirut 34.43,35.85; Asia/Gaza 31.35,34.3
+Asia/Damascus 36.2,37.16 35.52,35.79 37.05,41.23; Asia/Tbilisi 41.65,41.63 43,41.02; Asia/Yerevan 39.2,46.41
+Africa/Lagos 4.45,7.17 4.31,6.24 4.82,7.05 4.95,8.32 11.85,13.16; Africa/Ndjamena 9.15,18.39; Africa/Malabo 1.86,9.77
+Asia/Yekaterinburg 60.39,57.08 60.4,56.47 58,56.25 66.08,76.68; Asia/Almaty 51.17,71.43 43.65,51.15 51.2,51.37
+Asia/Kolkata 34.08,74.8 8.52,76.94 23.24,69.67 11.62,92.73; Asia/Shanghai 39.47,75.99 29.65,91.12 18.25,109.5
+America/New_York 25.77,-80.19; America/Chicago 25.9,-97.5; America/Sao_Paulo -30.03,-51.23; America/Lima -18.01,-70.25
+America/Belem 0.03,-51.07 3.84,-51.83; America/Bogota -4.21,-69.94 12.58,-81.7; Africa/Kinshasa 4.28,21
+Africa/Lubumbashi 0.52,25.2 1.56,30.25; Africa/Nairobi 3.94,41.87 -4.04,39.67; Africa/Algiers 27.67,-8.13 22.79,5.52
+Europe/Madrid 41.39,2.17; Europe/Paris 48.39,-4.49 41.92,8.74; Europe/London 60.15,-1.15; Europe/Rome 45.65,13.77
+Europe/Athens 36.43,28.22; Europe/Oslo 69.73,30.05; Europe/Kyiv 48.62,22.3 48.57,39.3; Africa/Johannesburg -33.92,18.42
+Pacific/Auckland -45.87,170.5; America/Adak 52.9,173; Australia/Brisbane -16.92,145.77; Australia/Perth -17.96,122.24
+Asia/Kuching 5.98,116.07 4.25,117.9; Asia/Tehran 25.3,60.64 37.55,45.08; Asia/Riyadh 16.89,42.55 28.38,36.57
+Asia/Dubai -20.88,55.45; Asia/Bangkok -10.42,105.68; Africa/Accra 9.4,-0.84; America/Argentina/Buenos_Aires -54.8,-68.3
+"""
+
+
+def test_places_that_are_right(program):
+    """Of no chief place of a time zone, and of nothing within 250 km of one, anything is said, nor of cities that lie
+    far from it. The table where several countries share a zone has no others."""
+    for it in doctor.zone_places():
+        (lat, lon), step = it.place, 250 / 111.3
+        for north, east in itertools.product((-0.7, 0, 0.7), repeat=2):
+            place = lat + step * north, lon + step * east / math.cos(math.radians(lat))
+            assert doctor.zone_doubt_of(place, it.zone) is None, (it, place)
+    assert len(doctor.zone_places()) > 600
+    tried = 0
+    for zone, *places in (it.split() for it in CITIES.replace(";", "\n").splitlines() if it):
+        for place in places:
+            tried += 1
+            place = tuple(map(float, place.split(",")))
+            assert doctor.zone_doubt_of(place, zone) is None, (zone, place, doctor.zone_doubt_of(place, zone))
+    assert tried > 100, tried
+
+
+def test_places_near_their_exchanged_ones(program):
+    """Exchanged coordinates are told from 400 km on where the place lies nearer to another country's chief place."""
+    for zone, lat, lon in (
+        ("Asia/Jerusalem", 31.77, 35.21), ("Asia/Jerusalem", 32.08, 34.78), ("Asia/Jerusalem", 31.25, 34.79),
+        ("Asia/Amman", 31.95, 35.93), ("Europe/Moscow", 68.97, 33.08), ("Asia/Kolkata", 8.52, 76.94),
+    ):
+        assert doctor.zone_doubt_of((lat, lon), zone) is None, (zone, lat, lon)
+        assert doctor.zone_doubt_of((lon, lat), zone).startswith("the two exchanged."), (zone, lat, lon)
+        found = doctor.findings_of_lines((system_line(timezone=zone) + station_lines((lon, lat))).encode(), NOW)
+        assert [place_of(it) for it in found] == [("line 2, lat and lon", FOR_NOW)], (zone, found)
+    assert doctor.zone_doubt_of((29.92, 31.2), "Africa/Cairo") is None
+    with unittest.mock.patch.object(doctor, "zone_places", lambda: []):
+        assert doctor.zone_doubt_of((35.21, 31.77), "Asia/Jerusalem") is None
 
 
 # Stations by their names and places, and the number of the one that seems to be the first.

@@ -1,12 +1,13 @@
 """deploy/bikeshare-doctor where FILE or its log isn't where it was: behind a link, moved while it is served, beside a
 journal of sqlite3, or with a damaged head that only the log has whole."""
 
+import itertools
 import shutil
 import sqlite3
 import subprocess
 from pathlib import Path
 
-from doctor import city_file, looked_at, told
+from doctor import city_file, doctor, looked_at, told
 from shared import CITY, SOUND, STORE_FAILED, Server, held, killed, put, requests_of, taken
 
 MORE = requests_of(["add-region\tnew\tNew"], first=900, key="m")
@@ -70,7 +71,8 @@ def test_a_new_file_beside_a_journal(program):
 
 
 def test_a_file_moved_while_it_is_served(program):
-    """Its service is told as this city's own, which is to be ended, by whatever path it was called."""
+    """Its service is told as this city's own, which is to be ended, by whatever path it was called, with its port and
+    without."""
     folder = Path(program.folder)
     city = city_file(program)
     other = city_file(program, "other.db")
@@ -81,14 +83,54 @@ def test_a_file_moved_while_it_is_served(program):
         for is_copied in False, True:
             if is_copied:
                 shutil.copy(folder / "kept/city.db", city)
-            for name in "city.db", city:
-                status, lines = told(name, "--port", server.port, cwd=folder)
-                assert status == 1 and "That is this city's own service, whose file" in lines[-1], lines
-                assert f"it serves {folder}/kept/city.db." in lines[-1] and "End it before" in lines[-1], lines
-                assert "give this one another port" not in lines[-1], lines
+            for name, port in itertools.product(("city.db", city), ([], ["--port", server.port])):
+                status, lines = told(name, *port, cwd=folder)
+                assert status == 1 and len(lines) == (2 if port else 1), lines
+                assert lines[0].startswith(f"{name}: moved: process {server.child.pid} ("), lines
+                assert "That is this city's own service. Its file was moved" in lines[-1] or not port, lines
+                for line in lines:
+                    assert f"it has {folder}/kept/city.db open." in line and "End it before" in line, line
+                    assert "another port." not in line, line
         # What was called with another FILE is another city's.
         status, lines = told(other, "--port", server.port, cwd=folder)
         assert f"That is another city ({folder}/kept/city.db): give this one another port." in lines[-1], lines
+        assert told(other, cwd=folder)[0] == 0 and "has it open" in told("kept/city.db", cwd=folder)[1][0]
+        # Where the moved one goes too, only the service still has it.
+        shutil.rmtree(folder / "kept")
+        (found,) = looked_at(city)
+        assert found.word == "removed" and f"cp /proc/{server.child.pid}/fd/" in found.text, found
+
+
+def test_a_folder_moved_while_it_is_served(program):
+    """So it is told where the folder was renamed, or a link to FILE leads to another one now."""
+    folder = Path(program.folder)
+    (folder / "first").mkdir()
+    city, link, other = city_file(program, "first/city.db"), folder / "link.db", city_file(program, "other.db")
+    with Server(program, file=str(city), seconds=60) as server:
+        city.parent.rename(folder / "second")
+        (found,) = doctor.findings_of_file(str(city))
+        assert found.word == "moved" and f"process {server.child.pid} (" in found.text, found
+        assert f"it has {folder}/second/city.db open." in found.text, found
+    assert "there is no folder" in doctor.findings_of_file(str(city))[0].text
+    link.symlink_to("second/city.db")
+    with Server(program, file="link.db", seconds=60):
+        assert [it.word for it in looked_at(link)] == ["store failed"], looked_at(link)
+        link.unlink()
+        link.symlink_to("other.db")
+        (found,) = looked_at(link)
+        assert found.word == "moved" and f"it has {folder}/second/city.db open." in found.text, found
+        # Of the one to which the link leads now nothing is wrong.
+        assert f"and not in {link}." in found.text and looked_at(other) == [], found
+    assert looked_at(link) == []
+    # So it is where lines has the file.
+    with program.started("lines", "other.db", stdin=subprocess.PIPE) as running:
+        running.stdin.write(MORE)
+        running.stdin.flush()
+        assert running.stdout.readline()
+        for it in list(folder.glob("other.db*")):
+            it.rename(folder / f"moved{it.name.removeprefix('other')}")
+        (found,) = looked_at(other)
+        assert found.word == "moved" and f"it has {folder}/moved.db open." in found.text, found
 
 
 def test_a_damaged_head_that_the_log_has(program):
