@@ -6,6 +6,7 @@ says where it isn't.
 """
 
 import contextlib
+import gzip
 import http.server
 import itertools
 import json
@@ -1334,6 +1335,24 @@ def test_feeds(program):
     assert ("gbfs", "GBFS") in found_in(feeds, ("gbfs", "data", "feeds", 3), other)
 
 
+def test_names_in_the_way_of_a_raise(program):
+    """A file of an earlier schema in which the newest one's names are used: raise refuses it, and this is told."""
+    for change, refused in (
+        ("CREATE TABLE more_names (x)", "foreign"),
+        ("CREATE TABLE regions (x)", "foreign"),
+        ("CREATE VIEW stations_3 AS SELECT 1", "store failed"),
+    ):
+        with tempfile.TemporaryDirectory() as folder:
+            file = Path(folder, "t.db")
+            file.write_bytes(gzip.decompress((TOP / "tests/files/city.db.gz").read_bytes()))
+            with contextlib.closing(sqlite3.connect(file)) as base:
+                base.execute(change)
+                base.commit()
+            _, (said,) = told(file)
+            assert re.search(f"older 1: .* {change.split()[2]} has a name that schema 3 wants", said), (change, said)
+            assert program.run("raise", file)[2].decode() == f"{refused}\n", change
+
+
 def test_what_is_said_of_feeds(program):
     """What feeds have that their forms allow: each is said in one sentence, with the identifiers."""
     feeds, _ = feeds_of_city(program)
@@ -1364,7 +1383,14 @@ def test_what_is_said_of_feeds(program):
         ((*information, 1), {**places[1], "lat": places[0]["lat"], "lon": places[0]["lon"]},
          ("station_information: doubtful: a1 and b2: one place", "stands twice?")),
         (information, [{**it, "name": places[0]["name"], "lat": 41.9 + at / 1_500, "lon": 12} for at, it in numbered],
-         ("station_information: doubtful: a1 and b2, b2 and c3: ", "one name within 100 metres")),
+         ("station_information: doubtful: a1 and b2: ", "one name within 100 metres")),
+        # c3 is closed: it reports nothing, and another may stand in its place.
+        ((*information, 2), {**places[2], "lat": places[0]["lat"], "lon": places[0]["lon"]}),
+        (("station_status", "data", "stations", 2, "last_reported"), "2020-01-01T00:00:00Z"),
+        ((*information, 0), {**places[0], "capacity": 0, "is_valet_station": True}),
+        (("vehicle_types", "data", "vehicle_types", 0, "pricing_plan_ids"), ["x1"], ("vehicle_types: missing: x1: ",)),
+        ((*information, 0, "vehicle_docks_capacity"), [{"vehicle_type_ids": ["x2"], "count": 1}],
+         ("station_information: missing: x2: ",)),
         ((*words[:2], "name", 0, "text"), "VÃ©lo", ("system_information: doubtful: name: 'VÃ©lo' ", "'Vélo'?")),
         ((*information, 0), exchanged[0], ("station_information: doubtful: a1: ", "exchanged")),
         (information, exchanged, ("station_information: doubtful: a1: the stations lie far from Europe/Rome",)),

@@ -650,6 +650,13 @@ def test_places_near_their_exchanged_ones(program):
         found = doctor.findings_of_lines((system_line(timezone=zone) + station_lines((lon, lat))).encode(), NOW)
         assert [place_of(it) for it in found] == [("line 2, lat and lon", FOR_NOW)], (zone, found)
     assert doctor.zone_doubt_of((29.92, 31.2), "Africa/Cairo") is None
+    cities = ("Europe/Dublin", 53.35, -6.26), ("Europe/Lisbon", 38.72, -9.14), ("America/Lima", -12.05, -77.04)
+    for zone, lat, lon in cities:
+        assert doctor.zone_doubt_of((lat, lon), zone) is None, zone
+        assert doctor.zone_doubt_of((lat, -lon), zone).startswith("the other sign of the longitude."), zone
+    # The Balearic Islands lie as far from Madrid, and their mirrored places near it.
+    for lat, lon in (39.57, 2.65), (39.89, 4.26):
+        assert doctor.zone_doubt_of((lat, lon), "Europe/Madrid") is None, (lat, lon)
     with unittest.mock.patch.object(doctor, "zone_places", lambda: []):
         assert doctor.zone_doubt_of((35.21, 31.77), "Asia/Jerusalem") is None
 
