@@ -1387,6 +1387,8 @@ def test_what_is_said_of_feeds(program):
         # c3 is closed: it reports nothing, and another may stand in its place.
         ((*information, 2), {**places[2], "lat": places[0]["lat"], "lon": places[0]["lon"]}),
         (("station_status", "data", "stations", 2, "last_reported"), "2020-01-01T00:00:00Z"),
+        (("station_status", "data", "stations", 2, "last_reported"), "2999-01-01T00:00:00Z",
+         ("station_status: ahead of the clock: ", "c3")),
         ((*information, 0), {**places[0], "capacity": 0, "is_valet_station": True}),
         (("vehicle_types", "data", "vehicle_types", 0, "pricing_plan_ids"), ["x1"], ("vehicle_types: missing: x1: ",)),
         ((*information, 0, "vehicle_docks_capacity"), [{"vehicle_type_ids": ["x2"], "count": 1}],
