@@ -22,10 +22,8 @@ fn write_error<W: Output>(json: &mut JsonState, out: &mut W, name: &str)
     write_object(
         json,
         out,
-        &[
-            ("result", Scalar::Text("error")),
-            ("name", Scalar::Text(name)),
-        ],
+        &[("result", Scalar::Text("error"))],
+        &[("name", Scalar::Text(name))],
     );
 }
 
@@ -39,8 +37,8 @@ fn write_refused<W: Output>(json: &mut JsonState, out: &mut W, refusal: Refusal)
     write_object(
         json,
         out,
+        &[("result", Scalar::Text("refused"))],
         &[
-            ("result", Scalar::Text("refused")),
             ("number", Scalar::Whole(i64::from(refusal.number()))),
             ("name", Scalar::Text(refusal.name())),
         ],
@@ -70,29 +68,28 @@ fn write_replied<W: Output>(json: &mut JsonState, out: &mut W, reply: &Reply)
         (text_of (replied_tree reply.now)) }
     ensures place { IsAt json.new (after_value json.old.top) json.old.round }
 {
-    let ok = ("result", Scalar::Text("ok"));
+    let ok = [("result", Scalar::Text("ok"))];
     match reply {
-        Reply::Done => write_object(json, out, &[ok]),
-        Reply::Balance(balance) => write_object(
-            json,
-            out,
-            &[ok, ("balance_cents", signed(*balance))],
-        ),
+        Reply::Done => write_object(json, out, &ok, &[]),
+        Reply::Balance(balance) => {
+            write_object(json, out, &ok, &[("balance_cents", signed(*balance))])
+        }
         Reply::Started { rental, bike } => write_object(
             json,
             out,
-            &[ok, ("rental", whole(*rental)), ("bike", whole(*bike))],
+            &ok,
+            &[("rental", whole(*rental)), ("bike", whole(*bike))],
         ),
         Reply::Ended { fare, balance } => write_object(
             json,
             out,
+            &ok,
             &[
-                ok,
                 ("fare_cents", signed(fare.hundredths())),
                 ("balance_cents", signed(*balance)),
             ],
         ),
-        Reply::Ordered { order } => write_object(json, out, &[ok, ("order", whole(*order))]),
+        Reply::Ordered { order } => write_object(json, out, &ok, &[("order", whole(*order))]),
         Reply::Refused(refusal) => write_refused(json, out, *refusal),
     }
 }

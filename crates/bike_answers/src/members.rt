@@ -1,8 +1,8 @@
 //! JSON objects of named scalars.
 
-ghost use Rattle.std.specs.Prelude.{◌≡◌, ◌<◌, ◌++◌, IsTrue, length, map, pos, false};
+ghost use Rattle.std.specs.Prelude.{◌≡◌, ◌<◌, ◌++◌, IsTrue, length, map, pos};
 ghost use Rattle.bike_json.specs.State.{Wrote, WroteNext, IsAt, takes_value, takes_name, has_more, after_value};
-ghost use Rattle.bike_json.specs.Tree.{text_of, members_text, object};
+ghost use Rattle.bike_json.specs.Tree.{text_of, object};
 ghost use Rattle.bike_answers.specs.Bodies.{scalar_tree, member_text, members};
 
 use bike_fixed::Within;
@@ -56,27 +56,25 @@ fn write_member<W: Output>(json: &mut JsonState, out: &mut W, name: &str, value:
     write_scalar(json, out, value);
 }
 
-fn write_members<W: Output>(json: &mut JsonState, out: &mut W, fields: &[(&str, Scalar)])
-    requires { json.old.top ≡ Level.EmptyObject }
-    ensures wrote { Wrote json.old json.new (W.contents out.old) (W.contents out.new)
-        (members_text false (members (map (λ m. (m.0.now, scalar_tree m.1)) fields.now))) }
-    ensures name { IsTrue (takes_name json.new.top) }
-    ensures round { json.new.round ≡ json.old.round }
-{
-    for field in fields {
-        write_member(json, out, field.0, field.1);
-    }
-}
-
-/// Writes an object of these members, in this order.
-pub(crate) fn write_object<W: Output>(json: &mut JsonState, out: &mut W, fields: &[(&str, Scalar)])
+/// Writes an object of these members, in this order, and of those behind them.
+pub(crate) fn write_object<W: Output>(
+    json: &mut JsonState,
+    out: &mut W,
+    fields: &[(&str, Scalar)],
+    behind: &[(&str, Scalar)],
+)
     requires value { IsTrue (takes_value json.old.top) }
     requires room { length json.old.round < 16 }
     ensures wrote { WroteNext json.old json.new (W.contents out.old) (W.contents out.new)
-        (text_of (object (members (map (λ m. (m.0.now, scalar_tree m.1)) fields.now)))) }
+        (text_of (object (members (map (λ m. (m.0.now, scalar_tree m.1)) (fields.now ++ behind.now))))) }
     ensures place { IsAt json.new (after_value json.old.top) json.old.round }
 {
     let _ = json.begin_object(out);
-    write_members(json, out, fields);
+    for field in fields {
+        write_member(json, out, field.0, field.1);
+    }
+    for last in behind {
+        write_member(json, out, last.0, last.1);
+    }
     let _ = json.end_object(out);
 }

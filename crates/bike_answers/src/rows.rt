@@ -1,9 +1,9 @@
 //! Riders, bicycles, rentals and orders as JSON.
 
-ghost use Rattle.std.specs.Prelude.{◌≡◌, ◌<◌, ◌++◌, IsTrue, length, pos};
+ghost use Rattle.std.specs.Prelude.{◌≡◌, ◌<◌, ◌++◌, IsTrue, length, map, pos};
 ghost use Rattle.bike_json.specs.State.{WroteNext, IsAt, takes_value, after_value};
 ghost use Rattle.bike_json.specs.Tree.{text_of};
-ghost use Rattle.bike_answers.specs.Bodies.{rider_state, open_rental, rider_tree, state_name, bike_tree, ended_at, rental_object, open_members, closed_members, rental_tree, end_name, order_tree};
+ghost use Rattle.bike_answers.specs.Bodies.{rider_state, open_rental, rider_tree, state_name, bike_tree, ended_at, closed_members, members, rental_object, rental_tree, scalar_tree, end_name, order_tree};
 
 use crate::answer::RiderRow;
 use crate::members::{Scalar, signed, whole, write_object};
@@ -44,6 +44,7 @@ pub(crate) fn write_rider<W: Output>(json: &mut JsonState, out: &mut W, row: &Ri
             ("balance_cents", signed(row.balance.hundredths())),
             ("rental", open_rental(row.rental)),
         ],
+        &[],
     );
 }
 
@@ -69,17 +70,17 @@ pub(crate) fn write_bike<W: Output>(
         (text_of (bike_tree number bike.now)) }
     ensures place { IsAt json.new (after_value json.old.top) json.old.round }
 {
-    let first = ("bike", whole(number));
-    let second = ("type", Scalar::Text(bike.type_id.as_str()));
-    let third = ("state", Scalar::Text(state_name(bike.state)));
+    let members = [
+        ("bike", whole(number)),
+        ("type", Scalar::Text(bike.type_id.as_str())),
+        ("state", Scalar::Text(state_name(bike.state))),
+    ];
     match &bike.place {
         Place::Dock { station, dock } => write_object(
             json,
             out,
+            &members,
             &[
-                first,
-                second,
-                third,
                 ("place", Scalar::Text("dock")),
                 ("station", Scalar::Text(station.as_str())),
                 ("dock", whole(*dock)),
@@ -88,10 +89,8 @@ pub(crate) fn write_bike<W: Output>(
         Place::Rental { rental } => write_object(
             json,
             out,
+            &members,
             &[
-                first,
-                second,
-                third,
                 ("place", Scalar::Text("rental")),
                 ("rental", whole(*rental)),
             ],
@@ -99,20 +98,14 @@ pub(crate) fn write_bike<W: Output>(
         Place::Truck { truck, order } => write_object(
             json,
             out,
+            &members,
             &[
-                first,
-                second,
-                third,
                 ("place", Scalar::Text("truck")),
                 ("truck", whole(*truck)),
                 ("order", whole(*order)),
             ],
         ),
-        Place::Depot => write_object(
-            json,
-            out,
-            &[first, second, third, ("place", Scalar::Text("depot"))],
-        ),
+        Place::Depot => { write_object(json, out, &members, &[("place", Scalar::Text("depot"))]) }
     }
 }
 
@@ -125,26 +118,37 @@ fn ended_at(station: &Option<Ident>) -> &str
     }
 }
 
-/// How a rental was closed, as texts and amounts in hundredths.
-#[derive(Clone, Copy)]
-struct Closed<'a> {
+/// The members of a closing: to which station, when, for which fare and with which refunds.
+fn closed_members<'a>(
     to: &'a str,
     finish: &'a str,
-    fare: i64,
-    refunded: i64,
+    fare: Cents,
+    refunded: Cents,
+) -> [(&'a str, Scalar<'a>); 5]
+    ensures { members (map (λ m. (m.0.now, scalar_tree m.1)) result) ≡ closed_members to.now finish.now fare refunded }
+{
+    [
+        ("is_open", Scalar::Flag(false)),
+        ("to", Scalar::Text(to)),
+        ("end", Scalar::Text(finish)),
+        ("fare_cents", signed(fare.hundredths())),
+        ("refunded_cents", signed(refunded.hundredths())),
+    ]
 }
 
-fn write_open<'a, W: Output>(
+/// Writes a rental, of whose closing these are the members.
+fn write_rental_with<'a, W: Output>(
     json: &mut JsonState,
     out: &mut W,
     number: RentalNumber,
     rental: &'a Rental,
     start: &'a str,
+    closing: &[(&str, Scalar)],
 )
     requires value { IsTrue (takes_value json.old.top) }
     requires room { length json.old.round < 16 }
     ensures wrote { WroteNext json.old json.new (W.contents out.old) (W.contents out.new)
-        (text_of (rental_object number rental.now start.now open_members)) }
+        (text_of (rental_object number rental.now start.now (members (map (λ m. (m.0.now, scalar_tree m.1)) closing.now)))) }
     ensures place { IsAt json.new (after_value json.old.top) json.old.round }
 {
     write_object(
@@ -157,42 +161,8 @@ fn write_open<'a, W: Output>(
             ("plan", Scalar::Text(rental.plan.as_str())),
             ("from", Scalar::Text(rental.from_station.as_str())),
             ("start", Scalar::Text(start)),
-            ("is_open", Scalar::Flag(true)),
         ],
-    );
-}
-
-fn write_closed<'a, W: Output>(
-    json: &mut JsonState,
-    out: &mut W,
-    number: RentalNumber,
-    rental: &'a Rental,
-    start: &'a str,
-    closed: Closed<'a>,
-)
-    requires value { IsTrue (takes_value json.old.top) }
-    requires room { length json.old.round < 16 }
-    ensures wrote { let members = closed_members closed.entry.to.now closed.entry.finish.now closed.entry.fare
-        closed.entry.refunded in WroteNext json.old json.new (W.contents out.old) (W.contents out.new)
-        (text_of (rental_object number rental.now start.now members)) }
-    ensures place { IsAt json.new (after_value json.old.top) json.old.round }
-{
-    write_object(
-        json,
-        out,
-        &[
-            ("rental", whole(number)),
-            ("rider", whole(rental.rider)),
-            ("bike", whole(rental.bike)),
-            ("plan", Scalar::Text(rental.plan.as_str())),
-            ("from", Scalar::Text(rental.from_station.as_str())),
-            ("start", Scalar::Text(start)),
-            ("is_open", Scalar::Flag(false)),
-            ("to", Scalar::Text(closed.to)),
-            ("end", Scalar::Text(closed.finish)),
-            ("fare_cents", signed(closed.fare)),
-            ("refunded_cents", signed(closed.refunded)),
-        ],
+        closing,
     );
 }
 
@@ -211,16 +181,15 @@ pub(crate) fn write_rental<W: Output>(
 {
     let start = rental.start.text();
     match &rental.closing {
-        None => write_open(json, out, number, rental, start.as_str()),
+        None => {
+            let open = [("is_open", Scalar::Flag(true))];
+            write_rental_with(json, out, number, rental, start.as_str(), &open);
+        }
         Some(closing) => {
             let finish = closing.finish.text();
-            let closed = Closed {
-                to: ended_at(&closing.to_station),
-                finish: finish.as_str(),
-                fare: closing.fare.hundredths(),
-                refunded: refunded.hundredths(),
-            };
-            write_closed(json, out, number, rental, start.as_str(), closed);
+            let to = ended_at(&closing.to_station);
+            let closed = closed_members(to, finish.as_str(), closing.fare, refunded);
+            write_rental_with(json, out, number, rental, start.as_str(), &closed);
         }
     }
 }
@@ -259,5 +228,6 @@ pub(crate) fn write_order<W: Output>(
             ("delivered", Scalar::Whole(i64::from(order.delivered))),
             ("is_open", Scalar::Flag(order.is_open)),
         ],
+        &[],
     );
 }

@@ -1,8 +1,10 @@
 //! Decisions on names: those in further languages, and what becomes of one that is there.
 
-ghost use Rattle.std.specs.Prelude.{◌≡◌, IfOk};
+ghost use Rattle.std.specs.Prelude.{◌≡◌, ◌∷◌, [], not, IfOk};
 ghost use Rattle.bike_commands.specs.declared.command.Command.TheVariants as command;
-ghost use Rattle.bike_operator.specs.Steps.{unknown_of};
+ghost use Rattle.bike_commands.specs.declared.refusal.Refusal.TheVariants.{SystemMissing};
+ghost use Rattle.bike_operator.specs.Changes.{refusal_in};
+ghost use Rattle.bike_operator.specs.Steps.{first, unknown_of};
 ghost use Rattle.bike_accepted.specs.Effects.{DecidesOn};
 ghost use Rattle.bike_accepted.specs.Found.{FindsOn};
 
@@ -25,6 +27,20 @@ fn unknown_of(kind: NameKind) -> Refusal
     }
 }
 
+/// The first refusal that all three commands have alike: there is no system, or nothing of this kind and identifier.
+fn check_named(view: &View, kind: NameKind) -> Result<(), Refusal>
+    ensures { refusal_in result
+        ≡ first ((not view.now.has_system, SystemMissing) ∷ (not view.now.has_named, unknown_of kind) ∷ []) }
+{
+    if !view.has_system {
+        return Err(Refusal::SystemMissing);
+    }
+    if !view.has_named {
+        return Err(unknown_of(kind));
+    }
+    Ok(())
+}
+
 /// Decides on a name in a further language.
 pub(crate) fn decide_add_name<'a>(
     view: &View,
@@ -36,12 +52,7 @@ pub(crate) fn decide_add_name<'a>(
     ensures decides { DecidesOn view.now (command.AddName kind id.now language.now name.now) result }
     ensures found { IfOk result (FindsOn view.now (command.AddName kind id.now language.now name.now)) }
 {
-    if !view.has_system {
-        return Err(Refusal::SystemMissing);
-    }
-    if !view.has_named {
-        return Err(unknown_of(kind));
-    }
+    check_named(view, kind)?;
     if view.has_language {
         return Err(Refusal::AlreadyThere);
     }
@@ -67,12 +78,7 @@ pub(crate) fn decide_set_name<'a>(
     ensures decides { DecidesOn view.now (command.SetName kind id.now language.now name.now) result }
     ensures found { IfOk result (FindsOn view.now (command.SetName kind id.now language.now name.now)) }
 {
-    if !view.has_system {
-        return Err(Refusal::SystemMissing);
-    }
-    if !view.has_named {
-        return Err(unknown_of(kind));
-    }
+    check_named(view, kind)?;
     if !view.has_language {
         return Err(Refusal::UnknownName);
     }
@@ -97,12 +103,7 @@ pub(crate) fn decide_remove_name<'a>(
     ensures decides { DecidesOn view.now (command.RemoveName kind id.now language.now) result }
     ensures found { IfOk result (FindsOn view.now (command.RemoveName kind id.now language.now)) }
 {
-    if !view.has_system {
-        return Err(Refusal::SystemMissing);
-    }
-    if !view.has_named {
-        return Err(unknown_of(kind));
-    }
+    check_named(view, kind)?;
     if !view.has_language || view.is_own_language {
         return Err(Refusal::UnknownName);
     }

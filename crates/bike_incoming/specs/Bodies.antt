@@ -1,10 +1,12 @@
 -- The command that a body gives, a block for each kind.
-use Rattle.std.specs.Prelude.{ℕ, List, ◌==◌, Option, Some, codes}
+use Rattle.std.specs.Prelude.{ℕ, List, ◌==◌, Option, Some, None, option_map, codes}
 use Rattle.std.specs.List.{slice_split}
 use Rattle.bike_fields.specs.declared.numbers.TheConstants.{GREATEST_NUMBER, GREATEST_SERIAL, MOST_DOCKS}
 use Rattle.serde_json.specs.Data.{Data}
 use Rattle.bike_fixed.specs.Whole.{number_of}
 use Rattle.bike_fields.specs.Bytes.{ident_of}
+use Rattle.bike_fields.specs.declared.caller.Caller.{Caller}
+use Rattle.bike_fields.specs.declared.caller.Caller.TheVariants as caller
 use Rattle.bike_texts.specs.Reading.{◌>>=◌}
 use Rattle.bike_commands.specs.declared.command.Command.{Command}
 use Rattle.bike_commands.specs.declared.command.Command.TheVariants.{MarkDock, MarkBike, Start, End, Load, Unload}
@@ -89,3 +91,22 @@ abbrev pub crew_command : Route → ℕ → Data → Option Command
 crew_command route.Load = load_of
 crew_command route.Unload = unload_of
 crew_command _ = λ truck. mark_bike_of
+
+-- who acts by a request of a route, as the path's part names it; none where a route only shows
+abbrev pub caller_at : Route → List ℕ → Option Caller
+caller_at route.Start part = option_map caller.Rider (rider_in part)
+caller_at route.End part = option_map caller.Dock (station_in part)
+caller_at route.MarkDock part = option_map caller.Dock (station_in part)
+caller_at route.MarkStationBike part = option_map caller.Dock (station_in part)
+caller_at route.Load part = option_map caller.Crew (truck_in part)
+caller_at route.Unload part = option_map caller.Crew (truck_in part)
+caller_at route.MarkTruckBike part = option_map caller.Crew (truck_in part)
+caller_at route.Office part = Some caller.Office
+caller_at _ part = None
+
+-- the command that the body gives to a caller's route
+abbrev pub command_by : Route → Caller → Data → Option Command
+command_by route (caller.Rider rider) = start_of rider
+command_by route (caller.Dock station) = dock_command route station
+command_by route (caller.Crew truck) = crew_command route truck
+command_by route _ = office_command

@@ -1,16 +1,18 @@
 //! What a request asks for.
 
-ghost use Rattle.std.specs.Prelude.{◌≡◌, IfOk, OnErr, option_map};
+ghost use Rattle.std.specs.Prelude.{◌≡◌, IfOk, IfSome, OnErr, option_map};
 ghost use Rattle.serde_json.specs.View.{view};
 ghost use Rattle.serde_json.specs.Data.{Data};
-ghost use Rattle.bike_incoming.specs.Asked.{object_of, application_of, request_of, is_method, asked_by_rider, asked_by_dock, asked_by_crew, asked_by_office, shown, got, asked_at, asked_for, IsPost, MayAct, ActsAt, IsToAct};
-ghost use Rattle.bike_incoming.specs.Bodies.{dock_command, crew_command, rider_in, station_in, truck_in};
+ghost use Rattle.bike_incoming.specs.Asked.{object_of, application_of, request_of, is_method, posted, shown, got, asked_at, asked_for, MayAct, ActsAt, IsToAct};
+ghost use Rattle.bike_fields.specs.Caller.{HasIdent, caller_meant};
+ghost use Rattle.bike_fields.specs.Reads.{Gives};
+ghost use Rattle.bike_incoming.specs.Bodies.{caller_at, command_by};
 ghost use Rattle.bike_incoming.specs.Members.{key_in};
 
-use crate::body::{read_crew_command, read_dock_command, read_office, read_start};
+use crate::body::read_command_by;
 use crate::members::key_in;
 use bike_commands::{Command, Request};
-use bike_fields::{Caller, Ident, RequestKey};
+use bike_fields::{Caller, CallerName, Ident, RequestKey};
 use bike_fixed::Within;
 use bike_heads::{Allow, Feed, Rejection, Route, Routes, Shown, path_of};
 use serde_json::Value;
@@ -83,86 +85,38 @@ fn read_object(alloc: Global, bytes: &[u8]) -> Result<Option<Value>, AllocError>
     }
 }
 
-/// The request of that caller with the command and the key that a body has. A command that is missing, of another kind or out of its
-/// bounds is a bad field.
-#[tactic(auto, unfolding(crate::specs::Asked::request_of))]
-fn applied(caller: Caller, command: Option<Command>, key: RequestKey) -> Asked
-    ensures { (body : Data) → key_in body ≡ Some key → result ≡ application_of (request_of caller command body) }
+/// Who acts by a request of that route, as the path's part names it; none where it names nobody.
+fn caller_at<'p>(route: Route, part: &'p str) -> Option<CallerName<'p>>
+    ensures read { Gives caller_meant result (caller_at route part.now) }
+    ensures good { IfSome result HasIdent }
 {
-    match command {
-        Some(command) => Asked::Apply(Request {
-            caller,
-            key,
-            command,
-        }),
-        None => Asked::Reject(Rejection::BadField),
+    match route {
+        Route::Start => Some(CallerName::Rider(Within::read(part)?)),
+        Route::End | Route::MarkDock | Route::MarkStationBike => {
+            Some(CallerName::Dock(Ident::checked(part)?))
+        }
+        Route::Load | Route::Unload | Route::MarkTruckBike => {
+            Some(CallerName::Crew(Within::read(part)?))
+        }
+        Route::Office => Some(CallerName::Office),
+        _ => None,
     }
 }
 
-/// A rider starts a rental.
-#[tactic(auto, using(crate::proofs::Keys::without_key))]
-fn ask_rider(alloc: Global, method: &[u8], part: &str, body: &[u8]) -> Result<Asked, AllocError>
-    ensures asked { IfOk result (λ asked. asked ≡ asked_by_rider method.now part.now body.now) }
-    ensures memory { OnErr result (MayAct method.now (rider_in part.now)) }
-{
-    let Some(rider) = Within::read(part) else {
-        return Ok(Asked::Reject(Rejection::NotFound));
-    };
-    if !is_method(method, Allow::Post) {
-        return Ok(Asked::Reject(Rejection::MethodNotAllowed(Allow::Post)));
-    }
-    let Some(object) = read_object(alloc, body)? else {
-        return Ok(Asked::Reject(Rejection::BadRequest));
-    };
-    let Some(key) = key_in(alloc, &object)? else {
-        return Ok(Asked::Reject(Rejection::BadField));
-    };
-    let command = read_start(alloc, rider, &object)?;
-    Ok(applied(Caller::Rider(rider), command, key))
-}
-
-/// A station reports what was done at one of its docks.
-#[tactic(auto, using(crate::proofs::Keys::without_key))]
-fn ask_dock(
+/// What a request to act asks for: the path and the method come first, then the body's object, its key and its command.
+#[tactic(auto, using(crate::proofs::Keys::without_key), unfolding(crate::specs::Asked::request_of))]
+fn act(
     alloc: Global,
     route: Route,
     method: &[u8],
     part: &str,
     body: &[u8],
 ) -> Result<Asked, AllocError>
-    ensures asked { IfOk result (λ asked. asked ≡ asked_by_dock (dock_command route) method.now part.now body.now) }
-    ensures memory { OnErr result (MayAct method.now (station_in part.now)) }
+    ensures asked { IfOk result (λ asked.
+        asked ≡ posted method.now (caller_at route part.now) (λ caller. caller) (command_by route) body.now) }
+    ensures memory { OnErr result (MayAct method.now (caller_at route part.now)) }
 {
-    let Some(station) = Ident::checked(part) else {
-        return Ok(Asked::Reject(Rejection::NotFound));
-    };
-    if !is_method(method, Allow::Post) {
-        return Ok(Asked::Reject(Rejection::MethodNotAllowed(Allow::Post)));
-    }
-    let Some(object) = read_object(alloc, body)? else {
-        return Ok(Asked::Reject(Rejection::BadRequest));
-    };
-    let station = Ident::of(alloc, station)?;
-    let Some(key) = key_in(alloc, &object)? else {
-        return Ok(Asked::Reject(Rejection::BadField));
-    };
-    let command = read_dock_command(alloc, route, &station, &object)?;
-    Ok(applied(Caller::Dock(station), command, key))
-}
-
-/// A truck's crew reports what it did.
-#[tactic(auto, using(crate::proofs::Keys::without_key))]
-fn ask_crew(
-    alloc: Global,
-    route: Route,
-    method: &[u8],
-    part: &str,
-    body: &[u8],
-) -> Result<Asked, AllocError>
-    ensures asked { IfOk result (λ asked. asked ≡ asked_by_crew (crew_command route) method.now part.now body.now) }
-    ensures memory { OnErr result (MayAct method.now (truck_in part.now)) }
-{
-    let Some(truck) = Within::read(part) else {
+    let Some(named) = caller_at(route, part) else {
         return Ok(Asked::Reject(Rejection::NotFound));
     };
     if !is_method(method, Allow::Post) {
@@ -174,27 +128,15 @@ fn ask_crew(
     let Some(key) = key_in(alloc, &object)? else {
         return Ok(Asked::Reject(Rejection::BadField));
     };
-    let command = read_crew_command(route, truck, &object);
-    Ok(applied(Caller::Crew(truck), command, key))
-}
-
-/// The office sends a command.
-#[tactic(auto, using(crate::proofs::Keys::without_key))]
-fn ask_office(alloc: Global, method: &[u8], body: &[u8]) -> Result<Asked, AllocError>
-    ensures asked { IfOk result (λ asked. asked ≡ asked_by_office method.now body.now) }
-    ensures memory { OnErr result (IsPost method.now) }
-{
-    if !is_method(method, Allow::Post) {
-        return Ok(Asked::Reject(Rejection::MethodNotAllowed(Allow::Post)));
-    }
-    let Some(object) = read_object(alloc, body)? else {
-        return Ok(Asked::Reject(Rejection::BadRequest));
-    };
-    let Some(key) = key_in(alloc, &object)? else {
+    let caller = named.keep(alloc)?;
+    let Some(command) = read_command_by(alloc, route, &caller, &object)? else {
         return Ok(Asked::Reject(Rejection::BadField));
     };
-    let command = read_office(alloc, &object)?;
-    Ok(applied(Caller::Office, command, key))
+    Ok(Asked::Apply(Request {
+        caller,
+        key,
+        command,
+    }))
 }
 
 /// What a request asks for whose path takes that route, with that part in the place of its parameter.
@@ -209,14 +151,14 @@ fn ask_at(
     ensures memory { OnErr result (ActsAt route method.now part.now) }
 {
     match route {
-        Route::Start => ask_rider(alloc, method, part, body),
-        Route::End | Route::MarkDock | Route::MarkStationBike => {
-            ask_dock(alloc, route, method, part, body)
-        }
-        Route::Load | Route::Unload | Route::MarkTruckBike => {
-            ask_crew(alloc, route, method, part, body)
-        }
-        Route::Office => ask_office(alloc, method, body),
+        Route::Start
+        | Route::End
+        | Route::MarkDock
+        | Route::MarkStationBike
+        | Route::Load
+        | Route::Unload
+        | Route::MarkTruckBike
+        | Route::Office => act(alloc, route, method, part, body),
         Route::Rider => Ok(show(method, Within::read(part).map(Shown::Rider))),
         Route::Bike => Ok(show(method, Within::read(part).map(Shown::Bike))),
         Route::Rental => Ok(show(method, Within::read(part).map(Shown::Rental))),

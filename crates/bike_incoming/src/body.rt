@@ -4,18 +4,18 @@ ghost use Rattle.std.specs.Prelude.{◌≡◌, ◌==◌, IfOk};
 ghost use Rattle.std.specs.List.{slice_split};
 ghost use Rattle.bike_requests.specs.Readers.{command_at};
 ghost use Rattle.serde_json.specs.View.{view};
-ghost use Rattle.bike_incoming.specs.Bodies.{start_of, end_of, mark_dock_of, mark_bike_of, load_of, unload_of, office_command, dock_command, crew_command};
+ghost use Rattle.bike_incoming.specs.Bodies.{start_of, end_of, mark_dock_of, mark_bike_of, load_of, unload_of, office_command, dock_command, crew_command, command_by};
 
 use crate::members::{choice_in, ident_in, number_in, side_in, text_in};
 use bike_commands::Command;
-use bike_fields::{Ident, RiderNumber, TruckNumber};
+use bike_fields::{Caller, Ident, RiderNumber, TruckNumber};
 use bike_heads::Route;
 use bike_requests::read_command;
 use serde_json::Value;
 use std::alloc::{AllocError, Global};
 
 #[tactic(auto, unfolding(crate::specs::Bodies::start_of))]
-pub(crate) fn read_start(
+fn read_start(
     alloc: Global,
     rider: RiderNumber,
     body: &Value,
@@ -116,7 +116,7 @@ fn read_spelled(alloc: Global, text: &str) -> Result<Option<Command>, AllocError
 }
 
 #[tactic(auto, unfolding(crate::specs::Bodies::office_command))]
-pub(crate) fn read_office(alloc: Global, body: &Value) -> Result<Option<Command>, AllocError>
+fn read_office(alloc: Global, body: &Value) -> Result<Option<Command>, AllocError>
     ensures { IfOk result (λ o. o ≡ office_command (view body.now)) }
 {
     let Some(text) = text_in(body, "command") else {
@@ -126,7 +126,7 @@ pub(crate) fn read_office(alloc: Global, body: &Value) -> Result<Option<Command>
 }
 
 /// The command that the body gives to a station's route.
-pub(crate) fn read_dock_command(
+fn read_dock_command(
     alloc: Global,
     route: Route,
     station: &Ident,
@@ -142,12 +142,29 @@ pub(crate) fn read_dock_command(
 }
 
 /// The command that the body gives to a truck's route.
-pub(crate) fn read_crew_command(route: Route, truck: TruckNumber, body: &Value) -> Option<Command>
+fn read_crew_command(route: Route, truck: TruckNumber, body: &Value) -> Option<Command>
     ensures { result ≡ crew_command route truck (view body.now) }
 {
     match route {
         Route::Load => read_load(truck, body),
         Route::Unload => read_unload(truck, body),
         _ => read_mark_bike(body),
+    }
+}
+
+/// The command that the body gives to a caller's route.
+pub(crate) fn read_command_by(
+    alloc: Global,
+    route: Route,
+    caller: &Caller,
+    body: &Value,
+) -> Result<Option<Command>, AllocError>
+    ensures { IfOk result (λ o. o ≡ command_by route caller.now (view body.now)) }
+{
+    match caller {
+        Caller::Rider(rider) => read_start(alloc, *rider, body),
+        Caller::Dock(station) => read_dock_command(alloc, route, station, body),
+        Caller::Crew(truck) => Ok(read_crew_command(route, *truck, body)),
+        Caller::Office | Caller::Import(_) => read_office(alloc, body),
     }
 }

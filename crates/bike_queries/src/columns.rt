@@ -1,29 +1,14 @@
 //! Columns of a row as values of the product. A column that holds anything else is `StoreFailed`.
 
-ghost use Rattle.std.specs.Prelude.{◌≡◌, IfOk, Some};
+ghost use Rattle.std.specs.Prelude.{◌≡◌, IfOk};
 ghost use Rattle.sqlite_value.specs.declared.value.Value.TheVariants.{Int};
 ghost use Rattle.sqlite_value.specs.Order.{column};
 ghost use Rattle.bike_book.specs.Rows.{number_value};
-ghost use Rattle.bike_schema.specs.Columns.{text_in};
 
 use bike_fixed::{Micro, Within};
 use bike_schema::{StatementFault, number_at};
 use sqlite::Row;
 use sqlite::types::ValueRef;
-use std::str;
-
-/// The column as a text, which stays in its row.
-pub(crate) fn str_at(row: &Row, at: usize) -> Result<&str, StatementFault>
-    ensures { IfOk result (λ text. text_in (column row.now at) ≡ Some text.now) }
-{
-    let Ok(ValueRef::Text(bytes)) = row.get_ref(at) else {
-        return Err(StatementFault::StoreFailed);
-    };
-    match str::from_utf8(bytes) {
-        Ok(text) => Ok(text),
-        Err(_) => Err(StatementFault::StoreFailed),
-    }
-}
 
 /// The column as a number that fits.
 pub(crate) fn whole_at(row: &Row, at: usize) -> Result<u32, StatementFault>

@@ -6,12 +6,11 @@ ghost use Rattle.bike_book.specs.Rows.{number_value, system_row};
 ghost use Rattle.bike_book.specs.Found.{row_under};
 ghost use Rattle.bike_schema.specs.Answers.{Answers, IsReadOf};
 
-use crate::columns::str_at;
 use bike_book::columns::system;
 use bike_catalogue::System;
 use bike_fields::{FieldFault, TimeToLive};
 use bike_rows::lookup::first_row;
-use bike_schema::{StatementFault, number_at};
+use bike_schema::{StatementFault, number_at, str_at};
 use sqlite::{Alter, Connection, Row, params};
 use std::alloc::Global;
 

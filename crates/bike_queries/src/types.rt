@@ -12,12 +12,11 @@ ghost use Rattle.bike_schema.specs.Answers.{Answers, IsReadOf};
 ghost use Rattle.bike_queries.specs.After.{IsNext, first_after};
 
 use crate::after::start_of;
-use crate::columns::str_at;
 use bike_book::columns::types;
 use bike_catalogue::{Form, Propulsion, VehicleType};
 use bike_fields::Ident;
 use bike_fleet_reads::{find_type_row_from, select_types};
-use bike_schema::{StatementFault, ident_at, name_at, number_at};
+use bike_schema::{StatementFault, ident_at, name_at, number_at, str_at};
 use sqlite::{Alter, Connection, Row};
 use std::alloc::Global;
 

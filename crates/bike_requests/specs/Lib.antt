@@ -1,3 +1,4 @@
+pub mod Unread
 pub mod Writing
 pub mod RecordReaders
 pub mod Readers

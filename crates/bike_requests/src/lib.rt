@@ -10,6 +10,7 @@ mod read_orders;
 mod read_records;
 mod read_riding;
 mod reading;
+mod unread;
 mod write_fields;
 mod write_records;
 mod writing;

@@ -4,12 +4,13 @@ ghost use Rattle.std.specs.Prelude.{◌≡◌, ◌≤◌, ℕ, IfOk, IfErr, IfSo
 ghost use Rattle.bike_fixed.specs.Whole.{last_moment};
 ghost use Rattle.bike_commands.specs.declared.request.Request.{Request};
 ghost use Rattle.bike_commands.specs.Requests.{IsRequest, IsLine};
+ghost use Rattle.bike_requests.specs.Unread.{IsReading};
 ghost use Rattle.bike_requests.specs.RequestReaders.{request_at};
 ghost use Rattle.bike_requests.specs.Spelling.{SpellsRequest};
 ghost use Rattle.bike_fields.specs.Bytes.{is_key};
-ghost use Rattle.bike_fields.specs.Reads.{IsReadAs};
 
 use crate::reading::read_rest;
+use crate::unread::{Unread, none_if_bad};
 use bike_commands::{Command, LINE_LENGTH, Request};
 use bike_fields::{Caller, RequestKey};
 use bike_fixed::Moment;
@@ -40,8 +41,7 @@ fn keep_request(
     requires { is_key key.now ≡ true }
     ensures { IfOk result (λ q. (caller ≡ Ok q.caller) × (q.key ≡ key.now) × (q.command ≡ command)) }
 {
-    let names = keep_names(alloc, caller, key);
-    names.map(move |(caller, key)| Request {
+    keep_names(alloc, caller, key).map(move |(caller, key)| Request {
         caller,
         key,
         command,
@@ -49,24 +49,17 @@ fn keep_request(
 }
 
 #[tactic(auto, unfolding(crate::specs::RequestReaders::request_at))]
-fn read_request(alloc: Global, mut fields: Fields) -> Result<Option<(Moment, Request)>, AllocError>
-    ensures { IsReadAs (request_at fields.entry) result }
+fn read_request(alloc: Global, mut fields: Fields) -> Result<(Moment, Request), Unread>
+    ensures { IsReading (request_at fields.entry) result }
 {
-    let Some(moment) = fields.moment() else {
-        return Ok(None);
-    };
+    let moment = fields.moment().ok_or(Unread::BadField)?;
     let Some(caller) = fields.caller() else {
-        return Ok(None);
+        return Err(Unread::BadField);
     };
-    let Some(key) = fields.key() else {
-        return Ok(None);
-    };
-    let Some(command) = read_rest(alloc, fields)? else {
-        return Ok(None);
-    };
-    let caller = caller.keep(alloc);
-    let request = keep_request(alloc, caller, key, command)?;
-    Ok(Some((moment, request)))
+    let key = fields.key().ok_or(Unread::BadField)?;
+    let command = read_rest(alloc, fields)?;
+    let request = keep_request(alloc, caller.keep(alloc), key, command)?;
+    Ok((moment, request))
 }
 
 /// The request that the line spells, and the moment at which it comes: `MOMENT⇥CALLER⇥KEY⇥COMMAND`,
@@ -85,5 +78,5 @@ pub fn read_line(alloc: Global, line: &[u8]) -> Result<Option<(Moment, Request)>
     let Ok(text) = str::from_utf8(line) else {
         return Ok(None);
     };
-    read_request(alloc, Fields::of(text))
+    none_if_bad(read_request(alloc, Fields::of(text)))
 }

@@ -2,99 +2,70 @@
 
 ghost use Rattle.std.specs.Prelude.{◌≡◌, true, IfOk, IfSome, option_map};
 ghost use Rattle.bike_fields.specs.Bytes.{is_ident};
-ghost use Rattle.bike_fields.specs.Reads.{IsReadAs};
+ghost use Rattle.bike_requests.specs.Unread.{IsReading};
 ghost use Rattle.bike_requests.specs.Readers.{set_plan_at, set_station_at, mark_dock_at, add_bike_at, mark_bike_at, retire_bike_at, add_truck_at, set_region_at, add_docks_at};
 
+use crate::unread::Unread;
 use bike_commands::Command;
 use bike_fields::Ident;
 use bike_texts::Fields;
 use std::alloc::{AllocError, Global};
 
 #[tactic(auto, unfolding(crate::specs::Readers::set_plan_at))]
-pub fn read_set_plan(alloc: Global, mut fields: Fields) -> Result<Option<Command>, AllocError>
-    ensures { IsReadAs (set_plan_at fields.entry) result }
+pub fn read_set_plan(alloc: Global, mut fields: Fields) -> Result<Command, Unread>
+    ensures { IsReading (set_plan_at fields.entry) result }
 {
-    let Some(type_id) = fields.ident() else {
-        return Ok(None);
-    };
-    let Some(plan) = fields.ident() else {
-        return Ok(None);
-    };
-    let Some(()) = fields.end() else {
-        return Ok(None);
-    };
+    let type_id = fields.ident().ok_or(Unread::BadField)?;
+    let plan = fields.ident().ok_or(Unread::BadField)?;
+    fields.end().ok_or(Unread::BadField)?;
     let type_id = Ident::of(alloc, type_id)?;
     let plan = Ident::of(alloc, plan)?;
-    Ok(Some(Command::SetPlan { type_id, plan }))
+    Ok(Command::SetPlan { type_id, plan })
 }
 
 #[tactic(auto, unfolding(crate::specs::Readers::set_station_at))]
-pub fn read_set_station(alloc: Global, mut fields: Fields) -> Result<Option<Command>, AllocError>
-    ensures { IsReadAs (set_station_at fields.entry) result }
+pub fn read_set_station(alloc: Global, mut fields: Fields) -> Result<Command, Unread>
+    ensures { IsReading (set_station_at fields.entry) result }
 {
-    let Some(station) = fields.ident() else {
-        return Ok(None);
-    };
-    let Some(installed) = fields.choice("true", "false") else {
-        return Ok(None);
-    };
-    let Some(renting) = fields.choice("true", "false") else {
-        return Ok(None);
-    };
-    let Some(returning) = fields.choice("true", "false") else {
-        return Ok(None);
-    };
-    let Some(()) = fields.end() else {
-        return Ok(None);
-    };
+    let station = fields.ident().ok_or(Unread::BadField)?;
+    let installed = fields.choice("true", "false").ok_or(Unread::BadField)?;
+    let renting = fields.choice("true", "false").ok_or(Unread::BadField)?;
+    let returning = fields.choice("true", "false").ok_or(Unread::BadField)?;
+    fields.end().ok_or(Unread::BadField)?;
     let station = Ident::of(alloc, station)?;
-    Ok(Some(Command::SetStation {
+    Ok(Command::SetStation {
         station,
         installed,
         renting,
         returning,
-    }))
+    })
 }
 
 #[tactic(auto, unfolding(crate::specs::Readers::mark_dock_at))]
-pub fn read_mark_dock(alloc: Global, mut fields: Fields) -> Result<Option<Command>, AllocError>
-    ensures { IsReadAs (mark_dock_at fields.entry) result }
+pub fn read_mark_dock(alloc: Global, mut fields: Fields) -> Result<Command, Unread>
+    ensures { IsReading (mark_dock_at fields.entry) result }
 {
-    let Some(station) = fields.ident() else {
-        return Ok(None);
-    };
-    let Some(dock) = fields.number() else {
-        return Ok(None);
-    };
-    let Some(broken) = fields.choice("broken", "working") else {
-        return Ok(None);
-    };
-    let Some(()) = fields.end() else {
-        return Ok(None);
-    };
+    let station = fields.ident().ok_or(Unread::BadField)?;
+    let dock = fields.number().ok_or(Unread::BadField)?;
+    let broken = fields.choice("broken", "working").ok_or(Unread::BadField)?;
+    fields.end().ok_or(Unread::BadField)?;
     let station = Ident::of(alloc, station)?;
-    Ok(Some(Command::MarkDock {
+    Ok(Command::MarkDock {
         station,
         dock,
         broken,
-    }))
+    })
 }
 
 #[tactic(auto, unfolding(crate::specs::Readers::add_bike_at))]
-pub fn read_add_bike(alloc: Global, mut fields: Fields) -> Result<Option<Command>, AllocError>
-    ensures { IsReadAs (add_bike_at fields.entry) result }
+pub fn read_add_bike(alloc: Global, mut fields: Fields) -> Result<Command, Unread>
+    ensures { IsReading (add_bike_at fields.entry) result }
 {
-    let Some(bike) = fields.number() else {
-        return Ok(None);
-    };
-    let Some(type_id) = fields.ident() else {
-        return Ok(None);
-    };
-    let Some(()) = fields.end() else {
-        return Ok(None);
-    };
+    let bike = fields.number().ok_or(Unread::BadField)?;
+    let type_id = fields.ident().ok_or(Unread::BadField)?;
+    fields.end().ok_or(Unread::BadField)?;
     let type_id = Ident::of(alloc, type_id)?;
-    Ok(Some(Command::AddBike { bike, type_id }))
+    Ok(Command::AddBike { bike, type_id })
 }
 
 #[tactic(auto, unfolding(crate::specs::Readers::mark_bike_at))]
@@ -138,36 +109,24 @@ fn keep_region(alloc: Global, region: Option<&str>) -> Result<Option<Ident>, All
 }
 
 #[tactic(auto, unfolding(crate::specs::Readers::set_region_at))]
-pub fn read_set_region(alloc: Global, mut fields: Fields) -> Result<Option<Command>, AllocError>
-    ensures { IsReadAs (set_region_at fields.entry) result }
+pub fn read_set_region(alloc: Global, mut fields: Fields) -> Result<Command, Unread>
+    ensures { IsReading (set_region_at fields.entry) result }
 {
-    let Some(station) = fields.ident() else {
-        return Ok(None);
-    };
-    let Some(region) = fields.ident_or_none() else {
-        return Ok(None);
-    };
-    let Some(()) = fields.end() else {
-        return Ok(None);
-    };
+    let station = fields.ident().ok_or(Unread::BadField)?;
+    let region = fields.ident_or_none().ok_or(Unread::BadField)?;
+    fields.end().ok_or(Unread::BadField)?;
     let station = Ident::of(alloc, station)?;
     let region = keep_region(alloc, region)?;
-    Ok(Some(Command::SetRegion { station, region }))
+    Ok(Command::SetRegion { station, region })
 }
 
 #[tactic(auto, unfolding(crate::specs::Readers::add_docks_at))]
-pub fn read_add_docks(alloc: Global, mut fields: Fields) -> Result<Option<Command>, AllocError>
-    ensures { IsReadAs (add_docks_at fields.entry) result }
+pub fn read_add_docks(alloc: Global, mut fields: Fields) -> Result<Command, Unread>
+    ensures { IsReading (add_docks_at fields.entry) result }
 {
-    let Some(station) = fields.ident() else {
-        return Ok(None);
-    };
-    let Some(count) = fields.number() else {
-        return Ok(None);
-    };
-    let Some(()) = fields.end() else {
-        return Ok(None);
-    };
+    let station = fields.ident().ok_or(Unread::BadField)?;
+    let count = fields.number().ok_or(Unread::BadField)?;
+    fields.end().ok_or(Unread::BadField)?;
     let station = Ident::of(alloc, station)?;
-    Ok(Some(Command::AddDocks { station, count }))
+    Ok(Command::AddDocks { station, count })
 }

@@ -1,46 +1,35 @@
 //! Reading the commands of orders.
 
 ghost use Rattle.std.specs.Prelude.{◌≡◌};
-ghost use Rattle.bike_fields.specs.Reads.{IsReadAs};
+ghost use Rattle.bike_requests.specs.Unread.{IsReading};
 ghost use Rattle.bike_requests.specs.Readers.{open_order_at, load_at, unload_at, close_order_at};
 
+use crate::unread::Unread;
 use bike_commands::Command;
 use bike_fields::Ident;
 use bike_texts::Fields;
-use std::alloc::{AllocError, Global};
+use std::alloc::Global;
 
 #[tactic(auto, unfolding(crate::specs::Readers::open_order_at))]
-pub fn read_open_order(alloc: Global, mut fields: Fields) -> Result<Option<Command>, AllocError>
-    ensures { IsReadAs (open_order_at fields.entry) result }
+pub fn read_open_order(alloc: Global, mut fields: Fields) -> Result<Command, Unread>
+    ensures { IsReading (open_order_at fields.entry) result }
 {
-    let Some(truck) = fields.number() else {
-        return Ok(None);
-    };
-    let Some(from_end) = fields.order_end() else {
-        return Ok(None);
-    };
-    let Some(to_end) = fields.order_end() else {
-        return Ok(None);
-    };
-    let Some(type_id) = fields.ident() else {
-        return Ok(None);
-    };
-    let Some(count) = fields.number() else {
-        return Ok(None);
-    };
-    let Some(()) = fields.end() else {
-        return Ok(None);
-    };
+    let truck = fields.number().ok_or(Unread::BadField)?;
+    let from_end = fields.order_end().ok_or(Unread::BadField)?;
+    let to_end = fields.order_end().ok_or(Unread::BadField)?;
+    let type_id = fields.ident().ok_or(Unread::BadField)?;
+    let count = fields.number().ok_or(Unread::BadField)?;
+    fields.end().ok_or(Unread::BadField)?;
     let from_end = from_end.keep(alloc)?;
     let to_end = to_end.keep(alloc)?;
     let type_id = Ident::of(alloc, type_id)?;
-    Ok(Some(Command::OpenOrder {
+    Ok(Command::OpenOrder {
         truck,
         from_end,
         to_end,
         type_id,
         count,
-    }))
+    })
 }
 
 #[tactic(auto, unfolding(crate::specs::Readers::load_at))]

@@ -1,13 +1,14 @@
 //! Reading the commands of riders, their rentals and their money.
 
 ghost use Rattle.std.specs.Prelude.{◌≡◌};
-ghost use Rattle.bike_fields.specs.Reads.{IsReadAs};
+ghost use Rattle.bike_requests.specs.Unread.{IsReading};
 ghost use Rattle.bike_requests.specs.Readers.{add_rider_at, set_rider_at, top_up_at, start_at, end_at, recover_at, refund_at};
 
+use crate::unread::Unread;
 use bike_commands::Command;
 use bike_fields::Ident;
 use bike_texts::Fields;
-use std::alloc::{AllocError, Global};
+use std::alloc::Global;
 
 #[tactic(auto, unfolding(crate::specs::Readers::add_rider_at))]
 pub fn read_add_rider(mut fields: Fields) -> Option<Command>
@@ -39,51 +40,35 @@ pub fn read_top_up(mut fields: Fields) -> Option<Command>
 }
 
 #[tactic(auto, unfolding(crate::specs::Readers::start_at))]
-pub fn read_start(alloc: Global, mut fields: Fields) -> Result<Option<Command>, AllocError>
-    ensures { IsReadAs (start_at fields.entry) result }
+pub fn read_start(alloc: Global, mut fields: Fields) -> Result<Command, Unread>
+    ensures { IsReading (start_at fields.entry) result }
 {
-    let Some(rider) = fields.number() else {
-        return Ok(None);
-    };
-    let Some(station) = fields.ident() else {
-        return Ok(None);
-    };
-    let Some(dock) = fields.number() else {
-        return Ok(None);
-    };
-    let Some(()) = fields.end() else {
-        return Ok(None);
-    };
+    let rider = fields.number().ok_or(Unread::BadField)?;
+    let station = fields.ident().ok_or(Unread::BadField)?;
+    let dock = fields.number().ok_or(Unread::BadField)?;
+    fields.end().ok_or(Unread::BadField)?;
     let station = Ident::of(alloc, station)?;
-    Ok(Some(Command::Start {
+    Ok(Command::Start {
         rider,
         station,
         dock,
-    }))
+    })
 }
 
 #[tactic(auto, unfolding(crate::specs::Readers::end_at))]
-pub fn read_end(alloc: Global, mut fields: Fields) -> Result<Option<Command>, AllocError>
-    ensures { IsReadAs (end_at fields.entry) result }
+pub fn read_end(alloc: Global, mut fields: Fields) -> Result<Command, Unread>
+    ensures { IsReading (end_at fields.entry) result }
 {
-    let Some(bike) = fields.number() else {
-        return Ok(None);
-    };
-    let Some(station) = fields.ident() else {
-        return Ok(None);
-    };
-    let Some(dock) = fields.number() else {
-        return Ok(None);
-    };
-    let Some(()) = fields.end() else {
-        return Ok(None);
-    };
+    let bike = fields.number().ok_or(Unread::BadField)?;
+    let station = fields.ident().ok_or(Unread::BadField)?;
+    let dock = fields.number().ok_or(Unread::BadField)?;
+    fields.end().ok_or(Unread::BadField)?;
     let station = Ident::of(alloc, station)?;
-    Ok(Some(Command::End {
+    Ok(Command::End {
         bike,
         station,
         dock,
-    }))
+    })
 }
 
 #[tactic(auto, unfolding(crate::specs::Readers::recover_at))]

@@ -1,6 +1,6 @@
 //! Columns of a row as values of the product. A column past the end of the row reads as NULL.
 
-ghost use Rattle.std.specs.Prelude.{◌≡◌, IfOk, Some, None, Err, option_map, string_bytes};
+ghost use Rattle.std.specs.Prelude.{◌≡◌, IfOk, IfErr, Some, None, Err, string_bytes};
 ghost use Rattle.sqlite_value.specs.Order.{column};
 ghost use Rattle.sqlite_sql.specs.Ops.{is_null};
 ghost use Rattle.bike_schema.specs.declared.fault.StatementFault.TheVariants.{StoreFailed};
@@ -15,26 +15,27 @@ use sqlite::Row;
 use sqlite::types::ValueRef;
 use std::alloc::Global;
 
-/// The column as a whole number.
-fn whole_at(row: &Row, at: usize) -> Option<i64>
-    ensures { result ≡ whole_in (column row.now at) }
+/// The column as a whole number; any other column is `StoreFailed`.
+fn whole_at(row: &Row, at: usize) -> Result<i64, StatementFault>
+    ensures { result ≡ read_or_failed (whole_in (column row.now at)) }
 {
     match row.get_ref(at) {
-        Ok(ValueRef::Int(number)) => Some(number),
-        _ => None,
+        Ok(ValueRef::Int(number)) => Ok(number),
+        _ => Err(StatementFault::StoreFailed),
     }
 }
 
-/// The column as a text.
-fn str_at(row: &Row, at: usize) -> Option<&str>
-    ensures { option_map (λ text. text.now) result ≡ text_in (column row.now at) }
+/// The column as a text, which stays in its row; any other column is `StoreFailed`.
+pub fn str_at(row: &Row, at: usize) -> Result<&str, StatementFault>
+    ensures ok { IfOk result (λ text. text_in (column row.now at) ≡ Some text.now) }
+    ensures failed { IfErr result (λ fault. (fault ≡ StoreFailed) × (text_in (column row.now at) ≡ None)) }
 {
     let Ok(ValueRef::Text(bytes)) = row.get_ref(at) else {
-        return None;
+        return Err(StatementFault::StoreFailed);
     };
     match str::from_utf8(bytes) {
-        Ok(text) => Some(text),
-        Err(_) => None,
+        Ok(text) => Ok(text),
+        Err(_) => Err(StatementFault::StoreFailed),
     }
 }
 
@@ -95,47 +96,35 @@ pub fn number_at<const LO: u32, const HI: u32, K>(
 ) -> Result<Within<LO, HI, K>, StatementFault>
     ensures { result ≡ read_or_failed (number_in LO HI (column row.now at)) }
 {
-    let Some(whole) = whole_at(row, at) else {
-        return Err(StatementFault::StoreFailed);
-    };
-    number_of(whole).ok_or(StatementFault::StoreFailed)
+    number_of(whole_at(row, at)?).ok_or(StatementFault::StoreFailed)
 }
 
 /// The column as a moment; any other column is `StoreFailed`.
 pub fn moment_at(row: &Row, at: usize) -> Result<Moment, StatementFault>
     ensures { result ≡ read_or_failed (moment_in (column row.now at)) }
 {
-    whole_at(row, at)
-        .and_then(moment_of)
-        .ok_or(StatementFault::StoreFailed)
+    moment_of(whole_at(row, at)?).ok_or(StatementFault::StoreFailed)
 }
 
 /// The column as an amount, in hundredths.
 pub fn cents_at(row: &Row, at: usize) -> Result<Cents, StatementFault>
     ensures { result ≡ read_or_failed (whole_in (column row.now at)) }
 {
-    match whole_at(row, at) {
-        Some(hundredths) => Ok(Cents::new(hundredths)),
-        None => Err(StatementFault::StoreFailed),
-    }
+    Ok(Cents::new(whole_at(row, at)?))
 }
 
 /// The column as a flag, which is stored as 0 or 1.
 pub fn flag_at(row: &Row, at: usize) -> Result<bool, StatementFault>
     ensures { result ≡ read_or_failed (flag_in (column row.now at)) }
 {
-    whole_at(row, at)
-        .and_then(flag_of)
-        .ok_or(StatementFault::StoreFailed)
+    flag_of(whole_at(row, at)?).ok_or(StatementFault::StoreFailed)
 }
 
 /// The column as a bicycle's state, which is stored as 0, 1 or 2.
 pub fn state_at(row: &Row, at: usize) -> Result<BikeState, StatementFault>
     ensures { result ≡ read_or_failed (state_in (column row.now at)) }
 {
-    whole_at(row, at)
-        .and_then(state_of)
-        .ok_or(StatementFault::StoreFailed)
+    state_of(whole_at(row, at)?).ok_or(StatementFault::StoreFailed)
 }
 
 /// The column as a text; any other column is `StoreFailed`.
@@ -143,10 +132,7 @@ pub fn text_at(alloc: Global, row: &Row, at: usize) -> Result<String, StatementF
     ensures ok { IfOk result (λ text. text_in (column row.now at) ≡ Some (string_bytes text)) }
     ensures failed { result ≡ Err StoreFailed → text_in (column row.now at) ≡ None }
 {
-    match str_at(row, at) {
-        Some(text) => Ok(String::from_str(alloc, text)?),
-        None => Err(StatementFault::StoreFailed),
-    }
+    Ok(String::from_str(alloc, str_at(row, at)?)?)
 }
 
 /// The column as an identifier.
@@ -154,9 +140,7 @@ pub fn ident_at(alloc: Global, row: &Row, at: usize) -> Result<Ident, StatementF
     ensures ok { IfOk result (λ ident. ident_in (column row.now at) ≡ Some ident) }
     ensures failed { result ≡ Err StoreFailed → ident_in (column row.now at) ≡ None }
 {
-    let Some(text) = str_at(row, at) else {
-        return Err(StatementFault::StoreFailed);
-    };
+    let text = str_at(row, at)?;
     Ident::read(alloc, text)?.ok_or(StatementFault::StoreFailed)
 }
 
@@ -165,9 +149,7 @@ pub fn name_at(alloc: Global, row: &Row, at: usize) -> Result<Name, StatementFau
     ensures ok { IfOk result (λ name. name_in (column row.now at) ≡ Some name) }
     ensures failed { result ≡ Err StoreFailed → name_in (column row.now at) ≡ None }
 {
-    let Some(text) = str_at(row, at) else {
-        return Err(StatementFault::StoreFailed);
-    };
+    let text = str_at(row, at)?;
     Name::read(alloc, text)?.ok_or(StatementFault::StoreFailed)
 }
 
@@ -176,9 +158,7 @@ pub fn language_at(alloc: Global, row: &Row, at: usize) -> Result<Language, Stat
     ensures ok { IfOk result (λ language. language_in (column row.now at) ≡ Some language) }
     ensures failed { result ≡ Err StoreFailed → language_in (column row.now at) ≡ None }
 {
-    let Some(text) = str_at(row, at) else {
-        return Err(StatementFault::StoreFailed);
-    };
+    let text = str_at(row, at)?;
     Language::read(alloc, text)?.ok_or(StatementFault::StoreFailed)
 }
 

@@ -1,6 +1,6 @@
 //! What the commands on bicycles name.
 
-ghost use Rattle.std.specs.Prelude.{◌≡◌, Bool};
+ghost use Rattle.std.specs.Prelude.{◌≡◌};
 ghost use Rattle.bike_commands.specs.declared.command.Command.TheVariants as command;
 ghost use Rattle.bike_operator.specs.View.{bike_view, is_in_broken_dock, view_of};
 ghost use Rattle.bike_schema.specs.Answers.{Answers};
@@ -67,18 +67,6 @@ pub(crate) fn view_to_add_bike<S: Alter>(
         is_full,
         ..empty_view()
     })
-}
-
-/// The view for another state of a bicycle, whichever it is.
-pub(crate) fn view_to_mark_bike<S: Alter>(
-    alloc: Global,
-    conn: &mut Connection<S>,
-    bike: BicycleNumber,
-) -> Result<View, StatementFault>
-    ensures { Answers S.Store conn.old conn.new result
-        (λ s m view. (disabled : Bool) → view ≡ view_of s (command.MarkBike bike disabled)) }
-{
-    find_bike_view(alloc, conn, bike)
 }
 
 /// The view for a bicycle that is retired.

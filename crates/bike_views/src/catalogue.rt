@@ -1,9 +1,8 @@
 //! What the commands on the system, pricing plans, vehicle types and new regions name.
 
-ghost use Rattle.std.specs.Prelude.{◌≡◌};
-ghost use Rattle.bike_catalogue.specs.Rows.{SettingsRow, SystemRow};
+ghost use Rattle.std.specs.Prelude.{◌≡◌, is_some};
 ghost use Rattle.bike_commands.specs.declared.command.Command.TheVariants as command;
-ghost use Rattle.bike_operator.specs.View.{type_view, view_of};
+ghost use Rattle.bike_operator.specs.View.{empty_view, type_view, view_of};
 ghost use Rattle.bike_schema.specs.Answers.{Answers};
 
 use crate::empty::empty_view;
@@ -15,24 +14,10 @@ use bike_operator::View;
 use bike_schema::StatementFault;
 use sqlite::{Alter, Connection};
 
-/// The view for the setting of the system.
-pub(crate) fn view_to_set_system<S: Alter>(conn: &mut Connection<S>) -> Result<View, StatementFault>
+/// Whether the system is set, for its setting and for other settings.
+pub(crate) fn find_system_view<S: Alter>(conn: &mut Connection<S>) -> Result<View, StatementFault>
     ensures { Answers S.Store conn.old conn.new result
-        (λ s m view. (x : SystemRow) → view ≡ view_of s (command.SetSystem x)) }
-{
-    let has_system = has_system(conn)?;
-    Ok(View {
-        has_system,
-        ..empty_view()
-    })
-}
-
-/// The view for other settings of the system.
-pub(crate) fn view_to_change_system<S: Alter>(
-    conn: &mut Connection<S>,
-) -> Result<View, StatementFault>
-    ensures { Answers S.Store conn.old conn.new result
-        (λ s m view. (x : SettingsRow) → view ≡ view_of s (command.ChangeSystem x)) }
+        (λ s m view. view ≡ record empty_view { has_system = is_some s.system }) }
 {
     let has_system = has_system(conn)?;
     Ok(View {
@@ -58,7 +43,7 @@ pub(crate) fn view_to_add_plan<S: Alter>(
 }
 
 /// Whether a vehicle type and a plan are there.
-fn find_type_view<S: Alter>(
+pub(crate) fn find_type_view<S: Alter>(
     conn: &mut Connection<S>,
     type_id: &Ident,
     plan: &Ident,
@@ -84,18 +69,6 @@ pub(crate) fn view_to_add_type<S: Alter>(
     let is_full = are_types_full(conn)?;
     let view = find_type_view(conn, added.type_id(), added.plan_id())?;
     Ok(View { is_full, ..view })
-}
-
-/// The view for another default plan of a vehicle type.
-pub(crate) fn view_to_set_plan<S: Alter>(
-    conn: &mut Connection<S>,
-    type_id: &Ident,
-    plan: &Ident,
-) -> Result<View, StatementFault>
-    ensures { Answers S.Store conn.old conn.new result
-        (λ s m view. view ≡ view_of s (command.SetPlan type_id.now plan.now)) }
-{
-    find_type_view(conn, type_id, plan)
 }
 
 /// The view for a new region.

@@ -2,7 +2,7 @@
 
 ghost use Rattle.std.specs.Prelude.{◌≡◌, ◌||◌, ℕ, List, option_map};
 ghost use Rattle.bike_commands.specs.declared.command.Command.TheVariants as command;
-ghost use Rattle.bike_operator.specs.Names.{has_named, is_own_language, is_system};
+ghost use Rattle.bike_operator.specs.Names.{has_all_names, has_named, is_own_language, is_system};
 ghost use Rattle.bike_operator.specs.View.{name_view, view_of};
 ghost use Rattle.bike_schema.specs.Answers.{Answers};
 ghost use Rattle.bike_office_reads.specs.Accounts.{system_key};
@@ -75,6 +75,31 @@ fn is_named_there<S: Alter>(
     }
 }
 
+/// Whether there is something of this kind with this identifier, what name it has in the language, and whether it has as many
+/// as there may be.
+fn find_named<S: Alter>(
+    alloc: Global,
+    conn: &mut Connection<S>,
+    kind: NameKind,
+    id: &Ident,
+    language: &Language,
+) -> Result<View, StatementFault>
+    ensures { Answers S.Store conn.old conn.new result
+        (λ s m view. view ≡ record (name_view s kind id.now language.now) { is_full = has_all_names s kind id.now }) }
+{
+    let system = find_system_key(alloc, conn)?;
+    let has_named = is_named_there(conn, kind, id, &system)?;
+    let names = find_names(alloc, conn, kind, id)?;
+    Ok(View {
+        has_system: system.is_some(),
+        has_named,
+        has_language: has_language(&system, names.as_slice(), language),
+        is_own_language: is_own_language(&system, language),
+        is_full: names.len() >= MOST_FURTHER_NAMES as usize,
+        ..empty_view()
+    })
+}
+
 /// The view for a new name in a further language, whatever its text.
 pub(crate) fn view_to_add_name<S: Alter>(
     alloc: Global,
@@ -86,15 +111,9 @@ pub(crate) fn view_to_add_name<S: Alter>(
     ensures { Answers S.Store conn.old conn.new result
         (λ s m view. (name : List ℕ) → view ≡ view_of s (command.AddName kind id.now language.now name)) }
 {
-    let system = find_system_key(alloc, conn)?;
-    let has_named = is_named_there(conn, kind, id, &system)?;
-    let names = find_names(alloc, conn, kind, id)?;
     Ok(View {
-        has_system: system.is_some(),
-        has_named,
-        has_language: has_language(&system, names.as_slice(), language),
-        is_full: names.len() >= MOST_FURTHER_NAMES as usize,
-        ..empty_view()
+        is_own_language: false,
+        ..find_named(alloc, conn, kind, id, language)?
     })
 }
 
@@ -108,14 +127,8 @@ pub(crate) fn view_to_change_name<S: Alter>(
 ) -> Result<View, StatementFault>
     ensures { Answers S.Store conn.old conn.new result (λ s m view. view ≡ name_view s kind id.now language.now) }
 {
-    let system = find_system_key(alloc, conn)?;
-    let has_named = is_named_there(conn, kind, id, &system)?;
-    let names = find_names(alloc, conn, kind, id)?;
     Ok(View {
-        has_system: system.is_some(),
-        has_named,
-        has_language: has_language(&system, names.as_slice(), language),
-        is_own_language: is_own_language(&system, language),
-        ..empty_view()
+        is_full: false,
+        ..find_named(alloc, conn, kind, id, language)?
     })
 }

@@ -7,7 +7,6 @@ ghost use Rattle.bike_operator.specs.Operator.{item_numbered};
 ghost use Rattle.bike_operator.specs.View.{end_at as end_of_order, end_view, has_end, side_view, view_of};
 ghost use Rattle.bike_schema.specs.Answers.{Answers};
 ghost use Rattle.bike_views.specs.Open.{AnswersOpen};
-ghost use Rattle.bike_views.specs.Parts.{delivery_view, loaded_truck, names_of};
 ghost use Rattle.bike_views.specs.Sight.{IsEndRead, IsSideRead, IsSight};
 
 use crate::bikes::find_bike_view;
@@ -19,26 +18,11 @@ use bike_fleet_reads::{
     are_trucks_full, find_bike, find_order, find_truck, has_station, has_type, order_load,
     truck_load,
 };
-use bike_operator::{Order, TruckView, View};
+use bike_operator::{Order, View};
 use bike_schema::StatementFault;
 use bike_texts::{OrderEnd, Side, UnloadDock};
 use sqlite::{Alter, Connection};
 use std::alloc::Global;
-
-/// Whether what an order names is there.
-#[derive(Clone, Copy)]
-pub(crate) struct OrderNames {
-    pub(crate) has_type: bool,
-    pub(crate) has_from: bool,
-    pub(crate) has_to: bool,
-}
-
-/// A truck, and how many bicycles are on it.
-#[derive(Clone, Copy)]
-pub(crate) struct LoadedTruck {
-    pub(crate) truck: Option<TruckView>,
-    pub(crate) loaded: u32,
-}
 
 /// The view for a new truck, whatever it holds.
 pub(crate) fn view_to_add_truck<S: Alter>(
@@ -67,26 +51,6 @@ fn is_end_there<S: Alter>(conn: &mut Connection<S>, end: &OrderEnd) -> Result<bo
     }
 }
 
-/// Whether the type and the ends of an order are there.
-fn find_names<S: Alter>(
-    conn: &mut Connection<S>,
-    from_end: &OrderEnd,
-    to_end: &OrderEnd,
-    type_id: &Ident,
-) -> Result<OrderNames, StatementFault>
-    ensures { Answers S.Store conn.old conn.new result
-        (λ s m names. names ≡ names_of s from_end.now to_end.now type_id.now) }
-{
-    let has_type = has_type(conn, type_id)?;
-    let has_from = is_end_there(conn, from_end)?;
-    let has_to = is_end_there(conn, to_end)?;
-    Ok(OrderNames {
-        has_type,
-        has_from,
-        has_to,
-    })
-}
-
 /// The view for a new order, whatever its quantity, where there are so many.
 pub(crate) fn view_to_open_order<S: Alter>(
     conn: &mut Connection<S>,
@@ -100,29 +64,16 @@ pub(crate) fn view_to_open_order<S: Alter>(
         → view ≡ view_of s (command.OpenOrder truck from_end.now to_end.now type_id.now count)) }
 {
     let truck = find_truck(conn, truck)?;
-    let names = find_names(conn, from_end, to_end, type_id)?;
+    let has_type = has_type(conn, type_id)?;
+    let has_from = is_end_there(conn, from_end)?;
+    let has_to = is_end_there(conn, to_end)?;
     Ok(View {
         truck,
-        has_from: names.has_from,
-        has_to: names.has_to,
-        has_type: names.has_type,
+        has_type,
+        has_from,
+        has_to,
         orders,
         ..empty_view()
-    })
-}
-
-/// The truck and its load, over all orders.
-fn find_loaded_truck<S: Alter>(
-    conn: &mut Connection<S>,
-    truck: TruckNumber,
-) -> Result<LoadedTruck, StatementFault>
-    ensures { Answers S.Store conn.old conn.new result (λ s m found. found ≡ loaded_truck s truck) }
-{
-    let found = find_truck(conn, truck)?;
-    let loaded = truck_load(conn, truck)?;
-    Ok(LoadedTruck {
-        truck: found,
-        loaded,
     })
 }
 
@@ -152,13 +103,14 @@ pub(crate) fn view_to_load<S: Alter>(
     ensures { Answers S.Store conn.old conn.new result
         (λ s m view. view ≡ view_of s (command.Load truck order bike)) }
 {
-    let loaded = find_loaded_truck(conn, truck)?;
+    let loaded = truck_load(conn, truck)?;
+    let truck = find_truck(conn, truck)?;
     let found = find_order(alloc, conn, order)?;
     let on_truck = find_order_load(conn, order, &found)?;
     let view = find_bike_view(alloc, conn, bike)?;
     Ok(View {
-        truck: loaded.truck,
-        loaded: loaded.loaded,
+        truck,
+        loaded,
         order: found,
         on_truck,
         ..view
@@ -208,32 +160,6 @@ fn find_side_view<S: Alter>(
     }
 }
 
-/// The order, and the dock at a side of it.
-fn find_delivery<S: Alter>(
-    alloc: Global,
-    conn: &mut Connection<S>,
-    order: OrderNumber,
-    side: Side,
-    dock: u32,
-) -> Result<Sight, StatementFault>
-    ensures { Answers S.Store conn.old conn.new result (λ s m x. (x.view ≡ delivery_view s order side dock)
-        × IsSideRead s m (item_numbered order s.orders) side dock x.numbers x.mark) }
-{
-    let order = find_order(alloc, conn, order)?;
-    let seen = find_side_view(alloc, conn, &order, side, dock)?;
-    let Sight {
-        view,
-        numbers,
-        mark,
-    } = seen;
-    let view = View { order, ..view };
-    Ok(Sight {
-        view,
-        numbers,
-        mark,
-    })
-}
-
 /// The view for a bicycle that is unloaded.
 pub(crate) fn view_to_unload<S: Alter>(
     alloc: Global,
@@ -249,22 +175,12 @@ pub(crate) fn view_to_unload<S: Alter>(
 {
     let truck = find_truck(conn, truck)?;
     let bike = find_bike(alloc, conn, bike)?;
-    let seen = find_delivery(alloc, conn, order, side, dock.get())?;
-    let Sight {
-        view,
-        numbers,
-        mark,
-    } = seen;
-    let view = View {
-        truck,
-        bike,
-        ..view
-    };
-    Ok(Sight {
-        view,
-        numbers,
-        mark,
-    })
+    let order = find_order(alloc, conn, order)?;
+    let mut seen = find_side_view(alloc, conn, &order, side, dock.get())?;
+    seen.view.truck = truck;
+    seen.view.bike = bike;
+    seen.view.order = order;
+    Ok(seen)
 }
 
 /// The view for an order that is closed.

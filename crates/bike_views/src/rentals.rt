@@ -9,7 +9,7 @@ ghost use Rattle.bike_schema.specs.Answers.{Answers};
 ghost use Rattle.bike_views.specs.Known.{IsKnown};
 ghost use Rattle.bike_views.specs.Open.{AnswersOpen};
 ghost use Rattle.bike_views.specs.Sight.{IsSight};
-ghost use Rattle.bike_views.specs.Parts.{rental_bike_at, rental_bike, ridden_bike, start_view};
+ghost use Rattle.bike_views.specs.Parts.{rental_bike, rental_bike_at};
 
 use crate::docks::find_dock_view;
 use crate::empty::empty_view;
@@ -19,21 +19,12 @@ use bike_fields::{BicycleNumber, DockNumber, Ident, RentalNumber, RiderNumber};
 use bike_fixed::Cents;
 use bike_fleet_reads::find_bike;
 use bike_office_reads::{find_plan, find_rental, find_rider, is_riding};
-use bike_operator::{Bike, Place, Rental, RentalView, RiderView, View};
+use bike_operator::{Bike, Place, Rental, RentalView, View};
 use bike_schema::StatementFault;
 use sqlite::{Alter, Connection};
 use std::alloc::Global;
 
-/// What a start asks of its rider and of the ledger.
-#[derive(Clone, Copy)]
-pub(crate) struct StartView {
-    pub(crate) rider: Option<RiderView>,
-    pub(crate) is_riding: bool,
-    pub(crate) is_ledger_full: bool,
-    pub(crate) rentals: u32,
-}
-
-/// A bicycle, and the rental in which it is.
+/// A bicycle, and a rental of it.
 #[derive(Drop)]
 pub(crate) struct RentalBike {
     pub(crate) bike: Option<Bike>,
@@ -97,38 +88,6 @@ fn find_rental_of<S: Alter>(
     }
 }
 
-/// The bicycle, and the rental in which it is.
-fn find_ridden_bike<S: Alter>(
-    alloc: Global,
-    conn: &mut Connection<S>,
-    bike: BicycleNumber,
-) -> Result<RentalBike, StatementFault>
-    ensures { Answers S.Store conn.old conn.new result (λ s m ridden. ridden ≡ ridden_bike s bike) }
-{
-    let bike = find_bike(alloc, conn, bike)?;
-    let rental = find_rental_of(alloc, conn, &bike)?;
-    Ok(RentalBike { bike, rental })
-}
-
-/// The rider who starts a rental, and the numbers that are asked for it.
-fn find_start_view<S: Alter>(
-    conn: &mut Connection<S>,
-    rider: RiderNumber,
-    known: &Known,
-) -> Result<StartView, StatementFault>
-    ensures { Answers S.Store conn.old conn.new result (λ s m start. IsKnown s known.now → start ≡ start_view s rider) }
-{
-    let found = find_rider(conn, rider)?;
-    let is_riding = is_riding(conn, rider, known.newest_tells)?;
-    let is_ledger_full = is_ledger_full(conn, known.figures.entries)?;
-    Ok(StartView {
-        rider: found,
-        is_riding,
-        is_ledger_full,
-        rentals: known.figures.rentals,
-    })
-}
-
 /// The view for the start of a rental.
 pub(crate) fn view_to_start<S: Alter>(
     alloc: Global,
@@ -141,25 +100,15 @@ pub(crate) fn view_to_start<S: Alter>(
     ensures { Answers S.Store conn.old conn.new result
         (λ s m x. IsKnown s known.now → IsSight s m (command.Start rider station.now dock) x) }
 {
-    let start = find_start_view(conn, rider, known)?;
-    let seen = find_dock_view(alloc, conn, station, dock.get())?;
-    let Sight {
-        view,
-        numbers,
-        mark,
-    } = seen;
-    let view = View {
-        rider: start.rider,
-        is_riding: start.is_riding,
-        is_ledger_full: start.is_ledger_full,
-        rentals: start.rentals,
-        ..view
-    };
-    Ok(Sight {
-        view,
-        numbers,
-        mark,
-    })
+    let found = find_rider(conn, rider)?;
+    let is_riding = is_riding(conn, rider, known.newest_tells)?;
+    let is_ledger_full = is_ledger_full(conn, known.figures.entries)?;
+    let mut seen = find_dock_view(alloc, conn, station, dock.get())?;
+    seen.view.rider = found;
+    seen.view.is_riding = is_riding;
+    seen.view.is_ledger_full = is_ledger_full;
+    seen.view.rentals = known.figures.rentals;
+    Ok(seen)
 }
 
 /// The view for the end of a rental, where there are so many entries.
@@ -174,24 +123,13 @@ pub(crate) fn view_to_end<S: Alter>(
     ensures { Answers S.Store conn.old conn.new result
         (λ s m x. entries ≡ length s.entries → IsSight s m (command.End bike station.now dock) x) }
 {
-    let ridden = find_ridden_bike(alloc, conn, bike)?;
-    let seen = find_dock_view(alloc, conn, station, dock.get())?;
-    let Sight {
-        view,
-        numbers,
-        mark,
-    } = seen;
-    let view = View {
-        bike: ridden.bike,
-        rental: ridden.rental,
-        entries,
-        ..view
-    };
-    Ok(Sight {
-        view,
-        numbers,
-        mark,
-    })
+    let bike = find_bike(alloc, conn, bike)?;
+    let rental = find_rental_of(alloc, conn, &bike)?;
+    let mut seen = find_dock_view(alloc, conn, station, dock.get())?;
+    seen.view.bike = bike;
+    seen.view.rental = rental;
+    seen.view.entries = entries;
+    Ok(seen)
 }
 
 /// The bicycle of the rental, and the rental with its plan.

@@ -4,11 +4,11 @@ ghost use Rattle.bike_schema.specs.Answers.{Answers};
 ghost use Rattle.bike_views.specs.Known.{IsKnown};
 ghost use Rattle.bike_views.specs.Sight.{IsSight};
 
-use crate::bikes::{view_to_add_bike, view_to_mark_bike, view_to_retire_bike};
+use crate::bikes::{find_bike_view, view_to_add_bike, view_to_retire_bike};
 use crate::catalogue::{
-    view_to_add_plan, view_to_add_region, view_to_add_type, view_to_change_system,
-    view_to_set_plan, view_to_set_system,
+    find_system_view, find_type_view, view_to_add_plan, view_to_add_region, view_to_add_type,
 };
+use crate::docks::find_dock_view;
 use crate::figures::Known;
 use crate::names::{view_to_add_name, view_to_change_name};
 use crate::orders::{
@@ -17,10 +17,7 @@ use crate::orders::{
 use crate::rentals::{view_to_end, view_to_recover, view_to_refund, view_to_start};
 use crate::riders::{view_to_add_rider, view_to_set_rider, view_to_top_up};
 use crate::sight::{Sight, without_dock};
-use crate::stations::{
-    view_to_add_docks, view_to_add_station, view_to_mark_dock, view_to_move_station,
-    view_to_set_region, view_to_set_station,
-};
+use crate::stations::{find_station_view, view_to_add_station, view_to_set_region};
 use bike_commands::Command;
 use bike_schema::StatementFault;
 use sqlite::{Alter, Connection};
@@ -43,17 +40,17 @@ pub fn find_view<S: Alter>(
 {
     let figures = &known.figures;
     match command {
-        Command::SetSystem(_) => without_dock(view_to_set_system(conn)),
+        Command::SetSystem(_) => without_dock(find_system_view(conn)),
         Command::AddPlan(plan) => without_dock(view_to_add_plan(conn, plan)),
         Command::AddType(added) => without_dock(view_to_add_type(conn, added)),
-        Command::SetPlan { type_id, plan } => without_dock(view_to_set_plan(conn, type_id, plan)),
+        Command::SetPlan { type_id, plan } => without_dock(find_type_view(conn, type_id, plan)),
         Command::AddStation(added) => without_dock(view_to_add_station(conn, added)),
-        Command::SetStation { station, .. } => without_dock(view_to_set_station(conn, station)),
-        Command::MarkDock { station, dock, .. } => view_to_mark_dock(alloc, conn, station, *dock),
+        Command::SetStation { station, .. } => without_dock(find_station_view(conn, station)),
+        Command::MarkDock { station, dock, .. } => find_dock_view(alloc, conn, station, dock.get()),
         Command::AddBike { bike, type_id } => without_dock(view_to_add_bike(
             alloc, conn, *bike, type_id,
         )),
-        Command::MarkBike { bike, .. } => without_dock(view_to_mark_bike(alloc, conn, *bike)),
+        Command::MarkBike { bike, .. } => without_dock(find_bike_view(alloc, conn, *bike)),
         Command::RetireBike { bike } => without_dock(view_to_retire_bike(alloc, conn, *bike)),
         Command::AddTruck { truck, .. } => without_dock(view_to_add_truck(conn, *truck)),
         Command::AddRider { rider } => without_dock(view_to_add_rider(conn, *rider)),
@@ -125,8 +122,8 @@ pub fn find_view<S: Alter>(
         Command::RemoveName { kind, id, language } => without_dock(view_to_change_name(
             alloc, conn, *kind, id, language,
         )),
-        Command::ChangeSystem(_) => without_dock(view_to_change_system(conn)),
-        Command::MoveStation { station, .. } => without_dock(view_to_move_station(conn, station)),
-        Command::AddDocks { station, .. } => without_dock(view_to_add_docks(conn, station)),
+        Command::ChangeSystem(_) => without_dock(find_system_view(conn)),
+        Command::MoveStation { station, .. } => without_dock(find_station_view(conn, station)),
+        Command::AddDocks { station, .. } => without_dock(find_station_view(conn, station)),
     }
 }

@@ -3,10 +3,8 @@ use Rattle.std.proofs.Common.{List, ℕ, pos, [], ◌∷◌, codes, refl}
 use Rattle.std.specs.Borrow.{Bor}
 use Rattle.sqlite_value.specs.declared.value.Value.TheVariants.{Int, Text}
 use Rattle.bike_catalogue.specs.Rows.{SegmentRow, PlanRow, TypeRow, RegionRow, SettingsRow, SystemRow}
-use Rattle.bike_catalogue.specs.declared.name_kind.NameKind.{NameKind}
-use Rattle.bike_operator.specs.Operator.{name_key}
-use Rattle.bike_book.specs.Tables.{System, Plans, Segments, Types, Regions, MoreNames}
-use Rattle.bike_book.specs.Rows.{number_value, system_row, plan_row, segment_row, type_row, region_row, name_row}
+use Rattle.bike_book.specs.Tables.{System, Plans, Segments, Types, Regions}
+use Rattle.bike_book.specs.Rows.{number_value, system_row, plan_row, segment_row, type_row, region_row}
 use Rattle.bike_writes.proofs.TextLemmas.{Makes, number_suits}
 use Rattle.sqlite_tied.specs.Compute.{everything}
 use Rattle.bike_rows.proofs.WriteLaws.{row_put, row_updated}
@@ -42,7 +40,3 @@ sets_default_plan type_id plan = sets_columns Types _ _ (row_updated (table_key 
 pub adds_region : (r : Bor RegionRow) → Makes (codes "INSERT INTO regions VALUES (?1, ?2)") (region_row r.now.region_id r.now) (row.AddRegion r)
 unfolding everything
 adds_region r = adds_row Regions (row_put (table_key Regions) (λ s tree. (refl, refl, refl, λ base. refl)) refl refl (λ rows. refl))
-
-pub adds_name : (kind : NameKind) (id language name : Bor (List ℕ)) → Makes (codes "INSERT INTO more_names VALUES (?1, ?2, ?3, ?4)") (name_row (name_key kind id.now language.now) name.now) (row.AddName kind id language name)
-unfolding everything
-adds_name kind id language name = adds_row MoreNames (row_put (table_key MoreNames) (λ s tree. (refl, refl, refl, λ base. refl)) refl refl (λ rows. refl))

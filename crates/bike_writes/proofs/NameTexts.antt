@@ -1,17 +1,19 @@
--- The statements on names that are there.
+-- The statements on names.
 use Rattle.std.proofs.Common.{List, ℕ, pos, [], ◌∷◌, codes, refl}
 use Rattle.std.specs.Borrow.{Bor}
 use Rattle.sqlite_value.specs.declared.value.Value.TheVariants.{Int, Text}
 use Rattle.bike_catalogue.specs.NameKinds.{kind_text}
 use Rattle.bike_catalogue.specs.declared.name_kind.NameKind.{NameKind}
 use Rattle.bike_catalogue.specs.declared.name_kind.NameKind.TheVariants as named
+use Rattle.bike_operator.specs.Operator.{name_key}
 use Rattle.bike_book.specs.Tables.{System, Plans, Types, Regions, Stations, MoreNames}
+use Rattle.bike_book.specs.Rows.{name_row}
 use Rattle.bike_writes.proofs.TextLemmas.{Makes}
 use Rattle.sqlite_tied.specs.Compute.{everything}
-use Rattle.bike_rows.proofs.WriteLaws.{row_updated, row_removed}
+use Rattle.bike_rows.proofs.WriteLaws.{row_put, row_updated, row_removed}
 use Rattle.bike_book.specs.declared.row_change.RowChange.TheVariants as row
 use Rattle.bike_schema.proofs.KeyLemmas.{table_key}
-use Rattle.bike_schema.proofs.MakesLemmas.{sets_columns, removes_row}
+use Rattle.bike_schema.proofs.MakesLemmas.{adds_row, sets_columns, removes_row}
 
 pub sets_system_name : (id name : Bor (List ℕ)) → Makes (codes "UPDATE system SET name = ?2 WHERE one = ?1") (Int (pos 1) ∷ Text name.now ∷ []) (row.SetOwnName named.System id name)
 unfolding everything
@@ -36,6 +38,10 @@ sets_plan_description id name = sets_columns Plans _ _ (row_updated (table_key P
 pub sets_region_name : (id name : Bor (List ℕ)) → Makes (codes "UPDATE regions SET name = ?2 WHERE region_id = ?1") (Text id.now ∷ Text name.now ∷ []) (row.SetOwnName named.Region id name)
 unfolding everything
 sets_region_name id name = sets_columns Regions _ _ (row_updated (table_key Regions) 0 ((1, 1) ∷ []) _ (λ tree. (refl, refl, refl), refl) refl refl refl (λ r. refl) (λ r. refl))
+
+pub adds_name : (kind : NameKind) (id language name : Bor (List ℕ)) → Makes (codes "INSERT INTO more_names VALUES (?1, ?2, ?3, ?4)") (name_row (name_key kind id.now language.now) name.now) (row.AddName kind id language name)
+unfolding everything
+adds_name kind id language name = adds_row MoreNames (row_put (table_key MoreNames) (λ s tree. (refl, refl, refl, λ base. refl)) refl refl (λ rows. refl))
 
 pub sets_further_name : (kind : NameKind) (id language name : Bor (List ℕ)) → Makes (codes "UPDATE more_names SET name = ?4 WHERE kind = ?1 AND id = ?2 AND language = ?3")
     (Text (kind_text kind) ∷ Text id.now ∷ Text language.now ∷ Text name.now ∷ []) (row.SetFurtherName kind id language name)

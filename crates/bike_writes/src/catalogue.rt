@@ -1,11 +1,11 @@
-//! The statements on `system`, `plans`, `segments`, `types`, `regions` and `more_names`.
+//! The statements on `system`, `plans`, `segments`, `types` and `regions`.
 
 ghost use Rattle.bike_book.specs.declared.row_change.RowChange.TheVariants as row;
 ghost use Rattle.bike_book.specs.Writes.{write_of};
 ghost use Rattle.bike_schema.specs.Calls.{Writes};
 
-use bike_catalogue::{NameKind, Plan, Region, Segment, Settings, System, VehicleType};
-use bike_fields::{Ident, Language, Name};
+use bike_catalogue::{Plan, Region, Segment, Settings, System, VehicleType};
+use bike_fields::Ident;
 use bike_rows::write::run;
 use bike_schema::{Staged, StatementFault};
 use sqlite::{Alter, params};
@@ -144,23 +144,5 @@ pub(crate) fn add_region<S: Alter>(
         tx,
         "INSERT INTO regions VALUES (?1, ?2)",
         params![region.region_id().as_str(), region.name().as_str()],
-    )
-}
-
-/// Adds a name in a further language.
-pub(crate) fn add_name<S: Alter>(
-    tx: &mut Staged<'_, S>,
-    kind: NameKind,
-    id: &Ident,
-    language: &Language,
-    name: &Name,
-) -> Result<(), StatementFault>
-    ensures { Writes S.Store tx.old.conn tx.new.conn result
-        (write_of (row.AddName kind id.entry language.entry name.entry)) }
-{
-    run(
-        tx,
-        "INSERT INTO more_names VALUES (?1, ?2, ?3, ?4)",
-        params![kind.as_str(), id.as_str(), language.as_str(), name.as_str()],
     )
 }

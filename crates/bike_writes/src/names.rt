@@ -1,4 +1,4 @@
-//! The statements on names that are there: in the own row of what has one, and in `more_names`.
+//! The statements on names: in the own row of what has one, and in `more_names`.
 
 ghost use Rattle.bike_book.specs.declared.row_change.RowChange.TheVariants as row;
 ghost use Rattle.bike_book.specs.Writes.{write_of};
@@ -20,38 +20,36 @@ pub(crate) fn set_own_name<S: Alter>(
     ensures { Writes S.Store tx.old.conn tx.new.conn result (write_of (row.SetOwnName kind id.entry name.entry)) }
 {
     let (id, name) = (id.as_str(), name.as_str());
-    match kind {
-        NameKind::System => run(
-            tx,
-            "UPDATE system SET name = ?2 WHERE one = ?1",
-            params![1_i64, name],
-        ),
-        NameKind::Station => run(
-            tx,
-            "UPDATE stations_3 SET name = ?2 WHERE station_id = ?1",
-            params![id, name],
-        ),
-        NameKind::Type => run(
-            tx,
-            "UPDATE types SET name = ?2 WHERE type_id = ?1",
-            params![id, name],
-        ),
-        NameKind::Plan => run(
-            tx,
-            "UPDATE plans SET name = ?2 WHERE plan_id = ?1",
-            params![id, name],
-        ),
-        NameKind::Description => run(
-            tx,
-            "UPDATE plans SET description = ?2 WHERE plan_id = ?1",
-            params![id, name],
-        ),
-        NameKind::Region => run(
-            tx,
-            "UPDATE regions SET name = ?2 WHERE region_id = ?1",
-            params![id, name],
-        ),
-    }
+    let sql = match kind {
+        NameKind::System => {
+            let sql = "UPDATE system SET name = ?2 WHERE one = ?1";
+            return run(tx, sql, params![1_i64, name]);
+        }
+        NameKind::Station => "UPDATE stations_3 SET name = ?2 WHERE station_id = ?1",
+        NameKind::Type => "UPDATE types SET name = ?2 WHERE type_id = ?1",
+        NameKind::Plan => "UPDATE plans SET name = ?2 WHERE plan_id = ?1",
+        NameKind::Description => "UPDATE plans SET description = ?2 WHERE plan_id = ?1",
+        NameKind::Region => "UPDATE regions SET name = ?2 WHERE region_id = ?1",
+    };
+    run(tx, sql, params![id, name])
+}
+
+/// Adds a name in a further language.
+pub(crate) fn add_name<S: Alter>(
+    tx: &mut Staged<'_, S>,
+    kind: NameKind,
+    id: &Ident,
+    language: &Language,
+    name: &Name,
+) -> Result<(), StatementFault>
+    ensures { Writes S.Store tx.old.conn tx.new.conn result
+        (write_of (row.AddName kind id.entry language.entry name.entry)) }
+{
+    run(
+        tx,
+        "INSERT INTO more_names VALUES (?1, ?2, ?3, ?4)",
+        params![kind.as_str(), id.as_str(), language.as_str(), name.as_str()],
+    )
 }
 
 /// Sets a name in a further language.

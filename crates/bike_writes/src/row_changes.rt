@@ -4,12 +4,11 @@ ghost use Rattle.bike_book.specs.Writes.{write_of};
 ghost use Rattle.bike_schema.specs.Calls.{Writes};
 
 use crate::catalogue::{
-    add_name, add_plan, add_region, add_segment, add_system, add_type, set_default_plan,
-    set_settings,
+    add_plan, add_region, add_segment, add_system, add_type, set_default_plan, set_settings,
 };
 use crate::fleet::{add_bike, add_truck, set_bike};
 use crate::ledger::{add_entry, add_kept, set_meta};
-use crate::names::{remove_name, set_further_name, set_own_name};
+use crate::names::{add_name, remove_name, set_further_name, set_own_name};
 use crate::orders::{add_order, set_order};
 use crate::rentals::{add_rental, close_rental, set_refunded};
 use crate::riders::{add_rider, set_balance, set_blocked};

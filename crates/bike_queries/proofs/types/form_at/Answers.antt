@@ -4,4 +4,4 @@ use Rattle.bike_queries.proofs.NextLemmas.{named_read}
 use Rattle.bike_queries.proofs.types.form_at.Goals as goal
 
 pub returns : goal.returns
-returns c = named_read form_of form_text form_full _ _ _ _ c.ok_or.result c.in_ok-text.ensures c.read.ensures c.ok_or.ensures.value
+returns c = named_read form_of form_text form_full _ _ _ _ c.ok_or.result c.in_ok-text.ensures.ok c.read.ensures c.ok_or.ensures.value

@@ -2,9 +2,10 @@ use Rattle.std.proofs.Common.{◌≡◌, ℕ, false, Result, Ok, Err, [], refl, 
 use Rattle.sqlite_trees.specs.declared.store.Store.{Ghosts}
 use Rattle.sqlite.specs.Held.{Held}
 use Rattle.bike_commands.specs.declared.command.Command.{Command}
+use Rattle.bike_commands.specs.declared.command.Command.TheVariants.{MarkDock}
 use Rattle.bike_operator.specs.declared.view.View.{View}
 use Rattle.bike_operator.specs.Operator.{Operator}
-use Rattle.bike_operator.specs.View.{view_of}
+use Rattle.bike_operator.specs.View.{dock_view, view_of}
 use Rattle.bike_book.specs.Stored.{Listed}
 use Rattle.bike_rows.proofs.ChainLaws.{reads_as, reads_failed}
 use Rattle.bike_schema.specs.declared.fault.StatementFault.{StatementFault}
@@ -15,7 +16,7 @@ use Rattle.bike_booking.specs.Figures.{figures_of}
 use Rattle.bike_views.specs.declared.figures.Known.{Known}
 use Rattle.bike_views.specs.declared.sight.Sight.{Sight}
 use Rattle.bike_views.specs.Known.{IsKnown}
-use Rattle.bike_views.specs.Sight.{IsPlain, IsRead, IsSight}
+use Rattle.bike_views.specs.Sight.{IsDockRead, IsPlain, IsRead, IsSight}
 use Rattle.bike_views.proofs.view.find_view.Goals as goal
 
 -- the view for a command is that for the command matched, whatever is known
@@ -43,7 +44,7 @@ sight_for : {s : Operator} {m : Listed} {c d : Command} {x : Sight} → IsSight 
 sight_for {s = s} {m = m} {x = x} it is = subst (λ e. IsSight s m e x) (sym is) it
 
 pub returns-in-SetSystem : goal.returns-in-SetSystem
-returns-in-SetSystem g c = seen_plain (view_for (reads_weaker c.view_to_set_system.ensures (λ db x it s h. it s h c.in-SetSystem.field-0)) c.in-SetSystem.is) c.without_dock.ensures c.in-SetSystem.is (λ s m x. tt)
+returns-in-SetSystem g c = seen_plain (view_for c.find_system_view.ensures c.in-SetSystem.is) c.without_dock.ensures c.in-SetSystem.is (λ s m x. tt)
 
 pub returns-in-AddPlan : goal.returns-in-AddPlan
 returns-in-AddPlan g c = seen_plain (view_for c.view_to_add_plan.ensures c.in-AddPlan.is) c.without_dock-in-AddPlan.ensures c.in-AddPlan.is (λ s m x. tt)
@@ -52,22 +53,28 @@ pub returns-in-AddType : goal.returns-in-AddType
 returns-in-AddType g c = seen_plain (view_for c.view_to_add_type.ensures c.in-AddType.is) c.without_dock-in-AddType.ensures c.in-AddType.is (λ s m x. tt)
 
 pub returns-in-SetPlan : goal.returns-in-SetPlan
-returns-in-SetPlan g c = seen_plain (view_for c.view_to_set_plan.ensures c.in-SetPlan.is) c.without_dock-in-SetPlan.ensures c.in-SetPlan.is (λ s m x. tt)
+returns-in-SetPlan g c = seen_plain (view_for c.find_type_view.ensures c.in-SetPlan.is) c.without_dock-in-SetPlan.ensures c.in-SetPlan.is (λ s m x. tt)
 
 pub returns-in-AddStation : goal.returns-in-AddStation
 returns-in-AddStation g c = seen_plain (view_for c.view_to_add_station.ensures c.in-AddStation.is) c.without_dock-in-AddStation.ensures c.in-AddStation.is (λ s m x. tt)
 
 pub returns-in-SetStation : goal.returns-in-SetStation
-returns-in-SetStation g c = seen_plain (view_for (reads_weaker c.view_to_set_station.ensures (λ db x it s h. it s h false false false)) c.in-SetStation.is) c.without_dock-in-SetStation.ensures c.in-SetStation.is (λ s m x. tt)
+returns-in-SetStation g c = seen_plain (view_for c.find_station_view.ensures c.in-SetStation.is) c.without_dock-in-SetStation.ensures c.in-SetStation.is (λ s m x. tt)
 
 pub returns-in-MarkDock : goal.returns-in-MarkDock
-returns-in-MarkDock g c = reads_weaker c.view_to_mark_dock.ensures (λ db x it s h known. sight_for (it s h c.in-MarkDock.broken) c.in-MarkDock.is)
+returns-in-MarkDock g c = reads_weaker c.find_dock_view.ensures (λ db x it s h known.
+    let station = c.in-MarkDock.station in
+    let seen : IsSight s h.listed (MarkDock station c.in-MarkDock.dock c.in-MarkDock.broken) x = record {
+      view_is = (it s h).0 ∙ ap (dock_view s station) c.get.ensures.value;
+      read = subst (λ d. IsDockRead s h.listed station d x.numbers x.mark) c.get.ensures.value (it s h).1;
+    } in
+    sight_for seen c.in-MarkDock.is)
 
 pub returns-in-AddBike : goal.returns-in-AddBike
 returns-in-AddBike g c = seen_plain (view_for c.view_to_add_bike.ensures c.in-AddBike.is) c.without_dock-in-AddBike.ensures c.in-AddBike.is (λ s m x. tt)
 
 pub returns-in-MarkBike : goal.returns-in-MarkBike
-returns-in-MarkBike g c = seen_plain (view_for (reads_weaker c.view_to_mark_bike.ensures (λ db x it s h. it s h false)) c.in-MarkBike.is) c.without_dock-in-MarkBike.ensures c.in-MarkBike.is (λ s m x. tt)
+returns-in-MarkBike g c = seen_plain (view_for c.find_bike_view.ensures c.in-MarkBike.is) c.without_dock-in-MarkBike.ensures c.in-MarkBike.is (λ s m x. tt)
 
 pub returns-in-RetireBike : goal.returns-in-RetireBike
 returns-in-RetireBike g c = seen_plain (view_for c.view_to_retire_bike.ensures c.in-RetireBike.is) c.without_dock-in-RetireBike.ensures c.in-RetireBike.is (λ s m x. tt)
@@ -124,10 +131,10 @@ pub returns-in-RemoveName : goal.returns-in-RemoveName
 returns-in-RemoveName g c = seen_plain (view_for c.view_to_change_name-in-RemoveName.ensures c.in-RemoveName.is) c.without_dock-in-RemoveName.ensures c.in-RemoveName.is (λ s m x. tt)
 
 pub returns-in-ChangeSystem : goal.returns-in-ChangeSystem
-returns-in-ChangeSystem g c = seen_plain (view_for (reads_weaker c.view_to_change_system.ensures (λ db x it s h. it s h c.in-ChangeSystem.field-0)) c.in-ChangeSystem.is) c.without_dock-in-ChangeSystem.ensures c.in-ChangeSystem.is (λ s m x. tt)
+returns-in-ChangeSystem g c = seen_plain (view_for c.find_system_view-in-ChangeSystem.ensures c.in-ChangeSystem.is) c.without_dock-in-ChangeSystem.ensures c.in-ChangeSystem.is (λ s m x. tt)
 
 pub returns-in-MoveStation : goal.returns-in-MoveStation
-returns-in-MoveStation g c = seen_plain (view_for (reads_weaker c.view_to_move_station.ensures (λ db x it s h. it s h c.in-MoveStation.position)) c.in-MoveStation.is) c.without_dock-in-MoveStation.ensures c.in-MoveStation.is (λ s m x. tt)
+returns-in-MoveStation g c = seen_plain (view_for c.find_station_view-in-MoveStation.ensures c.in-MoveStation.is) c.without_dock-in-MoveStation.ensures c.in-MoveStation.is (λ s m x. tt)
 
 pub returns-in-AddDocks : goal.returns-in-AddDocks
-returns-in-AddDocks g c = seen_plain (view_for (reads_weaker c.view_to_add_docks.ensures (λ db x it s h. it s h c.in-AddDocks.count)) c.in-AddDocks.is) c.without_dock-in-AddDocks.ensures c.in-AddDocks.is (λ s m x. tt)
+returns-in-AddDocks g c = seen_plain (view_for c.find_station_view-in-AddDocks.ensures c.in-AddDocks.is) c.without_dock-in-AddDocks.ensures c.in-AddDocks.is (λ s m x. tt)

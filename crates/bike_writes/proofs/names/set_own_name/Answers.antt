@@ -1,22 +1,24 @@
+use Rattle.std.proofs.Common.{[], ◌∷◌}
+use Rattle.sqlite_value.specs.declared.value.Value.TheVariants.{Text}
+use Rattle.bike_book.specs.declared.row_change.RowChange.TheVariants as row
 use Rattle.bike_schema.proofs.MakesLemmas.{writes_told}
-use Rattle.bike_writes.proofs.TextLemmas.{bindings}
+use Rattle.bike_writes.proofs.TextLemmas.{Makes, bindings}
 use Rattle.bike_writes.proofs.NameTexts.{sets_system_name, sets_station_name, sets_type_name, sets_plan_name, sets_plan_description, sets_region_name}
 use Rattle.bike_writes.proofs.names.set_own_name.Goals as goal
+use Rattle.bike_writes.proofs.names.set_own_name.Goals.{in-Station, in-Type, in-Plan, in-Description, in-Region}
 
 pub returns-in-System : goal.returns-in-System
 returns-in-System g c = rw c.in-System.is (writes_told (sets_system_name c.args.id c.args.name) c.run.ensures (search bindings))
 
-pub returns-in-Station : goal.returns-in-Station
-returns-in-Station g c = rw c.in-Station.is (writes_told (sets_station_name c.args.id c.args.name) c.run-in-Station.ensures (search bindings))
-
-pub returns-in-Type : goal.returns-in-Type
-returns-in-Type g c = rw c.in-Type.is (writes_told (sets_type_name c.args.id c.args.name) c.run-in-Type.ensures (search bindings))
-
-pub returns-in-Plan : goal.returns-in-Plan
-returns-in-Plan g c = rw c.in-Plan.is (writes_told (sets_plan_name c.args.id c.args.name) c.run-in-Plan.ensures (search bindings))
-
-pub returns-in-Description : goal.returns-in-Description
-returns-in-Description g c = rw c.in-Description.is (writes_told (sets_plan_description c.args.id c.args.name) c.run-in-Description.ensures (search bindings))
-
-pub returns-in-Region : goal.returns-in-Region
-returns-in-Region g c = rw c.in-Region.is (writes_told (sets_region_name c.args.id c.args.name) c.run-in-Region.ensures (search bindings))
+pub returns : goal.returns
+returns g c =
+    let id = c.args.id in
+    let name = c.args.name in
+    let makes : Makes c.match-kind.sql.now (Text id.now ∷ Text name.now ∷ []) (row.SetOwnName c.args.kind id name) = elim c.match-kind.branch [
+      | in-Station w ↦ rw (w.in-Station.is, w.sql-is) (sets_station_name id name)
+      | in-Type w ↦ rw (w.in-Type.is, w.sql-is) (sets_type_name id name)
+      | in-Plan w ↦ rw (w.in-Plan.is, w.sql-is) (sets_plan_name id name)
+      | in-Description w ↦ rw (w.in-Description.is, w.sql-is) (sets_plan_description id name)
+      | in-Region w ↦ rw (w.in-Region.is, w.sql-is) (sets_region_name id name)
+    ] in
+    writes_told makes c.run-2.ensures (search bindings)

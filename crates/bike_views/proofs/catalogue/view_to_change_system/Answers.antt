@@ -1,5 +1,0 @@
-use Rattle.bike_rows.proofs.ChainLaws.{reads_as}
-use Rattle.bike_views.proofs.catalogue.view_to_change_system.Goals as goal
-
-pub returns : goal.returns
-returns g c = reads_as c.in_ok-has_system.ensures (λ db it s h x. λ i. record (c.empty_view.ensures i) { has_system = it s h i })
