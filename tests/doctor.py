@@ -30,7 +30,7 @@ from pathlib import Path
 from package import sections_of
 from shared import (
     CITY, FEEDS, FOREIGN, HEADER, READ_FAILED, READY, SOUND, STORE_FAILED, TOP, Program, Server, accepted, changed,
-    held, killed, line_of, loaded, needs, office, put, ran, removed, requests_of, rows_of, taken,
+    free_port, held, killed, line_of, loaded, needs, office, put, ran, removed, requests_of, rows_of, taken,
 )
 
 SCRIPT = TOP / "deploy/bikeshare-doctor"
@@ -1191,11 +1191,6 @@ def served(feeds):
             yield here
         finally:
             server.shutdown()
-
-
-def free_port():
-    with socket.create_server(("127.0.0.1", 0)) as taken_now:
-        return taken_now.getsockname()[1]
 
 
 def feeds_of_city(program):

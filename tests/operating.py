@@ -24,8 +24,8 @@ from pathlib import Path
 
 from serving import ended
 from shared import (
-    CITY, FEEDS, READY, STORE_FAILED, TOP, Server, body_of, city, get, is_sound, needs, office, put, ran, removed,
-    rows_of, taken,
+    CITY, FEEDS, READY, STORE_FAILED, TOP, Server, body_of, city, free_port, get, is_sound, needs, office, put, ran,
+    removed, rows_of, taken,
 )
 
 DEPLOY = TOP / "deploy"
@@ -403,12 +403,6 @@ TOKENS = {
     "rider:17": "17" * 16, "rider:1": "01" * 16, "dock:a1": "a1" * 16, "crew:3": "c3" * 16, "office:anna": "0f" * 16,
 }
 UNAUTHORIZED, FORBIDDEN = (401, "unauthorized"), (403, "forbidden")
-
-
-def free_port():
-    """A port of 127.0.0.1 at which nobody listens."""
-    with socket.create_server(("127.0.0.1", 0)) as found:
-        return found.getsockname()[1]
 
 
 def configuration(port, cities, ttl):

@@ -17,8 +17,8 @@ from datetime import datetime, timezone
 
 from shared import (
     BAD_FIELD, CITY, DONE, FEEDS, FOREIGN, MOMENT, READY, READ_FAILED, SECONDS, START, STARTED, STORE_FAILED, Server,
-    answer, ask, city, error, feed, get, get_feed, holds, is_sound, line_of, office, post, refused, reset, rest,
-    tells_mistake, timeless,
+    answer, ask, city, error, feed, free_port, get, get_feed, holds, is_sound, line_of, office, post, refused, reset,
+    rest, tells_mistake, timeless,
 )
 
 NOT_RIDING = answer(200, '{"rider":17,"state":"open","balance_cents":2500,"rental":0}')
@@ -715,9 +715,7 @@ def test_what_is_refused_changes_nothing(program):
 
 def test_a_port_of_choice(program):
     city(program)
-    with socket.socket() as free:
-        free.bind(("127.0.0.1", 0))
-        port = free.getsockname()[1]
+    port = free_port()
     with program.started("serve", "city.db", "--port", str(port), "--count", "1") as child:
         assert child.stdout.readline() == f"listening 127.0.0.1:{port}\n".encode()
         with socket.create_connection(("127.0.0.1", port), timeout=SECONDS) as client:

@@ -14,6 +14,7 @@ import importlib.util
 import itertools
 import json
 import os
+import random
 import re
 import select
 import shutil
@@ -330,6 +331,16 @@ def line_of(child, seconds=SECONDS):
             break
         line += piece
     return line
+
+
+def free_port():
+    """A port of 127.0.0.1 at which nobody listens, and which the system gives nobody who asks for any: other tests run
+    meanwhile."""
+    lowest = int(Path("/proc/sys/net/ipv4/ip_local_port_range").read_text(encoding="ascii").split()[0])
+    while True:
+        with contextlib.suppress(OSError):
+            with socket.create_server(("127.0.0.1", random.randrange(lowest // 2, lowest))) as found:
+                return found.getsockname()[1]
 
 
 class Server:
