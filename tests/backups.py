@@ -31,8 +31,8 @@ from pathlib import Path
 
 from operating import DEPLOY, Sender, keys_in, top_ups
 from shared import (
-    CITY, EIO, ENOSPC, FAULTS, JOBS, Program, Server, at_once, can_mount, copied, disk, environment, is_sound, is_whole,
-    nothing_is, office, put, quickly, taken, tell, told_with,
+    CITY, EIO, ENOSPC, FAULTS, JOBS, Program, Server, accepted, at_once, can_mount, copied, disk, environment, is_sound,
+    is_whole, nothing_is, office, put, quickly, taken, tell, told_with,
 )
 
 STRIDE = int(os.environ.get("BIKESHARE_BACKUPS", "0"))
@@ -449,6 +449,19 @@ def test_a_log_that_was_removed(program):
         (log,) = (it for it in Path(f"/proc/{server.child.pid}/fd").iterdir() if "city.db-wal" in os.readlink(it))
         put({"": (here / "city.db").read_bytes(), "-wal": log.read_bytes()}, here, "by_hand.db")
     assert keys_in(here / "by_hand.db") == [1]
+
+
+def test_a_file_that_was_put_over_the_served_one(program):
+    """What stands at FILE is another city than the one that is served, which nobody would have a copy of."""
+    here = Path(program.folder)
+    with Server(program, seconds=SECONDS) as server:
+        made_over(server)
+        accepted(program, CITY, file="other.db", key="f")
+        os.replace(here / "other.db", here / "city.db")
+        status, said = copying(program, "city.db", "copy.db")
+        line = rf"backup: process {server.child.pid} serves what stood at \S+/city.db before, not what stands .*\n"
+        assert status == 1 and re.fullmatch(line, said), said
+        assert not (here / "copy.db").exists() and top_ups(server, [1]) == [1]
 
 
 def heeds_signals():
