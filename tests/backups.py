@@ -32,7 +32,7 @@ from pathlib import Path
 from operating import DEPLOY, Sender, keys_in, top_ups
 from shared import (
     CITY, EIO, ENOSPC, FAULTS, JOBS, Program, Server, accepted, at_once, can_mount, copied, disk, environment, is_sound,
-    is_whole, nothing_is, office, put, quickly, taken, tell, told_with,
+    is_whole, nothing_is, office, put, quickly, removed, taken, tell, told_with,
 )
 
 STRIDE = int(os.environ.get("BIKESHARE_BACKUPS", "0"))
@@ -451,17 +451,59 @@ def test_a_log_that_was_removed(program):
     assert keys_in(here / "by_hand.db") == [1]
 
 
-def test_a_file_that_was_put_over_the_served_one(program):
-    """What stands at FILE is another city than the one that is served, which nobody would have a copy of."""
+def moved_away(here):
+    for part in "", "-wal":
+        (here / f"city.db{part}").rename(here / f"moved.db{part}")
+
+
+def test_a_file_that_is_not_the_served_one(program):
+    """What stands at FILE is another city than the one that is served: it was put over that, or that was moved away, or
+    a link leads elsewhere now. Nobody would have a copy of what is served."""
     here = Path(program.folder)
-    with Server(program, seconds=SECONDS) as server:
-        made_over(server)
-        accepted(program, CITY, file="other.db", key="f")
-        os.replace(here / "other.db", here / "city.db")
-        status, said = copying(program, "city.db", "copy.db")
-        line = rf"backup: process {server.child.pid} serves what stood at \S+/city.db before, not what stands .*\n"
-        assert status == 1 and re.fullmatch(line, said), said
-        assert not (here / "copy.db").exists() and top_ups(server, [1]) == [1]
+    accepted(program, CITY, file="other.db", key="f")
+    for name, exchange in (
+        ("city.db", lambda: os.replace(here / "new.db", here / "city.db")),
+        ("city.db", lambda: (moved_away(here), (here / "new.db").rename(here / "city.db"))),
+        ("link.db", lambda: ((here / "link.db").unlink(), (here / "link.db").symlink_to("new.db"))),
+    ):
+        removed(here, "city.db")
+        assert program.run("init", "city.db")[0] == 0
+        (here / "link.db").unlink(missing_ok=True)
+        (here / "link.db").symlink_to("city.db")
+        shutil.copy(here / "other.db", here / "new.db")
+        with Server(program, file=name, seconds=SECONDS) as server:
+            made_over(server)
+            exchange()
+            status, said = copying(program, name, "copy.db")
+            line = rf"backup: process {server.child.pid} was called with \S+ and has another file open: .*\n"
+            assert status == 1 and re.fullmatch(line, said), (name, said)
+            assert not (here / "copy.db").exists() and top_ups(server, [1]) == [1]
+
+
+def test_a_journal_of_another_program(program):
+    """By it SQLite takes back what another program left unfinished, so FILE alone is no city. One with a head of zeros,
+    which only stands there for the next change, is in no copy's way."""
+    here = Path(program.folder)
+    accepted(program, CITY, key="f")
+    (here / "city.db-journal").write_bytes(bytes.fromhex("d9d505f920a163d7") + bytes(504))
+    status, said = copying(program, "city.db", "copy.db")
+    assert status == 1 and "city.db-journal takes back what" in said and not (here / "copy.db").exists(), said
+    (here / "city.db-journal").write_bytes(bytes(512))
+    assert copying(program, "city.db", "copy.db") == (0, "")
+
+
+def test_a_reader_that_goes_away(program):
+    """Readers that open FILE and close it meanwhile are in no copy's way."""
+    here = Path(program.folder)
+    city = Killed(program, tempfile.mkdtemp(dir=here))
+    loop = f"while :; do exec 5<{city.file}; sleep 0.01; exec 5<&-; done"
+    with contextlib.ExitStack() as readers:
+        for _ in range(4):
+            child = subprocess.Popen(["bash", "-c", loop])
+            readers.callback(child.wait)
+            readers.callback(child.kill)
+        for number in range(5):
+            assert copying(program, city.file, f"copy{number}.db") == (0, "")
 
 
 def heeds_signals():

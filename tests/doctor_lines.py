@@ -249,6 +249,9 @@ DOUBTFUL = (
     ("base_url", "http://192.0.2.1:8080", "not every planner follows"),
     ("base_url", "http://lyon.example/", "ends in /"),
     ("base_url", "https://:8080", "names no host"),
+    ("base_url", "https://metro.example:99999", "has the port '99999'"),
+    ("base_url", "https://metro.example:", "has the port ''"),
+    ("base_url", "https://metro.example:0/x", "has the port '0'"),
     ("base_url", "https://metro..example", "nothing between"), ("base_url", "https://.x.example/", "nothing between"),
     ("base_url", "https://x.example..:8080", "nothing between"), ("base_url", "https://-metro.example", "has a - at"),
     ("base_url", "https://metro-.example/bikes", "has a - at"), ("base_url", "https://bikes.-", "has a - at"),
@@ -530,6 +533,7 @@ def test_moments_of_lines(program):
     assert found_at(NOW, NOW, NOW + 60)[1] == []
     assert found_at(NOW, NOW + 61)[1] == ["line 2, moment"]
     assert found_at(NOW, NOW - 1, NOW)[1] == ["line 2, moment"]
+    assert "by 1 second. " in doctor.findings_of_lines(found_at(NOW, NOW - 1)[0], NOW)[0].text
     data, places = found_at(1_700_000_000, 17_000_000_300, 1_700_000_600, 1_700_000_700)
     assert places == ["line 2, moment", "line 3, moment"], places
     assert "2508-09-16T06:18:20Z" in doctor.findings_of_lines(data, NOW)[0].text
