@@ -481,15 +481,33 @@ def test_a_file_that_is_not_the_served_one(program):
 
 
 def test_a_journal_of_another_program(program):
-    """By it SQLite takes back what another program left unfinished, so FILE alone is no city. One with a head of zeros,
-    which only stands there for the next change, is in no copy's way."""
+    """By it SQLite takes back what another program left unfinished, so FILE alone is no city. One that begins with a 0,
+    as it stands there for the next change, is in no copy's way."""
     here = Path(program.folder)
     accepted(program, CITY, key="f")
-    (here / "city.db-journal").write_bytes(bytes.fromhex("d9d505f920a163d7") + bytes(504))
-    status, said = copying(program, "city.db", "copy.db")
-    assert status == 1 and "city.db-journal takes back what" in said and not (here / "copy.db").exists(), said
-    (here / "city.db-journal").write_bytes(bytes(512))
-    assert copying(program, "city.db", "copy.db") == (0, "")
+    journal = here / "city.db-journal"
+    for make in (
+        lambda: journal.write_bytes(bytes.fromhex("d9d505f920a163d7") + bytes(504)),
+        lambda: journal.write_bytes(b"text"),
+        journal.mkdir, lambda: os.mkfifo(journal), lambda: journal.symlink_to("none"),
+    ):
+        make()
+        status, said = copying(program, "city.db", "copy.db")
+        assert status == 1 and "city.db-journal may take back" in said and not (here / "copy.db").exists(), said
+        journal.rmdir() if journal.is_dir() else journal.unlink()
+    for number, data in enumerate((b"", bytes(512))):
+        journal.write_bytes(data)
+        assert copying(program, "city.db", f"copy{number}.db") == (0, "")
+
+
+def test_a_program_of_another_name(program):
+    """What another program was called with is its own: a script that starts the city's, say."""
+    here = Path(program.folder)
+    city = Killed(program, tempfile.mkdtemp(dir=here))
+    (here / "serve").write_text("#!/bin/sh\nsleep 60\n")
+    with subprocess.Popen(["sh", "serve", city.file], cwd=here) as child:
+        assert copying(program, city.file, "copy.db") == (0, "")
+        child.kill()
 
 
 def test_a_reader_that_goes_away(program):

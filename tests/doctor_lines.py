@@ -252,6 +252,7 @@ DOUBTFUL = (
     ("base_url", "https://metro.example:99999", "has the port '99999'"),
     ("base_url", "https://metro.example:", "has the port ''"),
     ("base_url", "https://metro.example:0/x", "has the port '0'"),
+    ("base_url", "https://[2001:db8::1]8443", "between the ] and its end"),
     ("base_url", "https://metro..example", "nothing between"), ("base_url", "https://.x.example/", "nothing between"),
     ("base_url", "https://x.example..:8080", "nothing between"), ("base_url", "https://-metro.example", "has a - at"),
     ("base_url", "https://metro-.example/bikes", "has a - at"), ("base_url", "https://bikes.-", "has a - at"),
