@@ -49,7 +49,7 @@ use Rattle.bike_schema.specs.Calls.{WasFree}
 use Rattle.bike_schema.specs.Layouts.{layout_of, name_of}
 use Rattle.bike_schema.specs.Makes.{Puts}
 use Rattle.bike_schema.specs.Tables.{IsOurs, tables_of, is_parent}
-use Rattle.bike_schema.proofs.KeyLemmas.{table_key}
+use Rattle.bike_schema.proofs.KeyLemmas.{unique_key}
 use Rattle.bike_schema.proofs.MakeFacts.{text_of, declared, index_only}
 use Rattle.bike_schema.proofs.MakeTexts.{IsOnlyCreate, understood_as}
 use Rattle.bike_schema.proofs.MakesLemmas.{adds_row, sets_columns}
@@ -148,7 +148,7 @@ version_writes db ours = let it = ours.has Meta in means_writes db.schema versio
 
 pub sets_version : Does IsOurs (λ db. WasFree version_write (tables_of db)) (Puts (version_write ∷ [])) version_text (number_value 1 ∷ number_value NEWEST ∷ [])
 unfolding everything
-sets_version = sets_columns Meta _ _ (row_updated (table_key Meta) 0 ((2, 1) ∷ []) _ (λ tree. (refl, refl, refl), refl) refl refl refl (λ r. refl) (λ r. refl))
+sets_version = sets_columns Meta _ _ (λ s. row_updated (unique_key Meta) 0 ((2, 1) ∷ []) _ (λ tree. (refl, refl, refl), refl) refl refl refl (λ r. refl) (λ r. refl))
 
 -- the version is set, and nothing else
 pub version_set : (old new : State) → IsOurs old.now → (count : ℕ) → ExecutesInside 0 version_text (number_value 1 ∷ number_value NEWEST ∷ []) old new (Ok count) → WritesOnly (version_write ∷ []) old.now new.now
@@ -223,7 +223,7 @@ station_bound row it = bound_all (layout_of Stations).columns (station_row row) 
 
 pub adds_station : (row : Row) → IsStationRow row → Does IsOurs (λ db. WasFree (Add Stations (station_row row)) (tables_of db)) (Puts (Add Stations (station_row row) ∷ [])) station_text (station_row row)
 unfolding everything
-adds_station row it = let suit = station_suits row it in adds_row Stations (row_put (table_key Stations) inserts_station refl suit (λ rows. refl))
+adds_station row it = let suit = station_suits row it in adds_row Stations (λ s. row_put (unique_key Stations) inserts_station refl suit (λ rows. refl))
 
 -- the station is added, and nothing else
 pub station_added : (row : Row) → IsStationRow row → (old new : State) → IsOurs old.now → (count : ℕ) → ExecutesInside 0 station_text (station_row row) old new (Ok count) → WritesOnly (Add Stations (station_row row) ∷ []) old.now new.now
