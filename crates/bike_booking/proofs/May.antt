@@ -7,7 +7,8 @@ use Rattle.bike_operator.specs.NameKind.TheVariants as named
 use Rattle.bike_operator.specs.Operator.{key_of}
 use Rattle.bike_operator.specs.Rows.{SegmentRow}
 use Rattle.bike_book.specs.Stored.{tables_for}
-use Rattle.bike_book.specs.Writes.{write_of, writes_of, own_name_write, MayWriteAll}
+use Rattle.bike_book.specs.Writes.{write_of, writes_of, own_name_write, tables_after, MayWriteAll}
+use Rattle.bike_book.specs.declared.row_change.RowChange.TheVariants as row
 use Rattle.bike_book.specs.ChangeLaws.{segment_writes}
 use Rattle.bike_book.proofs.MayLemmas.{IsElsewhere, AreElsewhere, elsewhere_both, all_may, may_keep}
 use Rattle.bike_moves.specs.Facts.{BikeTotals}
@@ -98,4 +99,4 @@ may_be_written s m now q a n texts rows h anew are =
     let others = elsewhere_both (ms ++ cs) es (elsewhere_both ms cs (moved_elsewhere now n a.moved) (changed_elsewhere now a.change)) (booked_elsewhere a.entry) in
     subst (λ ws. MayWriteAll ws (tables_for s m)) (sym are)
     (all_may ((ms ++ cs) ++ es) (writes_of (close_rows now n.sums texts)) (tables_for s m) others (λ t same.
-    (tt, (may_keep s m h.sound h.listing texts.caller.now texts.key.now texts.command.now texts.reply.now free _ same, tt))))
+    (tt, (may_keep s m h.sound h.listing texts.caller.now texts.key.now texts.command.now texts.reply.now free (tables_after (write_of (row.SetMeta now n.sums.cash n.sums.revenue)) t) same, tt))))
