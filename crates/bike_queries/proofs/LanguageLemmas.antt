@@ -15,7 +15,6 @@ use Rattle.sqlite_value.proofs.OrderLemmas.{value_cmp-Null, value_cmp-Text, valu
 use Rattle.sqlite_sql.specs.Query.{Query}
 use Rattle.sqlite_sql.specs.Term.{col}
 use Rattle.sqlite_rules.specs.Lists.{Has}
-use Rattle.sqlite_schema.specs.declared.schema.Schema.{Schema}
 use Rattle.bike_rows.specs.Keyed.{in_order}
 use Rattle.bike_rows.specs.Layout.{table_of}
 use Rattle.bike_rows.specs.Queries.{table_query, limit_query, only_one, by_columns}
@@ -32,7 +31,7 @@ use Rattle.bike_places.proofs.MapLemmas.{IsKeyOrder, text_order, tied}
 use Rattle.bike_book.specs.Tables.{TableName, MoreNames, keys_of, rows_in}
 use Rattle.bike_book.specs.Stored.{stored_name}
 use Rattle.bike_book.proofs.MapRows.{both, below_has}
-use Rattle.bike_schema.specs.Layouts.{layout_of, layout_in}
+use Rattle.bike_schema.specs.Layouts.{layout_of, layout_in, InEach}
 use Rattle.bike_schema.proofs.AnswerLemmas.{FindsIn, in_table}
 use Rattle.bike_feed_texts.specs.Trees.{names_by_language}
 use Rattle.bike_queries.specs.After.{is_from, begins_from, first_after, language_row, next_language, start_after}
@@ -79,7 +78,7 @@ value_from at id rows = slice_get (in_order row_cmp (filter (begins_from id) (on
 abbrev value_query : ℕ → Query
 value_query place = limit_query only_one (table_query 0 (from_tests place) (by_columns (place ∷ [])) (col 1 place ∷ []))
 
-value_in : (t : TableName) {text : List ℕ} (at place : ℕ) (id : List ℕ) → ((r : Row) → column (columns_of (table_of (layout_of t) 0) r) at ≡ column r place) → ((s : Schema) → IsSelect (value_query place) (layout_in s t) text)
+value_in : (t : TableName) {text : List ℕ} (at place : ℕ) (id : List ℕ) → ((r : Row) → column (columns_of (table_of (layout_of t) 0) r) at ≡ column r place) → InEach t (λ layout. IsSelect (value_query place) layout text)
     → FindsIn text (Text id ∷ []) (λ tables. value_from at id (rows_in tables t))
 value_in t {text} at place id shown is =
     in_table t (value_from at id) (λ db has.

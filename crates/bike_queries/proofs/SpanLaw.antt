@@ -15,7 +15,6 @@ use Rattle.sqlite_sql.specs.Query.{Query}
 use Rattle.sqlite_sql.specs.Term.{Term, col, op2}
 use Rattle.sqlite_sql.specs.declared.ops.BinaryOp.TheVariants.{Compare}
 use Rattle.sqlite_sql.specs.declared.ops.CompareOp.TheVariants.{Gt, Ge, Lt}
-use Rattle.sqlite_schema.specs.declared.schema.Schema.{Schema}
 use Rattle.bike_rows.specs.Layout.{table_of}
 use Rattle.bike_rows.specs.Queries.{table_query, limit_query, only_one, by_columns}
 use Rattle.bike_rows.specs.View.{columns_of}
@@ -27,7 +26,7 @@ use Rattle.bike_rows.proofs.WalkLaw.{Finds}
 use Rattle.bike_book.specs.Tables.{TableName, rows_in, Rentals, Entries}
 use Rattle.bike_book.specs.Rows.{number_value}
 use Rattle.bike_book.proofs.Keys.{value_cmp-number_value}
-use Rattle.bike_schema.specs.Layouts.{layout_of, layout_in}
+use Rattle.bike_schema.specs.Layouts.{layout_of, InEach}
 use Rattle.bike_schema.proofs.AnswerLemmas.{FindsIn, in_table}
 use Rattle.bike_schema.proofs.KeyLemmas.{key_places, key_in_schema}
 use Rattle.bike_queries.specs.Spans.{lies_in}
@@ -65,7 +64,7 @@ span_params number begin end = number_value number ∷ number_value begin ∷ nu
 
 -- the table's first column is its rowid, and the column that is tested is stored at the place
 pub spanned_in : (t : TableName) {text : List ℕ} (at place : ℕ) (number begin end : ℕ) → ((r : Row) → column (columns_of (table_of (layout_of t) 0) r) 0 ≡ column r 0) → ((r : Row) → column (columns_of (table_of (layout_of t) 0) r) at ≡ column r place)
-    → ((s : Schema) → IsSelect (span_query t place) (layout_in s t) text) → FindsIn text (span_params number begin end) (λ tables. slice_get (filter (is_spanned at number begin end) (rows_in tables t)) 0)
+    → InEach t (λ layout. IsSelect (span_query t place) layout text) → FindsIn text (span_params number begin end) (λ tables. slice_get (filter (is_spanned at number begin end) (rows_in tables t)) 0)
 spanned_in t {text} at place number begin end first shown is =
     in_table t (λ rows. slice_get (filter (is_spanned at number begin end) rows) 0) (λ db has.
     subst (λ rows. Finds db text (span_params number begin end) (slice_get rows 0)) (map_same_list _)

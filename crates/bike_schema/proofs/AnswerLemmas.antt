@@ -6,7 +6,6 @@ use Rattle.std.specs.List.{list_any}
 use Rattle.sqlite_value.specs.Order.{Row}
 use Rattle.sqlite_sql.specs.Ops.{is_null}
 use Rattle.sqlite_trees.specs.declared.store.Store.{Ghosts}
-use Rattle.sqlite_schema.specs.declared.schema.Schema.{Schema}
 use Rattle.sqlite.specs.declared.error.Error.{Error}
 use Rattle.sqlite.specs.Effect.{Database}
 use Rattle.sqlite.specs.Held.{Held}
@@ -24,7 +23,7 @@ use Rattle.bike_operator.specs.Operator.{Operator}
 use Rattle.bike_book.specs.Tables.{TableName, Tables, keys_of, rows_in}
 use Rattle.bike_book.specs.Stored.{Listed, tables_for}
 use Rattle.bike_book.specs.Found.{WhereListed}
-use Rattle.bike_schema.specs.Layouts.{layout_of, layout_in, name_of}
+use Rattle.bike_schema.specs.Layouts.{layout_of, InEach, name_of}
 use Rattle.bike_schema.specs.Tables.{HasTables, IsOurs, tables_of}
 use Rattle.bike_schema.specs.Answers.{Answers}
 use Rattle.bike_schema.proofs.KeyLemmas.{key_places, key_in_schema}
@@ -41,7 +40,7 @@ pub in_table : (t : TableName) {text : List ℕ} {params : Row} (found : List Ro
 in_table t {text} {params} found finds = record { finds = λ db has. subst (λ rows. Finds db text params (found rows)) (sym (rows_of_table db t)) (finds db has) }
 
 -- SELECT * FROM the table WHERE its key equals the parameters
-pub keyed_in : (t : TableName) {text : List ℕ} {params : Row} → ((s : Schema) → IsSelect (table_query 0 (key_tests 0 (key_places t)) [] (every_column (layout_of t))) (layout_in s t) text) → list_any is_null (key_in 0 (key_places t) params) ≡ false
+pub keyed_in : (t : TableName) {text : List ℕ} {params : Row} → InEach t (λ layout. IsSelect (table_query 0 (key_tests 0 (key_places t)) [] (every_column (layout_of t))) layout text) → list_any is_null (key_in 0 (key_places t) params) ≡ false
     → FindsIn text params (λ tables. row_with (keys_of t) (key_in 0 (key_places t) params) (rows_in tables t))
 keyed_in t {params = params} is solid = in_table t (row_with (keys_of t) (key_in 0 (key_places t) params)) (λ db has. keyed_row (key_in_schema db.schema t) (has t) (is db.schema) solid)
 

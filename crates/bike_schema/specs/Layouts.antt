@@ -108,3 +108,7 @@ has_primary schema name = unwrap_or (option_map (λ table. is_some (slice_get ta
 -- the table as it has to stand in this schema
 abbrev pub layout_in : Schema → TableName → Layout
 layout_in schema = layout_by (has_primary schema (name_of Kept))
+
+-- a fact of the table in each layout in which it may stand
+abbrev pub InEach : TableName → (Layout → Type 0) → Type 0
+InEach t fact = (schema : Schema) → fact (layout_in schema t)

@@ -13,9 +13,9 @@ use Rattle.bike_operator.specs.Changes.{place_of}
 use Rattle.bike_book.specs.Tables.{Bikes, Trucks}
 use Rattle.bike_book.specs.Rows.{number_value, state_number, place_columns, bike_row, truck_row}
 use Rattle.bike_book.specs.Writes.{Set, columns_from}
-use Rattle.bike_schema.specs.Tables.{IsOurs, tables_of}
+use Rattle.bike_schema.specs.Tables.{tables_of}
 use Rattle.bike_schema.specs.Makes.{Puts}
-use Rattle.bike_schema.specs.Calls.{WasFree}
+use Rattle.bike_schema.specs.Calls.{WasFree, Admits}
 use Rattle.bike_writes.specs.declared.fleet.PlaceColumns.{PlaceColumns}
 use Rattle.bike_writes.specs.Columns.{columns_of}
 use Rattle.bike_writes.proofs.TextLemmas.{Makes, number_suits}
@@ -31,7 +31,7 @@ adds_bike bike type_id = adds_row Bikes (λ s. row_put (unique_key Bikes) (λ s 
 
 abbrev MakesPlace : ℕ → BikeState → PlaceColumns → Row → Type 1
 MakesPlace bike state c columns = let w = Set Bikes (number_value bike ∷ []) ((2, Int (state_number state)) ∷ columns_from 3 columns) in
-    Does IsOurs (λ db. WasFree w (tables_of db)) (Puts (w ∷ [])) (codes "UPDATE bikes SET state = ?2, station_id = ?3, dock = ?4, rental = ?5, truck = ?6, ord = ?7 WHERE bike = ?1") (number_value bike ∷ Int (state_number state) ∷ columns_of c)
+    Does (Admits w) (λ db. WasFree w (tables_of db)) (Puts (w ∷ [])) (codes "UPDATE bikes SET state = ?2, station_id = ?3, dock = ?4, rental = ?5, truck = ?6, ord = ?7 WHERE bike = ?1") (number_value bike ∷ Int (state_number state) ∷ columns_of c)
 
 sets_place : (bike : ℕ) (state : BikeState) (c : PlaceColumns) → MakesPlace bike state c (columns_of c)
 unfolding everything
