@@ -15,9 +15,9 @@ use Rattle.bike_schema.specs.Layouts.{layout_of}
 use Rattle.bike_schema.proofs.AnswerLemmas.{FindsIn, keyed_in, in_table}
 use Rattle.bike_schema.proofs.CountLemmas.{counted_in}
 use Rattle.bike_schema.proofs.KeyLemmas.{table_key}
-use Rattle.bike_office_reads.specs.Within.{rows_from, rows_within}
-use Rattle.bike_office_reads.proofs.SegmentLemmas.{ListsIn}
-use Rattle.bike_office_reads.proofs.WithinLaw.{keyed_within, lists_within}
+use Rattle.bike_schema.specs.Within.{rows_from, rows_within}
+use Rattle.bike_schema.proofs.ListedLemmas.{ListsIn}
+use Rattle.bike_schema.proofs.WithinLaw.{keyed_within, lists_within}
 
 -- ---- by the key
 

@@ -15,9 +15,9 @@ use Rattle.bike_schema.specs.Tables.{tables_of}
 use Rattle.bike_schema.proofs.AnswerLemmas.{FindsIn, keyed_in}
 use Rattle.bike_schema.proofs.CountLemmas.{counted_in}
 use Rattle.bike_schema.proofs.KeyLemmas.{table_key}
-use Rattle.bike_office_reads.specs.Within.{rows_from}
-use Rattle.bike_office_reads.proofs.SegmentLemmas.{ListsIn}
-use Rattle.bike_office_reads.proofs.WithinLaw.{keyed_within, lists_within}
+use Rattle.bike_schema.specs.Within.{rows_from}
+use Rattle.bike_schema.proofs.ListedLemmas.{ListsIn}
+use Rattle.bike_schema.proofs.WithinLaw.{keyed_within, lists_within}
 
 -- ---- rows by their keys
 

@@ -35,7 +35,7 @@ use Rattle.bike_schema.specs.Layouts.{layout_of, layout_in, InEach}
 use Rattle.bike_schema.proofs.AnswerLemmas.{FindsIn, in_table}
 use Rattle.bike_feed_texts.specs.Trees.{names_by_language}
 use Rattle.bike_queries.specs.After.{is_from, begins_from, first_after, language_row, next_language, start_after}
-use Rattle.bike_office_reads.proofs.WithinLaw.{and_true, from_test}
+use Rattle.bike_schema.proofs.WithinLaw.{and_true, from_test}
 use Rattle.bike_queries.proofs.AfterLaw.{from_tests, first_behind}
 use Rattle.bike_queries.proofs.LeastLaw.{least_answer}
 

@@ -10,9 +10,9 @@ use Rattle.bike_rows.proofs.SelectLaws.{every_column, rows_passing}
 use Rattle.bike_book.specs.Tables.{Stations, Counts}
 use Rattle.bike_schema.specs.Layouts.{layout_of}
 use Rattle.bike_schema.proofs.KeyLemmas.{table_key}
-use Rattle.bike_office_reads.specs.Within.{rows_within}
-use Rattle.bike_office_reads.proofs.SegmentLemmas.{ListsIn}
-use Rattle.bike_office_reads.proofs.WithinLaw.{and_true, from_test, shows_every, lists_within}
+use Rattle.bike_schema.specs.Within.{rows_within}
+use Rattle.bike_schema.proofs.ListedLemmas.{ListsIn}
+use Rattle.bike_schema.proofs.WithinLaw.{and_true, from_test, shows_every, lists_within}
 use Rattle.bike_queries.proofs.AfterLaw.{from_tests}
 use Rattle.bike_queries.specs.After.{begins_from}
 

@@ -30,7 +30,7 @@ use Rattle.bike_schema.specs.Layouts.{layout_of, InEach}
 use Rattle.bike_schema.proofs.AnswerLemmas.{FindsIn, in_table}
 use Rattle.bike_schema.proofs.KeyLemmas.{key_places, key_in_schema}
 use Rattle.bike_queries.specs.Spans.{lies_in}
-use Rattle.bike_office_reads.proofs.WithinLaw.{and_true, shows_every}
+use Rattle.bike_schema.proofs.WithinLaw.{and_true, shows_every}
 
 -- ---- the tests of a WHERE
 

@@ -11,3 +11,5 @@ pub mod MakeLemmas
 pub mod GrowthLemmas
 mod FreshLemmas
 mod ColumnLemmas
+pub mod ListedLemmas
+pub mod WithinLaw

@@ -33,8 +33,8 @@ use Rattle.bike_schema.specs.Tables.{tables_of}
 use Rattle.bike_schema.proofs.AnswerLemmas.{FindsIn}
 use Rattle.bike_schema.proofs.KeyLemmas.{key_places, key_in_schema}
 use Rattle.bike_schema.proofs.MakesLemmas.{rows_of_table}
-use Rattle.bike_office_reads.specs.Within.{is_within, rows_within, rows_from}
-use Rattle.bike_office_reads.proofs.SegmentLemmas.{ListsIn}
+use Rattle.bike_schema.specs.Within.{is_within, rows_within, rows_from}
+use Rattle.bike_schema.proofs.ListedLemmas.{ListsIn}
 
 -- ---- the tests of a WHERE
 
