@@ -1,4 +1,7 @@
 mod ClimbLemmas
+mod KeyClimbLemmas
+mod KeyPassLemmas
+mod KeyTexts
 mod PassLemmas
 mod SchemaLemmas
 pub mod RowidTexts
