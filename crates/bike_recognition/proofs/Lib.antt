@@ -1,4 +1,5 @@
 mod ClimbLemmas
+pub mod KeptLemmas
 mod KeyClimbLemmas
 mod KeyPassLemmas
 mod KeyTexts

@@ -15,26 +15,20 @@ use Rattle.sqlite.specs.Effect.{Database}
 use Rattle.sqlite.specs.Given.{HasGiven, Advances}
 use Rattle.sqlite.specs.Held.{Held, state}
 use Rattle.sqlite.specs.State.{HasCleanDisk, IsUnchanged, Survives}
-use Rattle.bike_sql.specs.Has.{HasTable}
 use Rattle.bike_rows.specs.Calls.{ReadsWhere}
 use Rattle.bike_rows.specs.Layout.{table_of}
 use Rattle.bike_rows.specs.Outcome.{IsLeft}
 use Rattle.bike_rows.specs.Queries.{table_query, by_columns}
-use Rattle.bike_rows.specs.Stands.{is_referred_to}
 use Rattle.bike_rows.specs.View.{IsKeyed}
 use Rattle.bike_book.specs.Tables.{Kept, keys_of}
 use Rattle.bike_schema.specs.Layouts.{layout_of}
-use Rattle.bike_recognition.specs.Rowids.{AreApart}
+use Rattle.bike_recognition.specs.Wanted.{Lies}
 
 -- ---- the table
 
--- `kept` lies in the database as the product makes it: found by its name, with its columns and no key. No foreign key refers to it, and its rowids are numbers and apart.
-pub record KeptLies (db : Database) : Type 0 where
-  pub at : ℕ
-  pub tree : ℕ
-  pub has : HasTable db.schema at (table_of (layout_of Kept) tree)
-  pub unreferred : is_referred_to db.schema tree ≡ false
-  pub apart : AreApart (db.trees tree)
+-- `kept` lies in the database as the product makes it: found by its name, with its columns and no key
+abbrev pub KeptLies : Database → Type 0
+KeptLies db = Lies db (layout_of Kept)
 
 -- the caller and key of a stored row
 abbrev pub shown_key : Row → Row
