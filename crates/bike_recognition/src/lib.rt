@@ -7,6 +7,7 @@
 #![tactic(auto)]
 
 mod added;
+mod keys;
 mod recognition;
 mod rowids;
 mod schema;
@@ -15,6 +16,7 @@ mod table;
 mod version;
 
 pub use added::has_added_unique;
+pub use keys::doubled_key;
 pub use recognition::{Recognition, recognise};
 pub use rowids::are_apart;
 pub use schema::has_wanted;
