@@ -17,7 +17,7 @@ mod version;
 
 pub use added::has_added_unique;
 pub use keys::doubled_key;
-pub use recognition::{Recognition, recognise};
+pub use recognition::{Recognition, recognise, recognise_tables};
 pub use rowids::are_apart;
 pub use schema::has_wanted;
 pub use stands::{EVERY_TABLE, check_open, missing_table, table_stands};

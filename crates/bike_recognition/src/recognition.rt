@@ -31,8 +31,8 @@ pub enum Recognition {
     Ours,
 }
 
-/// What a database of the newest version is.
-fn recognise_tables<S: Alter>(
+/// What a database of the newest version is: `Ours`, `Doubled` or `Foreign`. It stays as it is. It fails as `recognise` does.
+pub fn recognise_tables<S: Alter>(
     alloc: Global,
     conn: &mut Connection<S>,
 ) -> Result<Recognition, StatementFault>

@@ -1,5 +1,5 @@
 -- The tables as they are made: empty but for the one row of `meta`.
-use Rattle.std.proofs.Common.{◌≡◌, ◌&&◌, ℕ, pos, not, Bool, true, false, if◌then◌else◌, List, [], ◌∷◌, codes, map, slice_get, is_some, is_none, refl, sym, ap, subst, ◌∙◌}
+use Rattle.std.proofs.Common.{◌≡◌, ℕ, pos, not, true, false, List, [], ◌∷◌, codes, map, slice_get, is_some, is_none, refl, sym, ap, subst, ◌∙◌}
 use Rattle.std.specs.List.{AllByRecursion, list_all}
 use Rattle.std.specs.FinMap as fin
 use Rattle.std.specs.declared.cmp.Ordering.{Ordering}
@@ -19,11 +19,11 @@ use Rattle.bike_rows.proofs.IndexLaw.{IsOnlyIndex, index_made}
 use Rattle.bike_rows.proofs.CallLaws.{Does}
 use Rattle.bike_rows.proofs.WriteLaws.{Inserts, row_put}
 use Rattle.bike_operator.specs.Operator.{no_operator}
-use Rattle.bike_book.specs.Tables.{TableName, Tables, keys_of, is_table, rows_in, tables_by, with_rows, Meta, System, Plans, Segments, Types, Regions, Stations, Docks, Bikes, Trucks, Riders, Rentals, Orders, Entries, Kept, Counts, MoreNames}
+use Rattle.bike_book.specs.Tables.{TableName, Tables, keys_of, rows_in, tables_by, with_rows, Meta, System, Plans, Segments, Types, Regions, Stations, Docks, Bikes, Trucks, Riders, Rentals, Orders, Entries, Kept, Counts, MoreNames}
 use Rattle.bike_book.specs.Rows.{meta_row}
 use Rattle.bike_book.specs.Stored.{none_listed, tables_for, stored_plan, plans_segments, stored_type, stored_region, stored_station, stored_dock, stored_bike, stored_truck, stored_rider, stored_kept, stored_count, stored_name}
 use Rattle.bike_book.specs.declared.version.TheConstants.{NEWEST}
-use Rattle.bike_schema.specs.Layouts.{layout_of, keyed_kept, layout_by, layout_in, has_primary, name_of, every_table}
+use Rattle.bike_schema.specs.Layouts.{layout_of, name_of, every_table}
 use Rattle.bike_schema.specs.Tables.{IsOurs, tables_of, is_parent, is_unused, HasNone, other_names}
 use Rattle.bike_schema.specs.Makes.{Continues, Puts}
 use Rattle.bike_schema.specs.Calls.{WasFree, Admits}
@@ -31,6 +31,7 @@ use Rattle.bike_book.specs.Writes.{tables_after}
 use Rattle.bike_schema.specs.Creates.{RanAll, table_texts, index_texts, first_write, Creates}
 use Rattle.bike_schema.proofs.TableLemmas.{of_every, every_true}
 use Rattle.bike_schema.proofs.KeyLemmas.{unique_key}
+use Rattle.bike_schema.proofs.LayoutLemmas.{as_made}
 use Rattle.bike_schema.proofs.MakesLemmas.{continues_then, adds_row}
 use Rattle.bike_schema.proofs.MakeFacts.{text_of, declared, index_only}
 use Rattle.bike_schema.proofs.MakeLemmas.{adds}
@@ -61,17 +62,6 @@ stay_both a b c first second keys layout was =
     let one = first keys layout was in
     let two = second keys layout one.stands in
     record { stands = two.stands; rows = two.rows ∙ one.rows }
-
--- Where each stands as it is made, each stands as it has to.
-as_made : (db : Database) → ((t : TableName) → Stands db (keys_of t) (layout_of t)) → (t : TableName) → Stands db (keys_of t) (layout_in db.schema t)
-as_made db stands t =
-    let kept = stands Kept in
-    let plain : has_primary db.schema (name_of Kept) ≡ false = rw (kept.has.found, kept.has.there) refl in
-    rw plain (by (is_table t Kept) (stands t))
-  where
-    by : (b : Bool) → Stands db (keys_of t) (layout_of t) → Stands db (keys_of t) (record { name = (layout_of t).name; columns = (layout_of t).columns; key = (layout_of t).key; primary = (if b && false then keyed_kept else layout_of t).primary; uniques = (if b && false then keyed_kept else layout_of t).uniques; orders = (if b && false then keyed_kept else layout_of t).orders })
-    by true it = it
-    by false it = it
 
 none_change : (db : Database) → AllStay db db
 none_change db keys layout was = record { stands = was; rows = refl }

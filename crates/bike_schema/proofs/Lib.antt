@@ -1,5 +1,6 @@
 pub mod TableLemmas
 pub mod KeyLemmas
+pub mod LayoutLemmas
 pub mod MakesLemmas
 pub mod AnswerLemmas
 pub mod CountLemmas

@@ -63,11 +63,11 @@ pub const INDEXES: [&str; 6] = [
     "CREATE INDEX bikes_by_dock ON bikes (station_id, dock)",
     "CREATE INDEX bikes_by_truck ON bikes (truck)",
     "CREATE INDEX rentals_by_rider ON rentals (rider)",
-    // A UNIQUE index would be probed for each row whenever the file is opened.
-    "CREATE INDEX kept_by_key ON kept (caller, req_key)",
     "CREATE INDEX more_names_by_language ON more_names (language)",
     // All that is read of a thing's names stands in it, so the table isn't read beside it.
     "CREATE INDEX more_names_by_thing ON more_names (kind, id, language, name)",
+    // A UNIQUE index would be probed for each row whenever the file is opened.
+    "CREATE INDEX kept_by_key ON kept (caller, req_key)",
 ];
 
 /// Runs the statements one after another, with no parameters, up to the first that fails.
