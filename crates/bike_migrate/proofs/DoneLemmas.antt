@@ -7,7 +7,7 @@ use Rattle.std.proofs.lemmas.List.Folds.{list_any-append}
 use Rattle.sqlite_value.specs.Order.{Row}
 use Rattle.sqlite.specs.Effect.{Database}
 use Rattle.bike_rows.specs.Stands.{is_same_text, Stands, Stays}
-use Rattle.bike_book.specs.Tables.{TableName, Tables, MoreNames, keys_of, tables_by}
+use Rattle.bike_book.specs.Tables.{TableName, Tables, Kept, MoreNames, keys_of, tables_by}
 use Rattle.bike_schema.specs.Layouts.{layout_in, has_primary, name_of, every_table}
 use Rattle.bike_schema.proofs.LayoutLemmas.{all_by}
 use Rattle.bike_schema.specs.Makes.{is_our_name}

@@ -12,7 +12,7 @@ use Rattle.bike_rows.specs.View.{row_with}
 use Rattle.bike_ledger.specs.Ledger.{cash_of, revenue_of}
 use Rattle.bike_operator.specs.Operator.{Operator, no_operator}
 use Rattle.bike_book.specs.declared.version.TheConstants.{NEWEST}
-use Rattle.bike_book.specs.Tables.{Tables, Meta, keys_of}
+use Rattle.bike_book.specs.Tables.{TableName, Tables, Meta, keys_of}
 use Rattle.bike_book.proofs.LedgerRows.{meta_found}
 use Rattle.bike_schema.specs.Layouts.{layout_in, name_of}
 use Rattle.bike_schema.specs.Stands.{Stores, IsOf}
