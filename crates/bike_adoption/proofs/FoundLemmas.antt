@@ -96,7 +96,7 @@ by_tables_never db r has (inr (inl it)) = absurd (it.0.unkeyed (has Kept))
 by_tables_never db r has (inr (inr it)) = absurd (it.0 has)
 
 -- it is recognised as the product's
-ours_there : (db : Database) (s : Operator) → Stores db s → (r : Recognition) → IsRecognised db r → r ≡ recognition.Ours
+pub ours_there : (db : Database) (s : Operator) → Stores db s → (r : Recognition) → IsRecognised db r → r ≡ recognition.Ours
 ours_there db s stores r (inl none) = absurd (never_both db none.0 stores.has)
 ours_there db s stores r (inr (some, inl other)) = absurd (other.0 (stores.has Meta))
 ours_there db s stores r (inr (some, inr (stands, told))) = by_tables_never db r stores.has (subst (λ v. IsAsTold db (told_by v) r) (version_there db s stores) told)

@@ -1,5 +1,6 @@
 //! What a database is, and whether its tables stand for an operator.
 
+ghost use Rattle.std.specs.Prelude.{[]};
 ghost use Rattle.bike_rows.specs.Calls.{ReadsWhere};
 ghost use Rattle.bike_schema.specs.Tables.{HasTables};
 ghost use Rattle.bike_recognition.specs.Recognition.{ReadsAny};
@@ -54,7 +55,8 @@ fn audit_tables<S: Alter, P: Watch>(
 
 /// The caller and key that two rows of `kept` have, where that is all that a database lacks.
 fn find_doubled<S: Alter>(conn: &mut Connection<S>) -> Result<Finding, StatementFault>
-    ensures { ReadsWhere S.Store KeptLies conn.old conn.new result IsDoubledFinding }
+    ensures found { ReadsWhere S.Store KeptLies conn.old conn.new result IsDoubledFinding }
+    ensures watched { AreToldOf result [] }
 {
     match doubled_key(conn)? {
         Some(key) => Ok(Finding::Unsound(BadRow {

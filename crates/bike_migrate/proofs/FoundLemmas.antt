@@ -71,29 +71,10 @@ module _ (db : Database) (e : Earlier) where
 -- ---- found to be of the newest version, or to have none of the tables
 
 module _ (db : Database) where
-  has_newest : IsNewest db found.Newest → HasTables db
-  has_newest (inl it) = it.0
-  has_newest (inr it) = absurd (let other = it.1 in cc)
-
   earlier_never : (o : Option Earlier) (f : Found) → ((e : Earlier) → f ≡ found.Of e → ⊥) → (f ≡ found.Foreign → ⊥) → IsOfEarlier db o f → ⊥
   earlier_never None f other foreign is = foreign is
   earlier_never (Some e) f other foreign (inl it) = other e it.1
   earlier_never (Some e) f other foreign (inr it) = foreign it.1
-
-  newest_by : (v : ℕ) (o : Ordering) → IsByNumber db v o found.Newest → HasTables db
-  newest_by v Less is = absurd (earlier_never (earlier_of v) found.Newest (λ e same. cc) (λ same. cc) is)
-  newest_by v Equal is = has_newest is
-  newest_by v Greater is = absurd cc
-
-  newest_of : (m : MetaVersion) → IsByVersion db m found.Newest → HasTables db
-  newest_of NotOurs is = absurd cc
-  newest_of Missing is = has_newest is
-  newest_of (Version v) is = newest_by v (nat_cmp v NEWEST) is
-
-  pub found_has : IsFoundAs db found.Newest → HasTables db
-  found_has (inl none) = absurd (let other = none.1 in cc)
-  found_has (inr (some, inl other)) = absurd (let never = other.1 in cc)
-  found_has (inr (some, inr (stands, is))) = newest_of (meta_version db) is
 
   never_newest : IsNewest db found.Empty → ⊥
   never_newest (inl it) = let other = it.1 in cc
