@@ -1,4 +1,4 @@
 pub mod AdoptLemmas
-mod FoundLemmas
+pub mod FoundLemmas
 mod ToldLemmas
 pub mod LookLemmas

@@ -22,7 +22,7 @@ use Rattle.bike_adoption.specs.declared.looking.Looked.{Looked}
 use Rattle.bike_adoption.specs.declared.looking.Looked.TheVariants as look
 use Rattle.bike_desk.specs.Desk.{DeskValue, IsAt, desk_over, desk_state}
 use Rattle.bike_audit.specs.Audit.{IsAudited}
-use Rattle.bike_audit.specs.Watching.{IsFront, IsFrontTo}
+use Rattle.bike_audit.specs.Watching.{IsFront, AreToldTo}
 use Rattle.bike_audit.specs.declared.finding.Finding.{Finding}
 use Rattle.bike_audit.specs.declared.finding.Finding.TheVariants as finding
 
@@ -67,7 +67,7 @@ IsWantFor _ = ⊥
 
 -- the tables of which a watch was told before it
 abbrev pub AreToldBefore : AdoptCause → List Table → Type 0
-AreToldBefore (Unsound bad) told = IsFrontTo EVERY_TABLE bad.table told
+AreToldBefore (Unsound bad) told = AreToldTo bad.table told
 AreToldBefore NoMemory told = IsFront EVERY_TABLE told
 AreToldBefore StoreFailed told = IsFront EVERY_TABLE told
 AreToldBefore _ told = told ≡ []

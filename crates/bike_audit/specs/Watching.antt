@@ -1,7 +1,8 @@
 -- What a watch is told of.
-use Rattle.std.specs.Prelude.{◌≡◌, List, [], ◌∷◌, ◌++◌, Option, Some, None, option_map, Result, Ok, Err}
+use Rattle.std.specs.Prelude.{◌≡◌, ◌⊎◌, List, [], ◌∷◌, ◌++◌, Option, Some, None, option_map, Result, Ok, Err}
 use Rattle.bike_schema.specs.declared.fault.StatementFault.{StatementFault}
 use Rattle.bike_recognition.specs.declared.table.TableName.{TableName}
+use Rattle.bike_recognition.specs.declared.table.TableName.TheVariants.{Kept}
 use Rattle.bike_recognition.specs.declared.stands.TheConstants.{EVERY_TABLE}
 use Rattle.bike_audit.specs.declared.tables.BadRow.{BadRow}
 use Rattle.bike_audit.specs.declared.finding.Finding.{Finding}
@@ -28,9 +29,13 @@ AreTold tables (Ok None) told = told ≡ tables
 AreTold tables (Ok (Some bad)) told = IsFrontTo tables bad.table told
 AreTold tables (Err fault) told = IsFront tables told
 
+-- those up to the bad row's; none where two rows of `kept` have one key, for then no table is audited
+abbrev pub AreToldTo : TableName → List TableName → Type 0
+AreToldTo last told = IsFrontTo EVERY_TABLE last told ⊎ ((last ≡ Kept) × (told ≡ []))
+
 -- so of a database that is found to be this: none where its tables aren't audited
 abbrev pub AreToldOf : Result Finding StatementFault → List TableName → Type 0
 AreToldOf (Ok finding.Sound) told = told ≡ EVERY_TABLE
-AreToldOf (Ok (finding.Unsound bad)) told = IsFrontTo EVERY_TABLE bad.table told
+AreToldOf (Ok (finding.Unsound bad)) told = AreToldTo bad.table told
 AreToldOf (Ok _) told = told ≡ []
 AreToldOf (Err fault) told = IsFront EVERY_TABLE told

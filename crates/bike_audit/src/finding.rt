@@ -1,14 +1,17 @@
 //! What a database is, and whether its tables stand for an operator.
 
+ghost use Rattle.std.specs.Prelude.{[]};
 ghost use Rattle.bike_rows.specs.Calls.{ReadsWhere};
 ghost use Rattle.bike_schema.specs.Tables.{HasTables};
 ghost use Rattle.bike_recognition.specs.Recognition.{ReadsAny};
-ghost use Rattle.bike_audit.specs.Audit.{IsAudited, IsByRules};
+ghost use Rattle.bike_audit.specs.Audit.{IsAudited, IsByRules, IsDoubledFinding};
+ghost use Rattle.bike_recognition.specs.Keys.{KeptLies};
 ghost use Rattle.bike_audit.specs.Watching.{WasTold, AreToldOf};
 
 use crate::tables::{BadRow, first_bad_row};
 use crate::watch::Watch;
-use bike_recognition::{Recognition, check_open, recognise};
+use bike_judges::BadKey;
+use bike_recognition::{Recognition, TableName, check_open, doubled_key, recognise};
 use bike_rows::inside::obeys_schema;
 use bike_schema::StatementFault;
 use sqlite::{Alter, Connection};
@@ -23,7 +26,8 @@ pub enum Finding {
     Sound,
     /// It has some of the names, and isn't the product's.
     Foreign,
-    /// All tables stand, in the newest version; this is the first row that is not an operator's.
+    /// All tables stand, in the newest version, but perhaps for keys of `kept`; this is the first row that is not an
+    /// operator's, or one of two rows of `kept` that have one key.
     Unsound(BadRow),
     /// It is of this earlier version of the schema.
     Older(u64),
@@ -49,8 +53,23 @@ fn audit_tables<S: Alter, P: Watch>(
     }
 }
 
+/// The caller and key that two rows of `kept` have, where that is all that a database lacks.
+fn find_doubled<S: Alter>(conn: &mut Connection<S>) -> Result<Finding, StatementFault>
+    ensures found { ReadsWhere S.Store KeptLies conn.old conn.new result IsDoubledFinding }
+    ensures watched { AreToldOf result [] }
+{
+    match doubled_key(conn)? {
+        Some(key) => Ok(Finding::Unsound(BadRow {
+            table: TableName::Kept,
+            key: BadKey::Columns(key, 2),
+        })),
+        // It was recognised otherwise.
+        None => Err(StatementFault::StoreFailed),
+    }
+}
+
 /// What the database is; it stays as it is. `NoMemory` where memory is refused, `StoreFailed` where the store fails. `watch` is
-/// told of each table before it is judged.
+/// told of each table before it is judged; of none where two rows of `kept` have one key, which is told before all else.
 pub fn audit<S: Alter, P: Watch>(
     alloc: Global,
     conn: &mut Connection<S>,
@@ -64,6 +83,7 @@ pub fn audit<S: Alter, P: Watch>(
         Recognition::Foreign => Ok(Finding::Foreign),
         Recognition::Older(version) => Ok(Finding::Older(version)),
         Recognition::Newer(version) => Ok(Finding::Newer(version)),
+        Recognition::Doubled => find_doubled(conn),
         Recognition::Ours => audit_tables(alloc, conn, watch),
     }
 }

@@ -13,3 +13,4 @@ pub mod SoundNumbers
 pub mod FoundKeys
 pub mod FoundNumbers
 pub mod FoundColumns
+pub mod MayLemmas

@@ -3,3 +3,4 @@ pub mod Written
 pub mod MovedBooks
 pub mod ChangedBooks
 pub mod Accepted
+pub mod May

@@ -1,5 +1,6 @@
 -- The law of an accepted request: its row changes lead to the tables of the operator after it.
-use Rattle.std.specs.Prelude.{◌≡◌, ℕ, List, Ok, IfSome}
+use Rattle.std.specs.Prelude.{◌≡◌, ℕ, List, Ok, None, IfSome}
+use Rattle.std.specs.FinMap as fin
 use Rattle.bike_fields.specs.Caller.{caller_text}
 use Rattle.bike_ledger.specs.Ledger.{cash_of, revenue_of, IsBalance}
 use Rattle.bike_commands.specs.declared.request.Request.{Request}
@@ -7,12 +8,12 @@ use Rattle.bike_commands.specs.Commands.{text_of}
 use Rattle.bike_commands.specs.Replies.{reply_text}
 use Rattle.bike_operator.specs.Operator.{Operator}
 use Rattle.bike_operator.specs.Steps.{reply_of}
-use Rattle.bike_operator.specs.Runs.{after_acceptance}
+use Rattle.bike_operator.specs.Runs.{key_in, after_acceptance}
 use Rattle.bike_operator.specs.Sound.{IsSound}
 use Rattle.bike_book.specs.declared.row_change.RowChange.{RowChange}
-use Rattle.bike_book.specs.Stored.{Listed, IsListing}
+use Rattle.bike_book.specs.Stored.{Listed, IsListing, tables_for}
 use Rattle.bike_book.specs.Leads.{LeadsTo}
-use Rattle.bike_book.specs.Writes.{writes_of}
+use Rattle.bike_book.specs.Writes.{writes_of, MayWriteAll}
 use Rattle.bike_accepted.specs.declared.accepted.Accepted.{Accepted}
 use Rattle.bike_accepted.specs.Effects.{Decides}
 use Rattle.bike_accepted.specs.Found.{AreFound}
@@ -47,6 +48,13 @@ abbrev pub BooksAccepted : Type 0
 BooksAccepted =
     (s : Operator) (m : Listed) (now : ℕ) (q : Request) (a : Accepted) (n : Stored) (texts : KeptTexts) (rows : List RowChange)
     → IsAccepted s m now q a n texts → writes_of rows ≡ writes_of_accepted now n texts a → Books rows s m now q
+
+-- Where the request's key isn't kept, each of them may be written after those before it.
+abbrev pub MayBeWritten : Type 0
+MayBeWritten =
+    (s : Operator) (m : Listed) (now : ℕ) (q : Request) (a : Accepted) (n : Stored) (texts : KeptTexts) (rows : List RowChange)
+    → IsAccepted s m now q a n texts → fin.get s.kept (key_in q) ≡ None → writes_of rows ≡ writes_of_accepted now n texts a
+    → MayWriteAll (writes_of rows) (tables_for s m)
 
 -- Where an entry is booked, it is added to the entries of a sound operator, which are fewer than there may be: its sums take one more.
 abbrev pub SumsTakeOneMore : Type 0

@@ -21,7 +21,8 @@ use Rattle.bike_operator.specs.Runs.{step, outcome_with_kept, outcome, after_acc
 use Rattle.bike_laws.proofs.OrderLemmas.{step_sound}
 use Rattle.bike_laws.proofs.RetryLemmas.{first_kept}
 use Rattle.bike_book.specs.declared.row_change.RowChange.{RowChange}
-use Rattle.bike_book.specs.Stored.{Listed, IsListing}
+use Rattle.bike_book.specs.Stored.{Listed, IsListing, tables_for}
+use Rattle.bike_book.specs.Writes.{writes_of, MayWriteAll}
 use Rattle.bike_schema.specs.Tables.{tables_of}
 use Rattle.bike_schema.specs.Stands.{Stores, Keeps}
 use Rattle.bike_office_reads.specs.declared.kept.KeptRow.{KeptRow}
@@ -72,10 +73,11 @@ acceptance_moves s t q anew free same =
     let none : map.get (step s t q).1.kept (key_in q) ≡ None = ap (λ (o : Operator). map.get o.kept (key_in q)) same ∙ anew in cc
 
 -- what is booked leads on, from the same rows after a read
-pub booked_next : (old new : State) (s : Operator) (now : ℕ) (q : Request) (h : Stores old.now s) (rows : List RowChange) → new.now ≡ old.now → Keeps new s → IsSound (after_acceptance s now q) → Books rows s h.listed now q → IsNextBy new rows s (after_acceptance s now q)
-booked_next old new s now q h rows same keeps sound books =
-    let again : Stores new.now s = record { has = keeps.tables; sound = h.sound; listed = h.listed; listing = h.listing; tables = ap tables_of same ∙ h.tables } in
-    record { keeps = keeps; stores = again; listed = books.listed; leads = books.leads; sound = sound }
+pub booked_next : (old new : State) (s : Operator) (now : ℕ) (q : Request) (h : Stores old.now s) (rows : List RowChange) → new.now ≡ old.now → Keeps new s → IsSound (after_acceptance s now q) → MayWriteAll (writes_of rows) (tables_for s h.listed) → Books rows s h.listed now q → IsNextBy new rows s (after_acceptance s now q)
+booked_next old new s now q h rows same keeps sound may books =
+    let tables = ap tables_of same ∙ h.tables in
+    let again : Stores new.now s = record { has = keeps.tables; sound = h.sound; listed = h.listed; listing = h.listing; tables = tables } in
+    record { keeps = keeps; stores = again; listed = books.listed; leads = books.leads; may = subst (MayWriteAll (writes_of rows)) (sym tables) may; sound = sound }
 
 -- an acceptance of which is known what is stored
 pub accepts_stored : (s : Operator) (m : Listed) (now : ℕ) (q : Request) (a : Accepted) (sums : Sums) (texts : KeptTexts) (n : Stored)
@@ -94,6 +96,7 @@ accepts_stored s m now q a sums texts n sound listing it moved is = record {
 pub accepts_read : (db : Database) (s : Operator) (t now : ℕ) (q : Request) (figures : Figures) (x : Sight) (a : Accepted) (later : Figures) (texts : KeptTexts) → IsSound s → IsReadFor db s t now q figures x → IsRequest q
     → Decides s now q.command (Ok a) → AreFound now s a → later ≡ figures_after figures now a → AreTexts s now q texts → Accepts s now q a later.sums texts
 accepts_read db s t now q figures x a later texts sound it good decides found after told = record {
+  anew = it.anew;
   decides = decides;
   found = found;
   sums_are = ap (λ (f : Figures). f.sums) after ∙ ap (λ (f : Figures). sums_after f.sums a.entry) it.figures_are;

@@ -19,6 +19,8 @@ use Rattle.bike_accepted.specs.Found.{AreFound}
 use Rattle.bike_book.specs.declared.row_change.RowChange.{RowChange}
 use Rattle.bike_book.specs.Stored.{Listed}
 use Rattle.bike_book.specs.Leads.{LeadsTo}
+use Rattle.bike_book.specs.Writes.{writes_of, MayWriteAll}
+use Rattle.bike_schema.specs.Tables.{tables_of}
 use Rattle.bike_schema.specs.Stands.{Stores, Keeps}
 use Rattle.bike_booking.specs.declared.texts.KeptTexts.{KeptTexts}
 use Rattle.bike_booking.specs.declared.figures.Figures.{Figures}
@@ -37,12 +39,13 @@ pub record IsAsked (asked : Asked) : Type 0 where
   pub caller : asked.caller.now ≡ caller_text asked.request.now.caller
   pub text : asked.text.now ≡ text_of asked.request.now.command
 
--- The connection keeps the operator, and the row changes lead from its tables to those of the next one, which is sound.
+-- The connection keeps the operator, and the row changes lead from its tables to those of the next one, which is sound; each may be written after those before it.
 pub record IsNextBy (c : State) (changes : List RowChange) (s next : Operator) : Type 0 where
   pub keeps : Keeps c s
   pub stores : Stores c.now s
   pub listed : Listed
   pub leads : LeadsTo changes s stores.listed next listed
+  pub may : MayWriteAll (writes_of changes) (tables_of c.now)
   pub sound : IsSound next
 
 -- what was read for the command of the operator whose tables the database has
@@ -58,8 +61,9 @@ pub record IsReadFor (db : Database) (s : Operator) (moment now : ℕ) (q : Requ
   pub view_is : x.view ≡ view_of s q.command
   pub sight : IsSightOf db s q.command x
 
--- The operator accepts the request so, and then is sound; the records before are its own, the sums those with its entry, and the texts those of both.
+-- The operator, which keeps nothing under its key, accepts the request so, and then is sound; the records before are its own, the sums those with its entry, and the texts those of both.
 pub record Accepts (s : Operator) (now : ℕ) (q : Request) (a : Accepted) (sums : Sums) (texts : KeptTexts) : Type 0 where
+  pub anew : map.get s.kept (key_in q) ≡ None
   pub decides : Decides s now q.command (Ok a)
   pub found : AreFound now s a
   pub sums_are : sums ≡ sums_after (sums_of s) a.entry

@@ -1,2 +1,3 @@
 mod StationsTexts
 mod StandsLemmas
+mod FoundLemmas

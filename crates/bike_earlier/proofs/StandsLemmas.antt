@@ -3,13 +3,14 @@ use Rattle.std.proofs.Common.{◌≡◌, inl, inr, ◌∙◌, List, [], ◌∷�
 use Rattle.std.specs.Prelude.{◌↔◌}
 use Rattle.std.specs.List.{AllByRecursion}
 use Rattle.std.proofs.lemmas.Bool.{true≢false, both_ways}
+use Rattle.sqlite_schema.specs.declared.schema.Schema.{Schema}
 use Rattle.sqlite.specs.Effect.{Database}
 use Rattle.bike_sql.specs.Found.{IsPlainTable}
 use Rattle.bike_rows.specs.Layout.{table_of}
 use Rattle.bike_rows.specs.Stands.{Stands}
-use Rattle.bike_rows.proofs.KeyLemmas.{IsKeyOf, columns_key_at}
-use Rattle.bike_book.specs.Tables.{TableName, keys_of, is_table, Meta, System, Plans, Segments, Types, Regions, Stations, Docks, Bikes, Trucks, Riders, Rentals, Orders, Entries, Kept, Counts, MoreNames}
-use Rattle.bike_schema.specs.Layouts.{layout_of, every_table}
+use Rattle.bike_rows.proofs.KeyLemmas.{IsKeyOf, columns_unique_at}
+use Rattle.bike_book.specs.Tables.{TableName, keys_of, is_table, Regions, Stations, MoreNames}
+use Rattle.bike_schema.specs.Layouts.{layout_in, every_table}
 use Rattle.bike_schema.proofs.TableLemmas.{of_every}
 use Rattle.bike_recognition.specs.Recognition.{TableStands}
 use Rattle.bike_recognition.proofs.StandLemmas.{no_defaults_in}
@@ -24,8 +25,8 @@ stations_plain First = no_defaults_in (stations_layout First) refl
 stations_plain Second = no_defaults_in (stations_layout Second) refl
 
 pub stations_key : (e : Earlier) → IsKeyOf 1 (stations_layout e)
-stations_key First = (columns_key_at 1 (stations_layout First) 0 (1 ∷ []) refl refl refl (λ row. refl)).key
-stations_key Second = (columns_key_at 1 (stations_layout Second) 0 (1 ∷ []) refl refl refl (λ row. refl)).key
+stations_key First = (columns_unique_at 1 (stations_layout First) 0 (1 ∷ []) refl refl refl (λ row. refl)).key
+stations_key Second = (columns_unique_at 1 (stations_layout Second) 0 (1 ∷ []) refl refl refl (λ row. refl)).key
 
 -- ---- a table
 
@@ -38,24 +39,8 @@ stations_is Stations is = refl
 stations_is _ is = absurd (true≢false (sym is))
 
 -- every other table is as it is today
-other_layout : (e : Earlier) (t : TableName) → is_table Stations t ≡ false → layout_at e t ≡ layout_of t
-other_layout e Meta is = refl
-other_layout e System is = refl
-other_layout e Plans is = refl
-other_layout e Segments is = refl
-other_layout e Types is = refl
-other_layout e Regions is = refl
-other_layout e Stations is = absurd (true≢false is)
-other_layout e Docks is = refl
-other_layout e Bikes is = refl
-other_layout e Trucks is = refl
-other_layout e Riders is = refl
-other_layout e Rentals is = refl
-other_layout e Orders is = refl
-other_layout e Entries is = refl
-other_layout e Kept is = refl
-other_layout e Counts is = refl
-other_layout e MoreNames is = refl
+other_layout : (e : Earlier) (s : Schema) (t : TableName) → is_table Stations t ≡ false → layout_at e s t ≡ layout_in s t
+other_layout e s t is = rw is refl
 
 pub stations_stand_at : (e : Earlier) (db : Database) (t : TableName) → is_table Stations t ≡ true → (stands : Bool) → (IsTrue stands ↔ Stands db 1 (stations_layout e)) → IsTrue stands ↔ StandsAt e db t
 stations_stand_at First db t is stands h = subst (λ u. IsTrue stands ↔ StandsAt First db u) (sym (stations_is t is)) ((λ yes. record { stands = λ there. h.0 yes }), λ at. h.1 (at.stands refl))
@@ -63,7 +48,7 @@ stations_stand_at Second db t is stands h = subst (λ u. IsTrue stands ↔ Stand
 
 pub other_stands_at : (e : Earlier) (db : Database) (t : TableName) → is_table Stations t ≡ false → has_table e t ≡ true → (stands : Bool) → (IsTrue stands ↔ TableStands t db) → IsTrue stands ↔ StandsAt e db t
 other_stands_at e db t is has stands h =
-    let layout = other_layout e t is in
+    let layout = other_layout e db.schema t is in
     ((λ yes. record { stands = λ there. subst (λ l. Stands db (keys_of t) l) (sym layout) (h.0 yes) }), λ at. h.1 (subst (λ l. Stands db (keys_of t) l) layout (at.stands has)))
 
 -- ---- all tables

@@ -1,5 +1,5 @@
 -- How a database holds the tables at an earlier version of the schema.
-use Rattle.std.specs.Prelude.{◌≡◌, ◌⊎◌, ℕ, Bool, true, false, List, [], ◌∷◌, ◌++◌, map, take, codes, IsTrue}
+use Rattle.std.specs.Prelude.{◌≡◌, ◌⊎◌, ℕ, Bool, true, false, if◌then◌else◌, List, [], ◌∷◌, ◌++◌, map, take, codes, IsTrue}
 use Rattle.std.specs.List.{list_all}
 use Rattle.sqlite_value.specs.declared.value.Value.TheVariants.{Null}
 use Rattle.sqlite_value.specs.Order.{Row}
@@ -7,8 +7,8 @@ use Rattle.sqlite_schema.specs.declared.schema.Schema.{Schema}
 use Rattle.sqlite.specs.Effect.{Database}
 use Rattle.bike_rows.specs.Layout.{Layout}
 use Rattle.bike_rows.specs.Stands.{rows_of, Stands}
-use Rattle.bike_book.specs.Tables.{TableName, Tables, Regions, Stations, MoreNames, keys_of, tables_by}
-use Rattle.bike_schema.specs.Layouts.{layout_of, name_of}
+use Rattle.bike_book.specs.Tables.{TableName, Tables, is_table, Regions, Stations, MoreNames, keys_of, tables_by}
+use Rattle.bike_schema.specs.Layouts.{layout_of, layout_in, name_of}
 use Rattle.bike_schema.specs.Tables.{is_unused}
 use Rattle.bike_earlier.specs.declared.earlier.Earlier.{Earlier}
 use Rattle.bike_earlier.specs.declared.earlier.Earlier.TheVariants.{First, Second}
@@ -43,9 +43,9 @@ has_table First _ = true
 has_table Second MoreNames = false
 has_table Second _ = true
 
-abbrev pub layout_at : Earlier → TableName → Layout
-layout_at e Stations = stations_layout e
-layout_at e t = layout_of t
+-- the table as it has to stand at the version in this schema: all but that of stations as at the newest
+abbrev pub layout_at : Earlier → Schema → TableName → Layout
+layout_at e schema t = if is_table Stations t then stations_layout e else layout_in schema t
 
 -- THE ROWS that a database holds at the version, as those of today: a table that the version doesn't have has none
 abbrev pub rows_at : Earlier → Database → TableName → List Row
@@ -59,7 +59,7 @@ tables_at e db = tables_by (rows_at e db)
 
 -- The table stands, if the version has it.
 pub record StandsAt (e : Earlier) (db : Database) (t : TableName) : Type 0 where
-  pub stands : IsTrue (has_table e t) → Stands db (keys_of t) (layout_at e t)
+  pub stands : IsTrue (has_table e t) → Stands db (keys_of t) (layout_at e db.schema t)
 
 abbrev pub HasTablesAt : Earlier → Database → Type 0
 HasTablesAt e db = (t : TableName) → StandsAt e db t

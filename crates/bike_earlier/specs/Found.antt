@@ -7,7 +7,7 @@ use Rattle.sqlite.specs.Effect.{Database}
 use Rattle.bike_book.specs.declared.version.TheConstants.{NEWEST}
 use Rattle.bike_book.specs.Tables.{Meta}
 use Rattle.bike_schema.specs.Tables.{HasTables, HasNone}
-use Rattle.bike_recognition.specs.Recognition.{TableStands, meta_version}
+use Rattle.bike_recognition.specs.Recognition.{TableStands, IsDoubledAlone, meta_version}
 use Rattle.bike_recognition.specs.declared.version.MetaVersion.{MetaVersion}
 use Rattle.bike_recognition.specs.declared.version.MetaVersion.TheVariants.{Missing, Version, NotOurs}
 use Rattle.bike_earlier.specs.declared.earlier.Earlier.{Earlier}
@@ -20,9 +20,13 @@ use Rattle.bike_earlier.specs.declared.found.Found.TheVariants as found
 abbrev pub earlier_of : ℕ → Option Earlier
 earlier_of n = if n == 1 then Some First else (if n == 2 then Some Second else None)
 
--- at the newest version: all tables stand, or some doesn't
+-- all tables stand, but perhaps for two rows of `kept` that have one key
+abbrev pub IsWhole : Database → Type 0
+IsWhole db = HasTables db ⊎ IsDoubledAlone db
+
+-- at the newest version: all tables stand so, or some doesn't
 abbrev pub IsNewest : Database → Found → Type 0
-IsNewest db f = (HasTables db × (f ≡ found.Newest)) ⊎ ((¬ HasTables db) × (f ≡ found.Foreign))
+IsNewest db f = (IsWhole db × (f ≡ found.Newest)) ⊎ ((¬ IsWhole db) × (f ≡ found.Foreign))
 
 -- at an earlier one: it is of that version, or it isn't
 abbrev pub IsOfEarlier : Database → Option Earlier → Found → Type 0

@@ -11,7 +11,7 @@ use crate::earlier::Earlier;
 use crate::stands::is_at;
 use bike_book::NEWEST;
 use bike_recognition::{
-    MetaVersion, TableName, check_open, find_version, missing_table, table_stands,
+    MetaVersion, Recognition, TableName, check_open, find_version, recognise_tables, table_stands,
 };
 use bike_schema::{StatementFault, has_none};
 use sqlite::{Alter, Connection};
@@ -23,7 +23,7 @@ use std::cmp::Ordering;
 pub enum Found {
     /// It has no table of the product's names.
     Empty,
-    /// It is of the newest version: all tables stand.
+    /// It is of the newest version: all tables stand, but perhaps for two rows of `kept` that have one key.
     Newest,
     /// It is of this earlier version: its tables stand, and the names of later ones are free.
     Of(Earlier),
@@ -48,9 +48,9 @@ fn earlier_of(version: u64) -> Option<Earlier>
 fn find_newest<S: Alter>(alloc: Global, conn: &mut Connection<S>) -> Result<Found, StatementFault>
     ensures { ReadsAny S.Store conn.old conn.new result IsNewest }
 {
-    match missing_table(alloc, conn)? {
-        Some(_) => Ok(Found::Foreign),
-        None => Ok(Found::Newest),
+    match recognise_tables(alloc, conn)? {
+        Recognition::Ours | Recognition::Doubled => Ok(Found::Newest),
+        _ => Ok(Found::Foreign),
     }
 }
 

@@ -8,13 +8,12 @@ ghost use Rattle.bike_operator.specs.View.{is_at_limit};
 ghost use Rattle.bike_book.specs.Tables.{Regions};
 ghost use Rattle.bike_book.specs.Found.{row_under, rows_of};
 ghost use Rattle.bike_schema.specs.Answers.{Answers};
-ghost use Rattle.bike_office_reads.specs.Within.{rows_from};
+ghost use Rattle.bike_schema.specs.Within.{rows_from};
 
 use bike_fields::Ident;
-use bike_office_reads::{END, are_at_least};
 use bike_operator::MOST_REGIONS;
 use bike_rows::lookup::first_row;
-use bike_schema::StatementFault;
+use bike_schema::{END, StatementFault, are_at_least};
 use sqlite::{Alter, Connection, Row, params};
 
 /// The regions whose identifiers lie between two values, both among them, in byte order.

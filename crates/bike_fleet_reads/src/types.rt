@@ -8,15 +8,14 @@ ghost use Rattle.bike_operator.specs.View.{is_at_limit};
 ghost use Rattle.bike_book.specs.Tables.{Types};
 ghost use Rattle.bike_book.specs.Found.{row_under, rows_of};
 ghost use Rattle.bike_schema.specs.Answers.{Answers};
-ghost use Rattle.bike_office_reads.specs.Within.{rows_from};
+ghost use Rattle.bike_schema.specs.Within.{rows_from};
 ghost use Rattle.bike_fleet_reads.specs.Holds.{HoldsAny, HoldsPlan};
 
 use bike_book::columns::types;
 use bike_fields::Ident;
-use bike_office_reads::{END, are_at_least};
 use bike_operator::MOST_TYPES;
 use bike_rows::lookup::first_row;
-use bike_schema::{StatementFault, ident_at};
+use bike_schema::{END, StatementFault, are_at_least, ident_at};
 use sqlite::{Alter, Connection, Row, params};
 use std::alloc::Global;
 

@@ -9,7 +9,8 @@ use Rattle.sqlite_schema.specs.Names.{table_named}
 use Rattle.sqlite.specs.Effect.{Database, IsDatabase}
 use Rattle.bike_rows.specs.Stands.{rows_of, Stands, Indexes}
 use Rattle.bike_book.specs.Tables.{TableName, keys_of, rows_in, tables_by, with_rows, Meta, System, Plans, Segments, Types, Regions, Stations, Docks, Bikes, Trucks, Riders, Rentals, Orders, Entries, Kept, Counts, MoreNames}
-use Rattle.bike_schema.specs.Layouts.{layout_of, name_of}
+use Rattle.bike_schema.specs.Layouts.{layout_of, layout_in, has_primary, name_of}
+use Rattle.bike_schema.proofs.LayoutLemmas.{all_by}
 use Rattle.bike_schema.specs.Makes.{OthersStay}
 use Rattle.bike_schema.specs.Tables.{is_parent, is_unused}
 use Rattle.bike_earlier.specs.declared.earlier.Earlier.{Earlier}
@@ -83,14 +84,14 @@ newer_unnamed e db it = all_unnamed (newer_names e) db it.free
 module _ (old new : Database) where
   -- the table has the rows that it had at the earlier version
   record Becomes (t : TableName) (rows : List Row) : Type 0 where
-    stands : Stands new (keys_of t) (layout_of t)
+    stands : Stands new (keys_of t) (layout_in old.schema t)
     rows_are : rows_of (keys_of t) (name_of t) new ≡ rows
 
-  kept : (t : TableName) → AllStay old new → Stands old (keys_of t) (layout_of t) → Becomes t (rows_of (keys_of t) (name_of t) old)
-  kept t stay was = let s = stay (keys_of t) (layout_of t) was in record { stands = s.stands; rows_are = s.rows }
+  kept : (t : TableName) → AllStay old new → Stands old (keys_of t) (layout_in old.schema t) → Becomes t (rows_of (keys_of t) (name_of t) old)
+  kept t stay was = let s = stay (keys_of t) (layout_in old.schema t) was in record { stands = s.stands; rows_are = s.rows }
 
-  made : (t : TableName) → IsEmpty new t → Becomes t []
-  made t it = record { stands = it.stands; rows_are = it.no_rows }
+  made : (t : TableName) → Stands new (keys_of t) (layout_in old.schema t) → rows_of (keys_of t) (name_of t) new ≡ [] → Becomes t []
+  made t stands none = record { stands = stands; rows_are = none }
 
   abbrev stations_none : Earlier → TableName → List Row
   stations_none e t = rows_in (with_rows Stations [] (tables_at e old)) t
@@ -101,7 +102,7 @@ module _ (old new : Database) where
   whole : (e : Earlier) → IsDatabase new → AllStay old new → HasNameIndexes new.schema → Spares [] old new → ((t : TableName) → Becomes t (stations_none e t)) → MakesTables e old new
   whole e sound stay indexes spares each = record {
     sound = sound;
-    has = λ t. (each t).stands;
+    has = all_by new (has_primary old.schema (name_of Kept)) (λ t. (each t).stands);
     tables = ap tables_by (fun_ext (λ t. (each t).rows_are));
     indexes = indexes;
     others = others_stay stay;
@@ -115,7 +116,7 @@ module _ (old new : Database) where
   second_each has it Segments = kept Segments it.stays ((has Segments).stands refl)
   second_each has it Types = kept Types it.stays ((has Types).stands refl)
   second_each has it Regions = kept Regions it.stays ((has Regions).stands refl)
-  second_each has it Stations = made Stations (record { stands = it.stations; no_rows = it.no_stations })
+  second_each has it Stations = made Stations it.stations it.no_stations
   second_each has it Docks = kept Docks it.stays ((has Docks).stands refl)
   second_each has it Bikes = kept Bikes it.stays ((has Bikes).stands refl)
   second_each has it Trucks = kept Trucks it.stays ((has Trucks).stands refl)
@@ -125,7 +126,7 @@ module _ (old new : Database) where
   second_each has it Entries = kept Entries it.stays ((has Entries).stands refl)
   second_each has it Kept = kept Kept it.stays ((has Kept).stands refl)
   second_each has it Counts = kept Counts it.stays ((has Counts).stands refl)
-  second_each has it MoreNames = made MoreNames (record { stands = it.names; no_rows = it.no_names })
+  second_each has it MoreNames = made MoreNames it.names it.no_names
 
   pub makes_second : HasTablesAt Second old → MakesNewer old new → MakesTables Second old new
   makes_second has it = whole Second it.sound it.stays it.indexes it.spares (second_each has it)
@@ -136,8 +137,8 @@ module _ (old new : Database) where
   first_each mid has regions it stay Plans = kept Plans stay ((has Plans).stands refl)
   first_each mid has regions it stay Segments = kept Segments stay ((has Segments).stands refl)
   first_each mid has regions it stay Types = kept Types stay ((has Types).stands refl)
-  first_each mid has regions it stay Regions = made Regions (empty_stays mid new Regions it.stays (made_empty Regions old mid regions))
-  first_each mid has regions it stay Stations = made Stations (record { stands = it.stations; no_rows = it.no_stations })
+  first_each mid has regions it stay Regions = (let empty = empty_stays mid new Regions it.stays (made_empty Regions old mid regions) in made Regions empty.stands empty.no_rows)
+  first_each mid has regions it stay Stations = made Stations it.stations it.no_stations
   first_each mid has regions it stay Docks = kept Docks stay ((has Docks).stands refl)
   first_each mid has regions it stay Bikes = kept Bikes stay ((has Bikes).stands refl)
   first_each mid has regions it stay Trucks = kept Trucks stay ((has Trucks).stands refl)
@@ -147,7 +148,7 @@ module _ (old new : Database) where
   first_each mid has regions it stay Entries = kept Entries stay ((has Entries).stands refl)
   first_each mid has regions it stay Kept = kept Kept stay ((has Kept).stands refl)
   first_each mid has regions it stay Counts = kept Counts stay ((has Counts).stands refl)
-  first_each mid has regions it stay MoreNames = made MoreNames (record { stands = it.names; no_rows = it.no_names })
+  first_each mid has regions it stay MoreNames = made MoreNames it.names it.no_names
 
   pub makes_first : (mid : Database) → HasTablesAt First old → MakesTable Regions old mid → MakesNewer mid new → MakesTables First old new
   makes_first mid has regions it =

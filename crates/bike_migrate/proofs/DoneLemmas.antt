@@ -7,8 +7,9 @@ use Rattle.std.proofs.lemmas.List.Folds.{list_any-append}
 use Rattle.sqlite_value.specs.Order.{Row}
 use Rattle.sqlite.specs.Effect.{Database}
 use Rattle.bike_rows.specs.Stands.{is_same_text, Stands, Stays}
-use Rattle.bike_book.specs.Tables.{TableName, Tables, MoreNames, keys_of, tables_by}
-use Rattle.bike_schema.specs.Layouts.{layout_of, name_of, every_table}
+use Rattle.bike_book.specs.Tables.{TableName, Tables, Kept, MoreNames, keys_of, tables_by}
+use Rattle.bike_schema.specs.Layouts.{layout_in, has_primary, name_of, every_table}
+use Rattle.bike_schema.proofs.LayoutLemmas.{all_by}
 use Rattle.bike_schema.specs.Makes.{is_our_name}
 use Rattle.bike_schema.specs.Tables.{tables_of, other_names}
 use Rattle.bike_schema.proofs.TableLemmas.{every_false}
@@ -68,8 +69,8 @@ pub old_stays : (e : Earlier) (a b : Database) → IsEarlier e a → Fills e a b
 old_stays e a b was filled = (filled.others 1 (stations_layout e) (old_other e) (old_table e a was.is_at)).stands
 
 module _ (e : Earlier) (a b c : Database) (filled : Fills e a b) (dropped : DropsStations e b c) where
-  still : (t : TableName) → Stays b c (keys_of t) (layout_of t)
-  still t = dropped.others (keys_of t) (layout_of t) (every_false (λ u. is_same_text (name_of u) (stations_name e)) (old_apart e) t) (filled.raised.has t)
+  still : (t : TableName) → Stays b c (keys_of t) (layout_in b.schema t)
+  still t = dropped.others (keys_of t) (layout_in b.schema t) (every_false (λ u. is_same_text (name_of u) (stations_name e)) (old_apart e) t) (filled.raised.has t)
 
   kept : OthersKept a c
   kept keys layout other was =
@@ -85,7 +86,7 @@ module _ (e : Earlier) (a b c : Database) (filled : Fills e a b) (dropped : Drop
   raises = record {
     raised = record {
       sound = dropped.sound;
-      has = λ t. (still t).stands;
+      has = all_by c (has_primary b.schema (name_of Kept)) (λ t. (still t).stands);
       tables = ap tables_by (fun_ext (λ t. (still t).rows)) ∙ filled.raised.tables;
     };
     gone = dropped.gone;

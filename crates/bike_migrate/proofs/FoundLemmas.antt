@@ -15,7 +15,8 @@ use Rattle.bike_schema.specs.Tables.{HasTables, HasNone}
 use Rattle.bike_recognition.specs.Recognition.{ReadsAny, meta_version}
 use Rattle.bike_recognition.specs.declared.version.MetaVersion.{MetaVersion}
 use Rattle.bike_recognition.specs.declared.version.MetaVersion.TheVariants.{Missing, Version, NotOurs}
-use Rattle.bike_audit.specs.Audit.{row_name}
+use Rattle.bike_audit.specs.Audit.{row_name, IsAudited, IsBadIn}
+use Rattle.bike_audit.specs.declared.finding.Finding.TheVariants as finding
 use Rattle.bike_audit.specs.declared.tables.BadRow.{BadRow}
 use Rattle.bike_earlier.specs.declared.earlier.Earlier.{Earlier}
 use Rattle.bike_earlier.specs.declared.earlier.Earlier.TheVariants.{First, Second}
@@ -24,7 +25,7 @@ use Rattle.bike_earlier.specs.declared.found.Found.TheVariants as found
 use Rattle.bike_earlier.specs.Earlier.{number_of, IsAt}
 use Rattle.bike_earlier.specs.Found.{earlier_of, IsNewest, IsOfEarlier, IsByNumber, IsByVersion, IsFoundAs}
 use Rattle.bike_migrate.specs.Raised.{IsEarlier, Raises, tables_raised}
-use Rattle.bike_migrate.specs.Raising.{MayCommit, BecomesAt, RaisesInPlace, IsOutcome, MayCommitAny, ComesTo, cause_of}
+use Rattle.bike_migrate.specs.Raising.{IsOnNewest, MayCommit, IsAsBefore, BecomesAt, RaisesInPlace, IsOutcome, MayCommitAny, ComesTo, cause_of}
 use Rattle.bike_migrate.specs.Verdicts.{AllGoodBefore, IsVerdictBefore}
 use Rattle.bike_migrate.specs.declared.fault.RaiseCause.{RaiseCause}
 
@@ -71,29 +72,10 @@ module _ (db : Database) (e : Earlier) where
 -- ---- found to be of the newest version, or to have none of the tables
 
 module _ (db : Database) where
-  has_newest : IsNewest db found.Newest → HasTables db
-  has_newest (inl it) = it.0
-  has_newest (inr it) = absurd (let other = it.1 in cc)
-
   earlier_never : (o : Option Earlier) (f : Found) → ((e : Earlier) → f ≡ found.Of e → ⊥) → (f ≡ found.Foreign → ⊥) → IsOfEarlier db o f → ⊥
   earlier_never None f other foreign is = foreign is
   earlier_never (Some e) f other foreign (inl it) = other e it.1
   earlier_never (Some e) f other foreign (inr it) = foreign it.1
-
-  newest_by : (v : ℕ) (o : Ordering) → IsByNumber db v o found.Newest → HasTables db
-  newest_by v Less is = absurd (earlier_never (earlier_of v) found.Newest (λ e same. cc) (λ same. cc) is)
-  newest_by v Equal is = has_newest is
-  newest_by v Greater is = absurd cc
-
-  newest_of : (m : MetaVersion) → IsByVersion db m found.Newest → HasTables db
-  newest_of NotOurs is = absurd cc
-  newest_of Missing is = has_newest is
-  newest_of (Version v) is = newest_by v (nat_cmp v NEWEST) is
-
-  pub found_has : IsFoundAs db found.Newest → HasTables db
-  found_has (inl none) = absurd (let other = none.1 in cc)
-  found_has (inr (some, inl other)) = absurd (let never = other.1 in cc)
-  found_has (inr (some, inr (stands, is))) = newest_of (meta_version db) is
 
   never_newest : IsNewest db found.Empty → ⊥
   never_newest (inl it) = let other = it.1 in cc
@@ -132,6 +114,36 @@ module _ (db : Database) where
       by First Second same = absurd (cc)
       by Second First same = absurd (cc)
       by Second Second same = refl
+
+-- ---- what came of it, where it is of the newest version
+
+module _ {S : Type 0} (g : Ghosts S) (old mid : Held S) {E : Type 0} (read : ReadsAny {E = E} g old mid (Ok found.Newest) IsFoundAs) (new : Held S) (bad : Option BadRow) {F : Type 0} (audited : ReadsAny {E = F} g mid new (Ok bad) IsOnNewest) (outside : old.in_transaction ≡ false) where
+  first_clean : HasCleanDisk (state g new) → HasCleanDisk (state g mid)
+  first_clean clean = omega (arith, clean, audited.quiet.survives.clean)
+
+  first_same : HasCleanDisk (state g new) → IsUnchanged (state g old) (state g mid)
+  first_same clean = read.same (first_clean clean) tt
+
+  both_before : HasCleanDisk (state g new) → IsAsBefore g old new
+  both_before clean =
+      let first = (first_same clean).0 in
+      let second = (audited.same clean tt).0 in
+      record { was_open = first.was_open; is_open = second.is_open; now_is = second.now_is ∙ first.now_is; committed_is = second.committed_is ∙ first.committed_is; mode = second.mode ∙ first.mode ∙ outside }
+
+  newest_outcome : (b : Option BadRow) → HasCleanDisk (state g new) → IsOnNewest (state g mid).now b → IsOutcome g old new (cause_of None b)
+  newest_outcome None clean is =
+      inl (inl (read.found (first_clean clean) tt, subst (λ d. IsAudited d finding.Sound) (first_same clean).0.now_is is, both_before clean))
+  newest_outcome (Some row) clean is =
+      ((read.found (first_clean clean) tt, subst (λ d. IsBadIn d row) (first_same clean).0.now_is is), both_before clean)
+
+  pub comes_newest : ComesTo g old new (Ok (cause_of None bad))
+  comes_newest = record {
+    comes = λ clean. newest_outcome bad clean (audited.found clean tt);
+    outside = audited.quiet.mode (read.quiet.mode outside);
+    ended = λ clean. audited.quiet.mode (read.quiet.mode outside);
+    survives = survives_then (state g old) (state g mid) (state g new) _ _ _ (λ clean db none. absurd none) (λ clean db none. absurd none)
+        (quiet_survives read.quiet tt) (quiet_survives audited.quiet tt);
+  }
 
 -- ---- what came of it, where it was raised
 

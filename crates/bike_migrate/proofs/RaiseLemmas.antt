@@ -11,21 +11,23 @@ use Rattle.bike_schema.specs.Tables.{tables_of, HasNone}
 use Rattle.bike_schema.specs.declared.fault.StatementFault.{StatementFault}
 use Rattle.bike_schema.specs.declared.fault.StatementFault.TheVariants as statement
 use Rattle.bike_readings.specs.ReadOff.{operator_of}
-use Rattle.bike_readings.specs.Rules.{AllGood, IsVerdict}
+use Rattle.bike_readings.specs.Rules.{AllGood}
 use Rattle.bike_readings.proofs.RulesLaws.{of_are_good, stored_good, stored_bad}
-use Rattle.bike_audit.specs.Audit.{row_name}
+use Rattle.bike_audit.specs.Audit.{row_name, IsBadIn}
 use Rattle.bike_earlier.specs.declared.earlier.Earlier.{Earlier}
 use Rattle.bike_earlier.specs.declared.found.Found.{Found}
 use Rattle.bike_earlier.specs.declared.found.Found.TheVariants as found
 use Rattle.bike_earlier.specs.Found.{IsFoundAs}
 use Rattle.bike_earlier.specs.Stores.{StoresAt, StandsForAt, TreesStandForAt}
+use Rattle.bike_recognition.specs.declared.recognition.Recognition.TheVariants as recognition
 use Rattle.bike_desk.proofs.KeepLemmas.{Settles, stands_in}
+use Rattle.bike_adoption.proofs.FoundLemmas.{ours_there}
 use Rattle.bike_migrate.specs.Raised.{OthersKept, tables_raised, Raises}
 use Rattle.bike_migrate.specs.Raising.{Holds, IsUnsoundAt, IsUnsound, MayCommitAny, TreesStandSince, failed, IsAsBefore, IsRaisedFrom, IsReady, IsToldBy, IsOutcome, ComesTo, IsWantFor, IsOutsideFor, IsRaise}
 use Rattle.bike_migrate.specs.declared.fault.RaiseCause.{RaiseCause}
 use Rattle.bike_migrate.specs.declared.fault.RaiseCause.TheVariants as cause
 use Rattle.bike_migrate.specs.declared.fault.UnsoundRow.{UnsoundRow}
-use Rattle.bike_migrate.proofs.FoundLemmas.{found_earlier, found_has, found_none, never_both, one_earlier}
+use Rattle.bike_migrate.proofs.FoundLemmas.{found_earlier, found_none, never_both, one_earlier}
 use Rattle.bike_migrate.proofs.OperatorLemmas.{raised_for, stores_raised, good_stores, stored_all_good}
 use Rattle.bike_migrate.proofs.StandsLemmas.{stands_here, found_empty, IsFoundOf, Nothing, Whole, Before, found_there}
 
@@ -39,12 +41,13 @@ all_good e db s it = of_are_good (tables_raised e db) s it.listed (record { soun
 unsound_never : (db : Database) (v : Option Earlier) (s : Operator) → StandsForAt v db s → (bad : UnsoundRow) → IsUnsound db bad → ⊥
 unsound_never db v s stands bad = by bad.earlier
   where
-    newest : IsFoundOf db found.Newest s → IsVerdict (tables_of db) (Some (row_name bad.row)) → ⊥
-    newest (Nothing none nobody is) verdict = cc
-    newest (Whole stores is) verdict = stored_bad db (row_name bad.row) verdict s stores
-    newest (Before e stores is) verdict = cc
+    newest : IsFoundOf db found.Newest s → IsBadIn db bad.row → ⊥
+    newest (Nothing none nobody is) it = cc
+    newest (Whole stores is) (inl it) = stored_bad db (row_name bad.row) it.1.1 s stores
+    newest (Whole stores is) (inr it) = let never = ours_there db s stores recognition.Doubled it.0 in cc
+    newest (Before e stores is) it = cc
 
-    by : (w : Option Earlier) → IsUnsoundAt db w (row_name bad.row) → ⊥
+    by : (w : Option Earlier) → IsUnsoundAt db w bad.row → ⊥
     by None it = newest (found_there db found.Newest v s stands it.0) it.1
     by (Some e) it = earlier (found_there db (found.Of e) v s stands it.0)
       where
@@ -172,7 +175,7 @@ module _ {S : Type 0} (g : Ghosts S) (settles : Settles g) (old : Held S) (settl
       where
         by : IsOutcome g old new None → (v : Option Earlier) × (s : Operator) × StandsForAt v db s × Holds (state g new) s
         by (inl (inl (is, verdict, before))) =
-            let stores = stored_good db (found_has db is) verdict in
+            let stores = stored_good db verdict.1.0 verdict.1.1 in
             (None, operator_of (tables_of db), record { sound = (live before.was_open).0; is = inr stores }, holds_before (operator_of (tables_of db)) before (inr stores))
         by (inl (inr (is, before))) =
             let nobody : HasNone db.schema × (no_operator ≡ no_operator) = (found_none db is, refl) in

@@ -12,9 +12,9 @@ use Rattle.bike_rows.specs.View.{row_with}
 use Rattle.bike_ledger.specs.Ledger.{cash_of, revenue_of}
 use Rattle.bike_operator.specs.Operator.{Operator, no_operator}
 use Rattle.bike_book.specs.declared.version.TheConstants.{NEWEST}
-use Rattle.bike_book.specs.Tables.{Tables, Meta, keys_of}
+use Rattle.bike_book.specs.Tables.{TableName, Tables, Meta, keys_of}
 use Rattle.bike_book.proofs.LedgerRows.{meta_found}
-use Rattle.bike_schema.specs.Layouts.{layout_of, name_of}
+use Rattle.bike_schema.specs.Layouts.{layout_in, name_of}
 use Rattle.bike_schema.specs.Stands.{Stores, IsOf}
 use Rattle.bike_schema.specs.Tables.{tables_of, HasTables, HasNone}
 use Rattle.bike_schema.proofs.MakesLemmas.{rows_of_table}
@@ -49,12 +49,18 @@ module _ (a b : Schema) (trees : Trees) (same : a.tables ≡ b.tables) where
   across : (keys : ℕ) (layout : Layout) → Stands (with_schema a trees) keys layout → Stands (with_schema b trees) keys layout
   across keys layout it = of_bare b keys layout (subst (λ ts. Stands (bare ts trees) keys layout) same (to_bare a keys layout it))
 
+  table_across : (t : TableName) → Stands (with_schema a trees) (keys_of t) (layout_in a t) → Stands (with_schema b trees) (keys_of t) (layout_in b t)
+  table_across t it = of_bare b (keys_of t) (layout_in b t) (subst (λ ts. Stands (bare ts trees) (keys_of t) (layout_in (bare ts trees).schema t)) same (to_bare a (keys_of t) (layout_in a t) it))
+
+  at_across : (e : Earlier) (t : TableName) → Stands (with_schema a trees) (keys_of t) (layout_at e a t) → Stands (with_schema b trees) (keys_of t) (layout_at e b t)
+  at_across e t it = of_bare b (keys_of t) (layout_at e b t) (subst (λ ts. Stands (bare ts trees) (keys_of t) (layout_at e (bare ts trees).schema t)) same (to_bare a (keys_of t) (layout_at e a t) it))
+
   none_across : HasNone a → HasNone b
   none_across none = subst (λ ts. HasNone (record { tables = ts; indexes = []; views = [] })) same none
 
   stores_across : (s : Operator) → Stores (with_schema a trees) s → Stores (with_schema b trees) s
   stores_across s it = record {
-    has = λ t. across (keys_of t) (layout_of t) (it.has t);
+    has = λ t. table_across t (it.has t);
     sound = it.sound;
     listed = it.listed;
     listing = it.listing;
@@ -76,7 +82,7 @@ module _ (a b : Schema) (trees : Trees) (same : a.tables ≡ b.tables) where
   stores_at_across : (e : Earlier) (s : Operator) → StoresAt e (with_schema a trees) s → StoresAt e (with_schema b trees) s
   stores_at_across e s it = record {
     is_at = record {
-      has = λ t. record { stands = λ has. across (keys_of t) (layout_at e t) ((it.is_at.has t).stands has) };
+      has = λ t. record { stands = λ has. at_across e t ((it.is_at.has t).stands has) };
       free = free_across e it.is_at.free;
     };
     sound = it.sound;
@@ -102,7 +108,7 @@ found_empty db f none (inr it) = absurd (it.0 none)
 module _ (db : Database) (f : Found) where
   newest_is : HasTables db → IsNewest db f → f ≡ found.Newest
   newest_is has (inl it) = it.1
-  newest_is has (inr it) = absurd (it.0 has)
+  newest_is has (inr it) = absurd (it.0 (inl has))
 
   earlier_is : (e : Earlier) → IsAt e db → IsOfEarlier db (Some e) f → f ≡ found.Of e
   earlier_is e at (inl it) = it.1

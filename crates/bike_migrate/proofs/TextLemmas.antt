@@ -39,17 +39,17 @@ use Rattle.bike_rows.proofs.IndexLaw.{IsOnlyIndex}
 use Rattle.bike_rows.proofs.SetLaw.{some_terms}
 use Rattle.bike_rows.proofs.TextLemmas.{IsUpdate, update_means, IsSelect}
 use Rattle.bike_rows.proofs.SelectLaws.{every_column, ordered_rows}
-use Rattle.bike_rows.proofs.KeyLemmas.{IsKeyAt, columns_key_at}
+use Rattle.bike_rows.proofs.KeyLemmas.{IsKeyAt}
 use Rattle.bike_rows.proofs.WriteLaws.{row_put, row_updated, row_terms, width}
 use Rattle.bike_book.specs.declared.version.TheConstants.{NEWEST}
 use Rattle.bike_book.specs.Tables.{TableName, Meta, Stations, MoreNames, keys_of}
 use Rattle.bike_book.specs.Rows.{number_value}
 use Rattle.bike_book.specs.Writes.{Add}
-use Rattle.bike_schema.specs.Calls.{WasFree}
+use Rattle.bike_schema.specs.Calls.{WasFree, Admits}
 use Rattle.bike_schema.specs.Layouts.{layout_of, name_of}
 use Rattle.bike_schema.specs.Makes.{Puts}
 use Rattle.bike_schema.specs.Tables.{IsOurs, tables_of, is_parent}
-use Rattle.bike_schema.proofs.KeyLemmas.{table_key}
+use Rattle.bike_schema.proofs.KeyLemmas.{unique_key}
 use Rattle.bike_schema.proofs.MakeFacts.{text_of, declared, index_only}
 use Rattle.bike_schema.proofs.MakeTexts.{IsOnlyCreate, understood_as}
 use Rattle.bike_schema.proofs.MakesLemmas.{adds_row, sets_columns}
@@ -146,16 +146,16 @@ updates_version = (λ tree. (refl, refl, refl), refl)
 pub version_writes : (db : Database) → IsOurs db → IsWriteIn db.schema version_text
 version_writes db ours = let it = ours.has Meta in means_writes db.schema version_text _ (update_means version_query (layout_of Meta) version_text updates_version db.schema it.at it.tree it.has).0 tt
 
-pub sets_version : Does IsOurs (λ db. WasFree version_write (tables_of db)) (Puts (version_write ∷ [])) version_text (number_value 1 ∷ number_value NEWEST ∷ [])
+pub sets_version : Does (Admits version_write) (λ db. WasFree version_write (tables_of db)) (Puts (version_write ∷ [])) version_text (number_value 1 ∷ number_value NEWEST ∷ [])
 unfolding everything
-sets_version = sets_columns Meta _ _ (row_updated (table_key Meta) 0 ((2, 1) ∷ []) _ (λ tree. (refl, refl, refl), refl) refl refl refl (λ r. refl) (λ r. refl))
+sets_version = sets_columns Meta _ _ (λ s. row_updated (unique_key Meta) 0 ((2, 1) ∷ []) _ (λ tree. (refl, refl, refl), refl) refl refl refl (λ r. refl) (λ r. refl))
 
 -- the version is set, and nothing else
 pub version_set : (old new : State) → IsOurs old.now → (count : ℕ) → ExecutesInside 0 version_text (number_value 1 ∷ number_value NEWEST ∷ []) old new (Ok count) → WritesOnly (version_write ∷ []) old.now new.now
 version_set old new ours count ran =
     let it = ours.has Meta in
     record {
-      makes = (sets_version.does old new ours (Ok count) ran).0.makes;
+      makes = (sets_version.does old new (ours, tt) (Ok count) ran).0.makes;
       spares = spares_less filled_names (name_of Meta ∷ []) old.now new.now (among_first (name_of Meta) (name_of Stations ∷ []))
           (spares_updating (layout_of Meta) (keys_of Meta) old new it version_text _ count _ (update_means version_query (layout_of Meta) version_text updates_version old.now.schema it.at it.tree it.has) ran.0);
     }
@@ -221,9 +221,9 @@ bound_all cs vs h = absurd (let e = h in cc)
 pub station_bound : (row : Row) → IsStationRow row → map bound_value (station_row row) ≡ station_row row
 station_bound row it = bound_all (layout_of Stations).columns (station_row row) (station_suits row it)
 
-pub adds_station : (row : Row) → IsStationRow row → Does IsOurs (λ db. WasFree (Add Stations (station_row row)) (tables_of db)) (Puts (Add Stations (station_row row) ∷ [])) station_text (station_row row)
+pub adds_station : (row : Row) → IsStationRow row → Does (Admits (Add Stations (station_row row))) (λ db. WasFree (Add Stations (station_row row)) (tables_of db)) (Puts (Add Stations (station_row row) ∷ [])) station_text (station_row row)
 unfolding everything
-adds_station row it = let suit = station_suits row it in adds_row Stations (row_put (table_key Stations) inserts_station refl suit (λ rows. refl))
+adds_station row it = let suit = station_suits row it in adds_row Stations (λ s. row_put (unique_key Stations) inserts_station refl suit (λ rows. refl))
 
 -- the station is added, and nothing else
 pub station_added : (row : Row) → IsStationRow row → (old new : State) → IsOurs old.now → (count : ℕ) → ExecutesInside 0 station_text (station_row row) old new (Ok count) → WritesOnly (Add Stations (station_row row) ∷ []) old.now new.now
@@ -231,7 +231,7 @@ station_added row suits old new ours count ran =
     let it = ours.has Stations in
     let values = Values (row_terms (layout_of Stations)) (width (layout_of Stations)) in
     record {
-      makes = ((adds_station row suits).does old new ours (Ok count) ran).0.makes;
+      makes = ((adds_station row suits).does old new (ours, λ is. absurd cc) (Ok count) ran).0.makes;
       spares = spares_less filled_names (name_of Stations ∷ []) old.now new.now (among_rest (name_of Meta) (name_of Stations ∷ []))
           (spares_inserting (layout_of Stations) (keys_of Stations) old new it station_text (station_row row) count (width (layout_of Stations)) (row_terms (layout_of Stations))
           (insert_is old.now.schema it.at (table_of (layout_of Stations) it.tree) it.has station_text values (inserts_station old.now.schema it.tree)) ran.0);
@@ -268,10 +268,10 @@ second_drops = (refl, refl)
 -- ---- SELECT of all old stations
 
 first_key : IsKeyAt 1 (stations_layout First) (1 ∷ [])
-first_key = columns_key_at 1 (stations_layout First) 0 (1 ∷ []) refl refl refl (λ row. refl)
+first_key = record { first = λ row. refl }
 
 second_key : IsKeyAt 1 (stations_layout Second) (1 ∷ [])
-second_key = columns_key_at 1 (stations_layout Second) 0 (1 ∷ []) refl refl refl (λ row. refl)
+second_key = record { first = λ row. refl }
 
 first_selects : IsSelect (table_query 0 [] (by_columns (1 ∷ [])) (every_column (stations_layout First))) (stations_layout First) (codes "SELECT * FROM stations ORDER BY station_id")
 unfolding everything

@@ -12,11 +12,11 @@ use Rattle.bike_book.specs.Tables.{TableName, Stations}
 use Rattle.bike_schema.specs.Layouts.{name_of}
 use Rattle.bike_schema.specs.Makes.{Continues}
 use Rattle.bike_schema.specs.Stands.{AllLeft, StandsFor, TreesStandFor}
-use Rattle.bike_schema.specs.Tables.{tables_of, HasNone}
+use Rattle.bike_schema.specs.Tables.{HasNone}
 use Rattle.bike_schema.specs.declared.fault.StatementFault.{StatementFault}
 use Rattle.bike_schema.specs.declared.fault.StatementFault.TheVariants as statement
-use Rattle.bike_readings.specs.Rules.{IsFirstBad, IsVerdict}
-use Rattle.bike_audit.specs.Audit.{row_name}
+use Rattle.bike_audit.specs.Audit.{row_name, IsAudited, IsBadIn}
+use Rattle.bike_audit.specs.declared.finding.Finding.TheVariants as finding
 use Rattle.bike_audit.specs.declared.tables.BadRow.{BadRow}
 use Rattle.bike_earlier.specs.declared.earlier.Earlier.{Earlier}
 use Rattle.bike_earlier.specs.declared.found.Found.TheVariants as found
@@ -37,13 +37,18 @@ abbrev pub name_at : Option Earlier → TableName → List ℕ
 name_at (Some e) Stations = stations_name e
 name_at v t = name_of t
 
--- the database is of the version, and this is the first bad row of its tables
-abbrev pub IsUnsoundAt : Database → Option Earlier → TableName × Row → Type 0
-IsUnsoundAt db None bad = IsFoundAs db found.Newest × IsFirstBad (tables_of db) bad.0 bad.1
-IsUnsoundAt db (Some e) bad = IsFoundAs db (found.Of e) × IsFirstBadBefore (tables_raised e db) bad.0 bad.1
+-- the database is of the version, and this is the first bad row of its tables; at the newest the audit says which
+abbrev pub IsUnsoundAt : Database → Option Earlier → BadRow → Type 0
+IsUnsoundAt db None bad = IsFoundAs db found.Newest × IsBadIn db bad
+IsUnsoundAt db (Some e) bad = IsFoundAs db (found.Of e) × IsFirstBadBefore (tables_raised e db) (row_name bad).0 (row_name bad).1
 
 abbrev pub IsUnsound : Database → UnsoundRow → Type 0
-IsUnsound db bad = IsUnsoundAt db bad.earlier (row_name bad.row)
+IsUnsound db bad = IsUnsoundAt db bad.earlier bad.row
+
+-- what the audit tells of a database of the newest version
+abbrev pub IsOnNewest : Database → Option BadRow → Type 0
+IsOnNewest db None = IsAudited db finding.Sound
+IsOnNewest db (Some bad) = IsBadIn db bad
 
 -- ---- what comes back
 
@@ -167,7 +172,7 @@ module _ {S : Type 0} (g : Ghosts S) where
   -- it is of the newest version and sound, or has none of the tables, and is as it was
   abbrev pub IsReady : Held S → Held S → Type 0
   IsReady old new =
-      (IsFoundAs (state g old).now found.Newest × IsVerdict (tables_of (state g old).now) None × IsAsBefore old new)
+      (IsFoundAs (state g old).now found.Newest × IsAudited (state g old).now finding.Sound × IsAsBefore old new)
       ⊎ (IsFoundAs (state g old).now found.Empty × IsAsBefore old new)
 
   -- What the cause tells of the database. Want of memory and a failed store tell nothing of it.

@@ -3,11 +3,11 @@
 ghost use Rattle.std.specs.Prelude.{◌≡◌, false, None, option_map, OnOk};
 ghost use Rattle.sqlite.specs.Held.{state};
 ghost use Rattle.sqlite.specs.State.{HasCleanDisk, Survives};
-ghost use Rattle.bike_audit.specs.Audit.{row_name, IsVerdictOn};
+ghost use Rattle.bike_audit.specs.Audit.{row_name};
 ghost use Rattle.bike_recognition.specs.Recognition.{ReadsAny};
 ghost use Rattle.bike_migrate.specs.Calls.{DoesInside};
 ghost use Rattle.bike_migrate.specs.Raised.{WasRead};
-ghost use Rattle.bike_migrate.specs.Raising.{IsJudged, Attempts, IsCommitted, IsUndone, CommitsBy, EndsTransaction};
+ghost use Rattle.bike_migrate.specs.Raising.{IsOnNewest, IsJudged, Attempts, IsCommitted, IsUndone, CommitsBy, EndsTransaction};
 ghost use Rattle.bike_migrate.specs.Raising.{RaisesInPlace, cause_of, ComesTo, IsRaise};
 
 use crate::build::{build, drop_stations};
@@ -147,7 +147,7 @@ fn audit_newest<S: Alter, P: Watch>(
     conn: &mut Connection<S>,
     watch: &mut P,
 ) -> Result<Option<BadRow>, StatementFault>
-    ensures { ReadsAny S.Store conn.old conn.new result IsVerdictOn }
+    ensures { ReadsAny S.Store conn.old conn.new result IsOnNewest }
 {
     match audit(alloc, conn, watch)? {
         Finding::Sound => Ok(None),

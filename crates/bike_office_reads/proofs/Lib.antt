@@ -2,7 +2,6 @@ pub mod CollectLaws
 pub mod TextLemmas
 pub mod RowLemmas
 pub mod SegmentLemmas
-pub mod WithinLaw
 pub mod NameLemmas
 pub mod NewestRows
 pub mod OpenLemmas

@@ -26,8 +26,8 @@ use Rattle.bike_book.specs.Stored.{stored_name}
 use Rattle.bike_schema.proofs.KeyLemmas.{table_key}
 use Rattle.bike_office_reads.specs.Accounts.{system_key}
 use Rattle.bike_office_reads.specs.ReadRows.{named_in, owned_name, is_name_within, IsOwnedName}
-use Rattle.bike_office_reads.proofs.SegmentLemmas.{ListsIn}
-use Rattle.bike_office_reads.proofs.WithinLaw.{within_tests, within_test, within_itself}
+use Rattle.bike_schema.proofs.ListedLemmas.{ListsIn}
+use Rattle.bike_schema.proofs.WithinLaw.{within_tests, within_test, within_itself}
 
 -- the identifier, the language and the name, where they are stored
 abbrev name_columns : List Term

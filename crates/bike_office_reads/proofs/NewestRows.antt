@@ -61,7 +61,7 @@ use Rattle.bike_schema.proofs.KeyLemmas.{table_key}
 use Rattle.bike_book.specs.Found.{IsLast, rows_open}
 use Rattle.bike_office_reads.specs.declared.newest.Ride.{Ride}
 use Rattle.bike_office_reads.specs.Newest.{newest_rental, number_if_open, open_number_in, number_in, open_after, ride_of}
-use Rattle.bike_office_reads.proofs.SegmentLemmas.{ListsIn}
+use Rattle.bike_schema.proofs.ListedLemmas.{ListsIn}
 
 -- ---- the row with the last key
 

@@ -15,31 +15,31 @@ use Rattle.bike_schema.specs.Tables.{tables_of}
 use Rattle.bike_schema.proofs.AnswerLemmas.{FindsIn, keyed_in}
 use Rattle.bike_schema.proofs.CountLemmas.{counted_in}
 use Rattle.bike_schema.proofs.KeyLemmas.{table_key}
-use Rattle.bike_office_reads.specs.Within.{rows_from}
-use Rattle.bike_office_reads.proofs.SegmentLemmas.{ListsIn}
-use Rattle.bike_office_reads.proofs.WithinLaw.{keyed_within, lists_within}
+use Rattle.bike_schema.specs.Within.{rows_from}
+use Rattle.bike_schema.proofs.ListedLemmas.{ListsIn}
+use Rattle.bike_schema.proofs.WithinLaw.{keyed_within, lists_within}
 
 -- ---- rows by their keys
 
 pub finds_meta : FindsIn (codes "SELECT * FROM meta WHERE one = ?1") (number_value 1 ∷ []) (λ t. row_with 1 (number_value 1 ∷ []) t.meta)
 unfolding everything
-finds_meta = keyed_in Meta (λ tree. refl, refl) refl
+finds_meta = keyed_in Meta (λ s. (λ tree. refl, refl)) refl
 
 pub finds_system : FindsIn (codes "SELECT * FROM system WHERE one = ?1") (number_value 1 ∷ []) (λ t. row_with 1 (number_value 1 ∷ []) t.system)
 unfolding everything
-finds_system = keyed_in System (λ tree. refl, refl) refl
+finds_system = keyed_in System (λ s. (λ tree. refl, refl)) refl
 
 pub finds_rider : (rider : ℕ) → FindsIn (codes "SELECT * FROM riders WHERE rider = ?1") (number_value rider ∷ []) (λ t. row_with 1 (number_value rider ∷ []) t.riders)
 unfolding everything
-finds_rider rider = keyed_in Riders (λ tree. refl, refl) refl
+finds_rider rider = keyed_in Riders (λ s. (λ tree. refl, refl)) refl
 
 pub finds_rental : (rental : ℕ) → FindsIn (codes "SELECT * FROM rentals WHERE rental = ?1") (number_value rental ∷ []) (λ t. row_with 1 (number_value rental ∷ []) t.rentals)
 unfolding everything
-finds_rental rental = keyed_in Rentals (λ tree. refl, refl) refl
+finds_rental rental = keyed_in Rentals (λ s. (λ tree. refl, refl)) refl
 
 pub finds_kept : (caller key : List ℕ) → FindsIn (codes "SELECT * FROM kept WHERE caller = ?1 AND req_key = ?2") (Text caller ∷ Text key ∷ []) (λ t. row_with 2 (Text caller ∷ Text key ∷ []) t.kept)
 unfolding everything
-finds_kept caller key = keyed_in Kept (λ tree. refl, refl) refl
+finds_kept caller key = keyed_in Kept (λ s. (λ tree. refl, refl)) refl
 
 -- ---- last rows
 
@@ -74,14 +74,14 @@ plans_text = codes "SELECT * FROM plans WHERE plan_id >= ?1 AND plan_id <= ?2 OR
 
 pub finds_plan : (plan : List ℕ) → FindsIn plans_text (Text plan ∷ Text plan ∷ []) (λ t. row_with 1 (Text plan ∷ []) t.plans)
 unfolding everything
-finds_plan plan = keyed_within Plans 1 (Text plan) refl (λ r. refl) (λ tree. refl, refl)
+finds_plan plan = keyed_within Plans 1 (Text plan) refl (λ r. refl) (λ s. (λ tree. refl, refl))
 
 pub lists_plans_from : (start : List ℕ) → ListsIn plans_text (Text start ∷ Blob [] ∷ []) (λ t. rows_from start t.plans)
 unfolding everything
-lists_plans_from start = lists_within Plans 1 (Text start) (Blob []) refl refl (λ r. refl) (λ tree. refl, refl)
+lists_plans_from start = lists_within Plans 1 (Text start) (Blob []) refl refl (λ r. refl) (λ s. (λ tree. refl, refl))
 
 -- ---- counts
 
 pub counts_riders : FindsIn (codes "SELECT count(*) FROM riders") [] (λ t. Some (count (length t.riders) ∷ []))
 unfolding everything
-counts_riders = counted_in Riders (λ tree. refl, refl)
+counts_riders = counted_in Riders (λ s. (λ tree. refl, refl))

@@ -2,4 +2,3 @@ pub mod Accounts
 pub mod Collect
 pub mod Newest
 pub mod ReadRows
-pub mod Within

@@ -16,7 +16,7 @@ use Rattle.bike_book.specs.Rows.{closing_columns, kept_row}
 use Rattle.bike_book.specs.Stored.{stored_name}
 use Rattle.bike_office_reads.specs.declared.kept.KeptRow.{KeptRow}
 use Rattle.bike_office_reads.specs.Accounts.{KeepsSame}
-use Rattle.bike_office_reads.specs.Within.{is_within}
+use Rattle.bike_schema.specs.Within.{is_within}
 
 -- the row is that of one count
 abbrev pub IsCountOf : ℕ → Row → Type 0

@@ -16,7 +16,6 @@ mod plans;
 mod rentals;
 mod riders;
 mod segments;
-mod within;
 
 pub use collect::{ReadRow, collect_rows, short_text_at};
 pub use entries::entry_count;
@@ -29,4 +28,3 @@ pub use rentals::{
     StoredRental, find_open_rental, find_rental, is_riding, open_rental_count, rental_count,
 };
 pub use riders::{are_riders_full, find_rider, has_rider};
-pub use within::{END, are_at_least};

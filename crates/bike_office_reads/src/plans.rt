@@ -9,16 +9,15 @@ ghost use Rattle.bike_book.specs.Tables.{System, Plans};
 ghost use Rattle.bike_book.specs.Rows.{number_value, plan_row};
 ghost use Rattle.bike_book.specs.Found.{row_under, rows_of};
 ghost use Rattle.bike_schema.specs.Answers.{Answers};
-ghost use Rattle.bike_office_reads.specs.Within.{rows_from};
+ghost use Rattle.bike_schema.specs.Within.{rows_from};
 
 use crate::segments::find_segments;
-use crate::within::{END, are_at_least};
 use bike_book::columns::plans;
 use bike_catalogue::{Plan, Segment};
 use bike_fields::Ident;
 use bike_operator::MOST_PLANS;
 use bike_rows::lookup::first_row;
-use bike_schema::{StatementFault, flag_at, ident_at, name_at, number_at};
+use bike_schema::{END, StatementFault, are_at_least, flag_at, ident_at, name_at, number_at};
 use sqlite::{Alter, Connection, Row, params};
 use std::alloc::Global;
 

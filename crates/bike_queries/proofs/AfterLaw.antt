@@ -13,8 +13,8 @@ use Rattle.sqlite_sql.specs.declared.ops.BinaryOp.TheVariants.{Compare}
 use Rattle.sqlite_sql.specs.declared.ops.CompareOp.TheVariants.{Ge}
 use Rattle.sqlite_rules.specs.Lists.{Has}
 use Rattle.bike_operator.specs.Operator.{text_cmp}
-use Rattle.bike_office_reads.specs.Within.{is_within, rows_from}
-use Rattle.bike_office_reads.proofs.WithinLaw.{from_text, none_below, not_below}
+use Rattle.bike_schema.specs.Within.{is_within, rows_from}
+use Rattle.bike_schema.proofs.WithinLaw.{from_text, none_below, not_below}
 use Rattle.bike_queries.specs.After.{begins_from, first_after, is_from, start_after}
 use Rattle.bike_queries.specs.Pages.{entries_after}
 

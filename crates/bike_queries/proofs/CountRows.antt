@@ -25,7 +25,7 @@ use Rattle.bike_schema.specs.Columns.{text_in}
 use Rattle.bike_fleet_reads.specs.declared.counts.TypeCounts.{TypeCounts}
 use Rattle.bike_fleet_reads.specs.Fleet.{no_counts, type_counts_of}
 use Rattle.bike_fleet_reads.specs.Holds.{HoldsAny, HoldsCounts}
-use Rattle.bike_office_reads.proofs.WithinLaw.{and_true}
+use Rattle.bike_schema.proofs.WithinLaw.{and_true}
 use Rattle.bike_queries.specs.StationCounts.{is_of, AreCountRows}
 
 -- ---- a row of a type

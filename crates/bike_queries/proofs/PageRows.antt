@@ -16,8 +16,8 @@ use Rattle.bike_operator.specs.Names.{part_at, is_name_of}
 use Rattle.bike_operator.specs.Operator.{NameKey, text_cmp}
 use Rattle.bike_book.specs.Stored.{stored_name}
 use Rattle.bike_office_reads.specs.ReadRows.{owned_name, is_name_within}
-use Rattle.bike_office_reads.specs.Within.{is_within}
-use Rattle.bike_office_reads.proofs.WithinLaw.{and_true}
+use Rattle.bike_schema.specs.Within.{is_within}
+use Rattle.bike_schema.proofs.WithinLaw.{and_true}
 use Rattle.bike_queries.specs.Pages.{is_same_text}
 use Rattle.bike_queries.proofs.PageLaw.{and_false}
 

@@ -10,9 +10,9 @@ use Rattle.bike_rows.proofs.SelectLaws.{every_column, rows_passing}
 use Rattle.bike_book.specs.Tables.{Stations, Counts}
 use Rattle.bike_schema.specs.Layouts.{layout_of}
 use Rattle.bike_schema.proofs.KeyLemmas.{table_key}
-use Rattle.bike_office_reads.specs.Within.{rows_within}
-use Rattle.bike_office_reads.proofs.SegmentLemmas.{ListsIn}
-use Rattle.bike_office_reads.proofs.WithinLaw.{and_true, from_test, shows_every, lists_within}
+use Rattle.bike_schema.specs.Within.{rows_within}
+use Rattle.bike_schema.proofs.ListedLemmas.{ListsIn}
+use Rattle.bike_schema.proofs.WithinLaw.{and_true, from_test, shows_every, lists_within}
 use Rattle.bike_queries.proofs.AfterLaw.{from_tests}
 use Rattle.bike_queries.specs.After.{begins_from}
 
@@ -27,4 +27,4 @@ lists_stations_from start = record {
 pub lists_counts_within : (first last : List ℕ)
     → ListsIn (codes "SELECT * FROM counts WHERE station_id >= ?1 AND station_id <= ?2 ORDER BY station_id, type_id") (Text first ∷ Text last ∷ []) (λ t. rows_within (Text first) (Text last) t.counts)
 unfolding everything
-lists_counts_within first last = lists_within Counts 1 (Text first) (Text last) refl refl (λ r. refl) (λ tree. refl, refl)
+lists_counts_within first last = lists_within Counts 1 (Text first) (Text last) refl refl (λ r. refl) (λ s. (λ tree. refl, refl))

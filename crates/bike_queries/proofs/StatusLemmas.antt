@@ -23,7 +23,7 @@ use Rattle.bike_fleet_reads.specs.Fleet.{dock_numbers_of}
 use Rattle.bike_fleet_reads.specs.Holds.{HoldsDockNumbers, columns_at}
 use Rattle.bike_queries.specs.After.{begins_from, HoldsStation, start_after, station_of}
 use Rattle.bike_office_reads.specs.ReadRows.{named_in, owned_name, is_name_within, IsOwnedName}
-use Rattle.bike_office_reads.specs.Within.{rows_within}
+use Rattle.bike_schema.specs.Within.{rows_within}
 use Rattle.bike_office_reads.proofs.NameLemmas.{names_read}
 use Rattle.bike_queries.specs.StationCounts.{AreCountRows}
 use Rattle.bike_queries.specs.Pages.{page_after, IsStationOf, IsStatusOf, AreStatuses, IsNamedStation, AreNamedStations, AreApart, ArePage, EndsWith, id_of, own_rows, IsStoredStation, ReadsStation, ReadsStatus, ReadsNamed}

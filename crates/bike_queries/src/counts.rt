@@ -8,7 +8,7 @@ ghost use Rattle.bike_book.specs.Tables.{Counts as CountRows};
 ghost use Rattle.bike_book.specs.Found.{rows_of};
 ghost use Rattle.bike_schema.specs.Answers.{Answers};
 ghost use Rattle.bike_schema.specs.Tables.{IsOurs, tables_of};
-ghost use Rattle.bike_office_reads.specs.Within.{rows_within};
+ghost use Rattle.bike_schema.specs.Within.{rows_within};
 ghost use Rattle.bike_fleet_reads.specs.Fleet.{type_counts_of};
 ghost use Rattle.bike_fleet_reads.specs.Holds.{HoldsAny, HoldsCounts};
 ghost use Rattle.bike_queries.specs.StationCounts.{Adds, AreCountRows, AreCountsAt, IsTally, counts_with, is_of};

@@ -1,4 +1,8 @@
 mod ClimbLemmas
+pub mod KeptLemmas
+mod KeyClimbLemmas
+mod KeyPassLemmas
+mod KeyTexts
 mod PassLemmas
 mod SchemaLemmas
 pub mod RowidTexts

@@ -1,5 +1,5 @@
 -- The texts that ask for the rowids of each table.
-use Rattle.std.proofs.Common.{◌≡◌, ◌^◌, ℕ, List, [], ◌∷◌, true, false, Ok, Err, nat_lt, nat_le, codes, refl, subst, sym}
+use Rattle.std.proofs.Common.{◌≡◌, ◌^◌, ℕ, List, [], ◌∷◌, Bool, true, false, Ok, Err, nat_lt, nat_le, codes, refl, subst, sym}
 use Rattle.std.proofs.lemmas.Bool.{leb-false, lt-ltb}
 use Rattle.sqlite_sql.specs.Query.{Query}
 use Rattle.sqlite_schema.specs.declared.schema.Schema.{Schema}
@@ -15,7 +15,7 @@ use Rattle.bike_sql.proofs.ReadLaws.{select_is}
 use Rattle.bike_rows.specs.Layout.{Layout, table_of}
 use Rattle.bike_rows.proofs.TextLemmas.{IsSelect, Drafts, alone, select_means}
 use Rattle.bike_book.specs.Tables.{Meta, System, Plans, Segments, Types, Regions, Stations, Docks, Bikes, Trucks, Riders, Rentals, Orders, Entries, Kept, Counts, MoreNames}
-use Rattle.bike_schema.specs.Layouts.{layout_of}
+use Rattle.bike_schema.specs.Layouts.{layout_of, layout_by}
 use Rattle.bike_recognition.specs.Rowids.{rowids_query}
 use Rattle.bike_recognition.specs.Wanted.{AsksRowidsOf}
 
@@ -155,12 +155,13 @@ kept_parsed : IsParsed (codes "SELECT rowid FROM kept ORDER BY rowid")
 unfolding everything
 kept_parsed = (_, refl)
 
-kept_asked : AsksAlone (layout_of Kept) kept_parsed.0
+kept_asked : (keyed : Bool) → AsksAlone (layout_by keyed Kept) kept_parsed.0
 unfolding everything kept_parsed
-kept_asked = (λ tree low. rw (low, low) refl, refl)
+kept_asked true = (λ tree low. rw (low, low) refl, refl)
+kept_asked false = (λ tree low. rw (low, low) refl, refl)
 
-pub kept_rowids : AsksRowidsOf (layout_of Kept) (codes "SELECT rowid FROM kept ORDER BY rowid")
-kept_rowids = by_rowid (layout_of Kept) (codes "SELECT rowid FROM kept ORDER BY rowid") kept_parsed kept_asked
+pub kept_rowids : (keyed : Bool) → AsksRowidsOf (layout_by keyed Kept) (codes "SELECT rowid FROM kept ORDER BY rowid")
+kept_rowids keyed = by_rowid (layout_by keyed Kept) (codes "SELECT rowid FROM kept ORDER BY rowid") kept_parsed (kept_asked keyed)
 
 counts_parsed : IsParsed (codes "SELECT rowid FROM counts ORDER BY rowid")
 unfolding everything

@@ -1,4 +1,5 @@
 pub mod Added
+pub mod Keys
 pub mod Names
 pub mod Recognition
 pub mod Rowids

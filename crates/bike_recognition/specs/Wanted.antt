@@ -3,12 +3,13 @@ use Rattle.std.specs.Prelude.{◌≡◌, ℕ, List, false, Ok}
 use Rattle.sqlite_schema.specs.declared.schema.Schema.{Schema}
 use Rattle.sqlite_schema.specs.declared.schema.Table.{Table}
 use Rattle.sqlite_resolve.specs.Compile.{table_defined_by}
+use Rattle.sqlite.specs.Effect.{Database}
 use Rattle.bike_sql.specs.Found.{IsPlainTable, with_tree}
 use Rattle.bike_sql.specs.Has.{HasTable}
 use Rattle.bike_rows.specs.Answer.{MeansQuery}
 use Rattle.bike_rows.specs.Layout.{Layout, table_of}
 use Rattle.bike_rows.specs.Stands.{is_referred_to}
-use Rattle.bike_recognition.specs.Rowids.{rowids_query}
+use Rattle.bike_recognition.specs.Rowids.{rowids_query, AreApart}
 
 -- The schema has the table in this tree, and no foreign key refers to it.
 pub record HasUnreferred (s : Schema) (wanted : Table) (tree : ℕ) : Type 0 where
@@ -21,6 +22,14 @@ pub record HasWanted (s : Schema) (wanted : Table) : Type 0 where
   pub plain : IsPlainTable wanted
   pub tree : ℕ
   pub there : HasUnreferred s wanted tree
+
+-- The database has a table of this layout, to which no foreign key refers, and its rowids are numbers and apart. Nothing is said of its key.
+pub record Lies (db : Database) (layout : Layout) : Type 0 where
+  pub at : ℕ
+  pub tree : ℕ
+  pub has : HasTable db.schema at (table_of layout tree)
+  pub unreferred : is_referred_to db.schema tree ≡ false
+  pub apart : AreApart (db.trees tree)
 
 -- the CREATE TABLE makes a table of this layout
 abbrev pub Defines : List ℕ → Layout → Type 0

@@ -1,8 +1,9 @@
 //! The tables of the schema by name.
 
-ghost use Rattle.std.specs.Prelude.{◌≡◌, IfOk, IfErr};
+ghost use Rattle.std.specs.Prelude.{◌≡◌, Bool, IfOk, IfErr};
 ghost use Rattle.bike_rows.specs.Layout.{table_of};
-ghost use Rattle.bike_schema.specs.Layouts.{layout_of, name_of};
+ghost use Rattle.bike_book.specs.Tables.{Kept, is_table};
+ghost use Rattle.bike_schema.specs.Layouts.{layout_by, name_of};
 ghost use Rattle.bike_schema.specs.declared.fault.StatementFault.TheVariants.{NoMemory};
 ghost use Rattle.bike_recognition.specs.Names.{table_named};
 ghost use Rattle.bike_recognition.specs.Wanted.{Defines, AsksRowidsOf};
@@ -11,6 +12,18 @@ use bike_schema::{StatementFault, TABLES};
 use sqlite_resolve::define_table;
 use sqlite_schema::schema::Table;
 use std::alloc::Global;
+
+/// The statement that makes `kept` with a PRIMARY KEY, as files of before have it.
+const KEYED_KEPT: &str =
+    "CREATE TABLE kept (caller TEXT NOT NULL, req_key TEXT NOT NULL, command TEXT NOT NULL, \
+     reply TEXT NOT NULL, PRIMARY KEY (caller, req_key)) STRICT";
+
+/// The statement that makes `kept`, with a PRIMARY KEY or none.
+fn kept_definition(keyed: bool) -> &'static str
+    ensures { Defines result.now (layout_by keyed Kept) }
+{
+    if keyed { KEYED_KEPT } else { TABLES[14] }
+}
 
 /// A table of the schema.
 #[derive(Clone, Copy, Debug, PartialEq, Eq)]
@@ -60,9 +73,16 @@ impl TableName {
         }
     }
 
-    /// The statement that makes the table.
-    fn definition(self) -> &'static str
-        ensures { Defines result.now (layout_of (table_named self)) }
+    /// Whether it is `kept`.
+    pub(crate) fn is_kept(self) -> bool
+        ensures { result ≡ is_table (table_named self) Kept }
+    {
+        matches!(self, TableName::Kept)
+    }
+
+    /// The statement that makes the table. `keyed` asks for a `kept` with a PRIMARY KEY.
+    fn definition(self, keyed: bool) -> &'static str
+        ensures { Defines result.now (layout_by keyed (table_named self)) }
     {
         match self {
             TableName::Meta => TABLES[0],
@@ -79,7 +99,7 @@ impl TableName {
             TableName::Rentals => TABLES[11],
             TableName::Orders => TABLES[12],
             TableName::Entries => TABLES[13],
-            TableName::Kept => TABLES[14],
+            TableName::Kept => kept_definition(keyed),
             TableName::Counts => TABLES[15],
             TableName::MoreNames => TABLES[16],
         }
@@ -87,7 +107,7 @@ impl TableName {
 
     /// The query that answers all rowids of the table, in order. Where the key is one number, that is the rowid.
     pub(crate) fn rowids_query(self) -> &'static str
-        ensures { AsksRowidsOf (layout_of (table_named self)) result.now }
+        ensures { (keyed : Bool) → AsksRowidsOf (layout_by keyed (table_named self)) result.now }
     {
         match self {
             TableName::Meta => "SELECT one FROM meta ORDER BY one",
@@ -110,12 +130,12 @@ impl TableName {
         }
     }
 
-    /// The table as the product makes it, in tree 0. Only memory can be refused.
-    pub(crate) fn defined(self, alloc: Global) -> Result<Table, StatementFault>
-        ensures table { IfOk result (λ table. table ≡ table_of (layout_of (table_named self)) 0) }
+    /// The table as the product makes it, in tree 0, `kept` with a PRIMARY KEY where `keyed`. Only memory can be refused.
+    pub(crate) fn defined(self, alloc: Global, keyed: bool) -> Result<Table, StatementFault>
+        ensures table { IfOk result (λ table. table ≡ table_of (layout_by keyed (table_named self)) 0) }
         ensures memory { IfErr result (λ fault. fault ≡ NoMemory) }
     {
-        match define_table(alloc, self.definition().as_bytes()) {
+        match define_table(alloc, self.definition(keyed).as_bytes()) {
             Ok(table) => Ok(table),
             Err(_) => Err(StatementFault::NoMemory),
         }

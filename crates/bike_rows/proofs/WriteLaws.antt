@@ -25,9 +25,9 @@ use Rattle.bike_rows.specs.Queries.{table_query, key_tests, key_in}
 use Rattle.bike_rows.proofs.ListLemmas.{map_map, map_same}
 use Rattle.bike_rows.proofs.CastLemmas.{suit_all, suits_row}
 use Rattle.bike_rows.proofs.CrashLemmas.{done_inside}
-use Rattle.bike_rows.proofs.KeyLemmas.{IsKeyAt}
+use Rattle.bike_rows.proofs.KeyLemmas.{IsKeyAt, IsUniqueAt}
 use Rattle.bike_rows.proofs.TextLemmas.{IsUpdate, update_means, IsDelete, delete_means}
-use Rattle.bike_rows.proofs.InsertLaw.{insert_puts}
+use Rattle.bike_rows.proofs.InsertLaw.{insert_puts, insert_puts_free}
 use Rattle.bike_rows.proofs.SetLaw.{are_exact, some_terms, sets_suit, update_some}
 use Rattle.bike_rows.proofs.UpdateLaw.{update_columns, update_number}
 use Rattle.bike_rows.proofs.RemoveLaw.{remove_row}
@@ -45,6 +45,16 @@ changes_inside {text = text} {params = params} it old new sound was r = done_ins
 -- an INSERT of this row, whose key was free
 abbrev pub Inserts : ℕ → Layout → List ℕ → Row → Type 1
 Inserts keys layout text row = Changes keys layout text row (put_row_by keys row) (IsFree keys row)
+
+-- The same where nothing in the table is UNIQUE, so that the row's key has to be free.
+pub record InsertsFree (keys : ℕ) (layout : Layout) (text : List ℕ) (row : Row) : Type 1 where
+  pub does : (old new : State) → IsDatabase old.now → Stands old.now keys layout → IsFree keys row (rows_of keys layout.name old.now) → (count : ℕ) → Executes text row old new (Ok count)
+      → Sets old.now new.now keys layout (put_row_by keys row (rows_of keys layout.name old.now))
+
+-- Inside a transaction, what is committed is as it was.
+pub inserts_inside : {keys : ℕ} {layout : Layout} {text : List ℕ} {row : Row} (it : InsertsFree keys layout text row) (old new : State) → IsDatabase old.now → Stands old.now keys layout → IsFree keys row (rows_of keys layout.name old.now) → (r : Result ℕ Error) → ExecutesInside 0 text row old new r
+    → OnOk r (Shows old new new.now old.committed true × Sets old.now new.now keys layout (put_row_by keys row (rows_of keys layout.name old.now)))
+inserts_inside {text = text} {row = row} it old new sound was free r = done_inside 0 text row old new r (λ count shown executes. (shown, it.does old new sound was free count executes))
 
 -- an UPDATE of all columns of the row with this row's key, if it is there
 abbrev pub Replaces : ℕ → Layout → List ℕ → Row → Type 1
@@ -84,13 +94,21 @@ row_values layout params = eval_all (row_terms layout) (params ∷ [])
 abbrev pub width : Layout → ℕ
 width layout = length layout.columns + 1
 
-module _ {keys : ℕ} {layout : Layout} {places : List ℕ} (key : IsKeyAt keys layout places) {text : List ℕ} {params : Row} where
+module _ {keys : ℕ} {layout : Layout} {text : List ℕ} {params : Row} where
   -- INSERT INTO the table VALUES (?1, ..)
-  pub row_put : ((s : Schema) (tree : ℕ) → IsInsert s (table_of layout tree) (first text) (Values (row_terms layout) (width layout))) → value_rows params (width layout) (length (row_terms layout) / width layout) (row_terms layout) ≡ row_values layout params ∷ []
+  pub row_put : {places : List ℕ} → IsUniqueAt keys layout places → ((s : Schema) (tree : ℕ) → IsInsert s (table_of layout tree) (first text) (Values (row_terms layout) (width layout))) → value_rows params (width layout) (length (row_terms layout) / width layout) (row_terms layout) ≡ row_values layout params ∷ []
       → suits_row layout.columns (row_values layout params) ≡ true → ((rows : List Row) → columns_of (table_of layout 0) (with_rowid Chosen rows (row_values layout params)) ≡ params) → Inserts keys layout text params
-  row_put is gives suit shows = record {
-    does = λ old new sound was. insert_puts keys layout key.key old new was text params (width layout) (row_terms layout) (row_values layout params) params
-        (insert_is old.now.schema was.at (table_of layout was.tree) was.has text (Values (row_terms layout) (width layout)) (is old.now.schema was.tree)) gives suit shows;
+  row_put key is gives suit shows = record {
+    does = λ old new sound was count ran. insert_puts keys layout old new was text params (width layout) (row_terms layout) (row_values layout params) params
+        (insert_is old.now.schema was.at (table_of layout was.tree) was.has text (Values (row_terms layout) (width layout)) (is old.now.schema was.tree)) gives suit shows count ran key.key;
+  }
+
+  -- the same where nothing is UNIQUE: the key has to be free
+  pub row_put_free : ((s : Schema) (tree : ℕ) → IsInsert s (table_of layout tree) (first text) (Values (row_terms layout) (width layout))) → value_rows params (width layout) (length (row_terms layout) / width layout) (row_terms layout) ≡ row_values layout params ∷ []
+      → suits_row layout.columns (row_values layout params) ≡ true → ((rows : List Row) → columns_of (table_of layout 0) (with_rowid Chosen rows (row_values layout params)) ≡ params) → InsertsFree keys layout text params
+  row_put_free is gives suit shows = record {
+    does = λ old new sound was free count ran. insert_puts_free keys layout old new was text params (width layout) (row_terms layout) (row_values layout params) params
+        (insert_is old.now.schema was.at (table_of layout was.tree) was.has text (Values (row_terms layout) (width layout)) (is old.now.schema was.tree)) gives suit shows count ran free;
   }
 
 -- UPDATE gives each row that it finds its rowid, and the parameters for columns.
@@ -109,25 +127,25 @@ sets_values layout params r =
     by true at = refl
     by false at = refl
 
-module _ {keys : ℕ} {layout : Layout} {places : List ℕ} (key : IsKeyAt keys layout places) {text : List ℕ} {params : Row} where
+module _ {keys : ℕ} {layout : Layout} {places : List ℕ} (key : IsUniqueAt keys layout places) {text : List ℕ} {params : Row} where
   -- UPDATE the table SET each column = its parameter WHERE the key's columns = the first parameters
   pub row_replaced : IsUpdate (table_query 0 (key_tests 0 places) [] (set_terms layout)) layout text → list_any is_null (key_in 0 places params) ≡ false → take keys params ≡ key_in 0 places params → suit_all layout.columns (column_values layout params) ≡ true
       → ((id : Value) → columns_of (table_of layout 0) (id ∷ column_values layout params) ≡ params) → Replaces keys layout text params
   row_replaced is solid has_key suit shows = record {
     does = λ old new sound was count ran. (
       update_columns keys layout key.key old new was text params places (set_terms layout) (column_values layout params) params
-          (update_means (table_query 0 (key_tests 0 places) [] (set_terms layout)) layout text is old.now.schema was.at was.tree was.has) key.first solid has_key suit (sets_values layout params) shows count ran,
+          (update_means (table_query 0 (key_tests 0 places) [] (set_terms layout)) layout text is old.now.schema was.at was.tree was.has) key.at.first solid has_key suit (sets_values layout params) shows count ran,
       tt,
     );
   }
 
 -- UPDATE the table SET each other column = its parameter WHERE key = ?1
-pub number_replaced : {layout : Layout} (key : IsKeyAt 1 layout (0 ∷ [])) {text : List ℕ} {n : ℤ} {others : Row} → IsUpdate (table_query 0 (key_tests 0 (0 ∷ [])) [] (set_terms layout)) layout text → suit_all layout.columns (column_values layout (Int n ∷ others)) ≡ true
+pub number_replaced : {layout : Layout} (key : IsUniqueAt 1 layout (0 ∷ [])) {text : List ℕ} {n : ℤ} {others : Row} → IsUpdate (table_query 0 (key_tests 0 (0 ∷ [])) [] (set_terms layout)) layout text → suit_all layout.columns (column_values layout (Int n ∷ others)) ≡ true
     → columns_of (table_of layout 0) (Int n ∷ column_values layout (Int n ∷ others)) ≡ Int n ∷ others → Replaces 1 layout text (Int n ∷ others)
 number_replaced {layout} key {text} {n} {others} is suit shows = record {
   does = λ old new sound was count ran. (
     update_number layout key.key old new was text n others (set_terms layout) (column_values layout (Int n ∷ others)) (Int n ∷ others)
-        (update_means (table_query 0 (key_tests 0 (0 ∷ [])) [] (set_terms layout)) layout text is old.now.schema was.at was.tree was.has) key.first refl suit (sets_values layout (Int n ∷ others)) shows count ran,
+        (update_means (table_query 0 (key_tests 0 (0 ∷ [])) [] (set_terms layout)) layout text is old.now.schema was.at was.tree was.has) key.at.first refl suit (sets_values layout (Int n ∷ others)) shows count ran,
     tt,
   );
 }
@@ -135,14 +153,14 @@ number_replaced {layout} key {text} {n} {others} is suit shows = record {
 -- ---- some columns
 
 -- UPDATE the table SET some columns, each to a parameter, WHERE the key's columns = the parameters from `at` on. What is set is told by (column, parameter), both counted from 0.
-pub row_updated : {keys : ℕ} {layout : Layout} {places : List ℕ} (key : IsKeyAt keys layout places) {text : List ℕ} {params : Row} (at : ℕ) (sets : List (ℕ × ℕ)) (change : Row → Row) → IsUpdate (table_query 0 (key_tests at places) [] (col 1 0 ∷ col 1 0 ∷ some_terms layout sets)) layout text
+pub row_updated : {keys : ℕ} {layout : Layout} {places : List ℕ} (key : IsUniqueAt keys layout places) {text : List ℕ} {params : Row} (at : ℕ) (sets : List (ℕ × ℕ)) (change : Row → Row) → IsUpdate (table_query 0 (key_tests at places) [] (col 1 0 ∷ col 1 0 ∷ some_terms layout sets)) layout text
     → list_any is_null (key_in at places params) ≡ false → are_exact layout.columns ≡ true → sets_suit sets params 0 layout.columns ≡ true
     → ((r : Row) → columns_of (table_of layout 0) (rowid r ∷ eval_all (some_terms layout sets) (params ∷ r ∷ [])) ≡ change (columns_of (table_of layout 0) r))
     → ((r : Row) → take keys (change (columns_of (table_of layout 0) r)) ≡ take keys (columns_of (table_of layout 0) r)) → Updates keys layout text params (key_in at places params) change
 row_updated {keys} {layout} {places} key {text} {params} at sets change is solid exact suit shows keeps = record {
   does = λ old new sound was count ran. (
     update_some keys layout key.key old new was text params at places sets change
-        (update_means (table_query 0 (key_tests at places) [] (col 1 0 ∷ col 1 0 ∷ some_terms layout sets)) layout text is old.now.schema was.at was.tree was.has) key.first solid exact suit shows keeps sound count ran,
+        (update_means (table_query 0 (key_tests at places) [] (col 1 0 ∷ col 1 0 ∷ some_terms layout sets)) layout text is old.now.schema was.at was.tree was.has) key.at.first solid exact suit shows keeps sound count ran,
     tt,
   );
 }

@@ -26,11 +26,12 @@ use Rattle.bike_book.specs.declared.version.TheConstants.{NEWEST}
 use Rattle.bike_schema.specs.Layouts.{layout_of, name_of, every_table}
 use Rattle.bike_schema.specs.Tables.{IsOurs, tables_of, is_parent, is_unused, HasNone, other_names}
 use Rattle.bike_schema.specs.Makes.{Continues, Puts}
-use Rattle.bike_schema.specs.Calls.{WasFree}
+use Rattle.bike_schema.specs.Calls.{WasFree, Admits}
 use Rattle.bike_book.specs.Writes.{tables_after}
 use Rattle.bike_schema.specs.Creates.{RanAll, table_texts, index_texts, first_write, Creates}
 use Rattle.bike_schema.proofs.TableLemmas.{of_every, every_true}
-use Rattle.bike_schema.proofs.KeyLemmas.{table_key}
+use Rattle.bike_schema.proofs.KeyLemmas.{unique_key}
+use Rattle.bike_schema.proofs.LayoutLemmas.{as_made}
 use Rattle.bike_schema.proofs.MakesLemmas.{continues_then, adds_row}
 use Rattle.bike_schema.proofs.MakeFacts.{text_of, declared, index_only}
 use Rattle.bike_schema.proofs.MakeLemmas.{adds}
@@ -117,10 +118,10 @@ first_row = meta_row NEWEST 0 (pos 0) (pos 0)
 
 inserts : Inserts 1 (layout_of Meta) insert_text first_row
 unfolding everything
-inserts = row_put (table_key Meta) (λ s tree. (refl, refl, refl, λ base. refl)) refl refl (λ rows. refl)
+inserts = row_put (unique_key Meta) (λ s tree. (refl, refl, refl, λ base. refl)) refl refl (λ rows. refl)
 
-pub adds_meta : Does IsOurs (λ db. WasFree first_write (tables_of db)) (Puts (first_write ∷ [])) insert_text first_row
-adds_meta = adds_row Meta inserts
+pub adds_meta : Does (Admits first_write) (λ db. WasFree first_write (tables_of db)) (Puts (first_write ∷ [])) insert_text first_row
+adds_meta = adds_row Meta (λ s. inserts)
 
 -- ---- the tables of the operator of which nothing was asked
 
@@ -163,7 +164,7 @@ module _ {S : Type 0} (g : Ghosts S) (a b c : Held S) (none : HasNone (state g a
   empty t = empty_stays (state g b).now (state g c).now t stays (of_every (IsEmpty (state g b).now) made.empty t)
 
   pub are_ours : IsOurs (state g c).now
-  are_ours = record { sound = indexed_sound g index_texts refl b c index_only indexes; has = λ t. (empty t).stands }
+  are_ours = record { sound = indexed_sound g index_texts refl b c index_only indexes; has = as_made (state g c).now (λ t. (empty t).stands) }
 
   pub creates : (d : Held S) → Puts (first_write ∷ []) (state g c) (state g d) → Creates (state g a) (state g d)
   creates d it =

@@ -1,5 +1,6 @@
 pub mod TableLemmas
 pub mod KeyLemmas
+pub mod LayoutLemmas
 pub mod MakesLemmas
 pub mod AnswerLemmas
 pub mod CountLemmas
@@ -11,3 +12,5 @@ pub mod MakeLemmas
 pub mod GrowthLemmas
 mod FreshLemmas
 mod ColumnLemmas
+pub mod ListedLemmas
+pub mod WithinLaw

@@ -43,4 +43,4 @@ declared MoreNames = record { only = (refl, refl); defined = refl }
 
 pub index_only : AllByRecursion (λ text. IsOnlyIndex (first text)) index_texts
 unfolding everything
-index_only = ((refl, refl), ((refl, refl), ((refl, refl), ((refl, refl), ((refl, refl), tt)))))
+index_only = ((refl, refl), ((refl, refl), ((refl, refl), ((refl, refl), ((refl, refl), ((refl, refl), tt))))))

@@ -7,3 +7,4 @@ pub mod Faults
 pub mod Creates
 pub mod Columns
 pub mod Answers
+pub mod Within

@@ -51,7 +51,7 @@ pub const TABLES: [&str; 17] = [
     "CREATE TABLE entries (entry INTEGER PRIMARY KEY, kind INTEGER NOT NULL, rider INTEGER NOT NULL, \
      rental INTEGER NOT NULL, amount INTEGER NOT NULL, at INTEGER NOT NULL) STRICT",
     "CREATE TABLE kept (caller TEXT NOT NULL, req_key TEXT NOT NULL, command TEXT NOT NULL, \
-     reply TEXT NOT NULL, PRIMARY KEY (caller, req_key)) STRICT",
+     reply TEXT NOT NULL) STRICT",
     "CREATE TABLE counts (station_id TEXT NOT NULL, type_id TEXT NOT NULL, available INTEGER NOT NULL, \
      disabled INTEGER NOT NULL, PRIMARY KEY (station_id, type_id)) STRICT",
     "CREATE TABLE more_names (kind TEXT NOT NULL, id TEXT NOT NULL, language TEXT NOT NULL, name TEXT NOT NULL, \
@@ -59,13 +59,15 @@ pub const TABLES: [&str; 17] = [
 ];
 
 /// The statements that make the indexes beside those of the keys.
-pub const INDEXES: [&str; 5] = [
+pub const INDEXES: [&str; 6] = [
     "CREATE INDEX bikes_by_dock ON bikes (station_id, dock)",
     "CREATE INDEX bikes_by_truck ON bikes (truck)",
     "CREATE INDEX rentals_by_rider ON rentals (rider)",
     "CREATE INDEX more_names_by_language ON more_names (language)",
     // All that is read of a thing's names stands in it, so the table isn't read beside it.
     "CREATE INDEX more_names_by_thing ON more_names (kind, id, language, name)",
+    // A UNIQUE index would be probed for each row whenever the file is opened.
+    "CREATE INDEX kept_by_key ON kept (caller, req_key)",
 ];
 
 /// Runs the statements one after another, with no parameters, up to the first that fails.

@@ -9,6 +9,7 @@ mod columns;
 mod create;
 mod fault;
 mod schema;
+mod within;
 
 pub use columns::{
     cents_at, flag_at, ident_at, language_at, moment_at, name_at, number_at, optional_cents_at,
@@ -17,3 +18,4 @@ pub use columns::{
 pub use create::{APP, INDEXES, Staged, TABLES, create_tables};
 pub use fault::StatementFault;
 pub use schema::{has_none, is_unused};
+pub use within::{END, are_at_least};

@@ -11,13 +11,13 @@ use Rattle.bike_rows.proofs.ParamLemmas.{text_or_null}
 use Rattle.bike_book.specs.declared.row_change.RowChange.{RowChange}
 use Rattle.bike_book.specs.Rows.{number_value}
 use Rattle.bike_book.specs.Writes.{write_of}
-use Rattle.bike_schema.specs.Tables.{IsOurs, tables_of}
+use Rattle.bike_schema.specs.Tables.{tables_of}
 use Rattle.bike_schema.specs.Makes.{Puts}
-use Rattle.bike_schema.specs.Calls.{WasFree}
+use Rattle.bike_schema.specs.Calls.{WasFree, Admits}
 
 -- with these parameters the text makes the row change
 abbrev pub Makes : List ℕ → Row → RowChange → Type 1
-Makes text params change = Does IsOurs (λ db. WasFree (write_of change) (tables_of db)) (Puts (write_of change ∷ [])) text params
+Makes text params change = Does (Admits (write_of change)) (λ db. WasFree (write_of change) (tables_of db)) (Puts (write_of change ∷ [])) text params
 
 pub number_or_null : (o : Option ℕ) → bound_value (or_null (λ n. Int (pos n)) o) ≡ or_null number_value o
 number_or_null None = refl

@@ -1,6 +1,6 @@
 use Rattle.bike_rows.proofs.ParamLemmas.{bindings}
 use Rattle.bike_schema.proofs.AnswerLemmas.{row_answers}
-use Rattle.bike_office_reads.proofs.WithinLaw.{first_listed}
+use Rattle.bike_schema.proofs.WithinLaw.{first_listed}
 use Rattle.bike_fleet_reads.proofs.StatementLemmas.{lists_regions_from}
 use Rattle.bike_fleet_reads.proofs.regions.find_region_row_from.Goals as goal
 

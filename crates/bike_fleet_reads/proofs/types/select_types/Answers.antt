@@ -3,8 +3,8 @@ use Rattle.std.specs.FinMap as fin
 use Rattle.bike_rows.proofs.ParamLemmas.{bindings}
 use Rattle.bike_book.specs.Stored.{stored_type}
 use Rattle.bike_schema.proofs.AnswerLemmas.{reads_weaker}
-use Rattle.bike_office_reads.proofs.SegmentLemmas.{all_answer, all_refused}
-use Rattle.bike_office_reads.proofs.WithinLaw.{all_from}
+use Rattle.bike_schema.proofs.ListedLemmas.{all_answer, all_refused}
+use Rattle.bike_schema.proofs.WithinLaw.{all_from}
 use Rattle.bike_fleet_reads.proofs.StatementLemmas.{lists_types_from}
 use Rattle.bike_fleet_reads.proofs.types.select_types.Goals as goal
 

@@ -1,6 +1,11 @@
 use Rattle.std.proofs.Common.{rules, refl}
-use Rattle.bike_migrate.proofs.FoundLemmas.{comes_failed, comes_raised}
+use Rattle.bike_migrate.proofs.FoundLemmas.{comes_newest, comes_failed, comes_raised}
 use Rattle.bike_migrate.proofs.raising.raise_any.Goals as goal
+
+pub returns-in_ok-audit_newest-in-Newest : goal.returns-in_ok-audit_newest-in-Newest
+returns-in_ok-audit_newest-in-Newest g c =
+    let read = rw c.in-Newest.is at c.in_ok-find_version_of.ensures in
+    rw c.cause_of.ensures (comes_newest g.S.Store c.args.conn.now c.find_version_of.new.conn read c.audit_newest.new.conn _ c.in_ok-audit_newest-in-Newest.ensures c.requires)
 
 pub returns-in_err-raise_earlier-in-Of : goal.returns-in_err-raise_earlier-in-Of
 returns-in_err-raise_earlier-in-Of g c =

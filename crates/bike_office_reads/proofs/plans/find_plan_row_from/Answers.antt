@@ -1,7 +1,7 @@
 use Rattle.bike_rows.proofs.ParamLemmas.{bindings}
 use Rattle.bike_schema.proofs.AnswerLemmas.{row_answers}
 use Rattle.bike_office_reads.proofs.TextLemmas.{lists_plans_from}
-use Rattle.bike_office_reads.proofs.WithinLaw.{first_listed}
+use Rattle.bike_schema.proofs.WithinLaw.{first_listed}
 use Rattle.bike_office_reads.proofs.plans.find_plan_row_from.Goals as goal
 
 pub returns : goal.returns

@@ -3,9 +3,9 @@ use Rattle.std.specs.FinMap as fin
 use Rattle.bike_rows.proofs.ParamLemmas.{bindings}
 use Rattle.bike_book.specs.Stored.{stored_plan}
 use Rattle.bike_schema.proofs.AnswerLemmas.{reads_weaker}
-use Rattle.bike_office_reads.proofs.SegmentLemmas.{all_answer, all_refused}
+use Rattle.bike_schema.proofs.ListedLemmas.{all_answer, all_refused}
 use Rattle.bike_office_reads.proofs.TextLemmas.{lists_plans_from}
-use Rattle.bike_office_reads.proofs.WithinLaw.{all_from}
+use Rattle.bike_schema.proofs.WithinLaw.{all_from}
 use Rattle.bike_office_reads.proofs.plans.select_plans.Goals as goal
 
 pub returns : goal.returns

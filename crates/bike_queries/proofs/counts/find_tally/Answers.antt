@@ -5,9 +5,9 @@ use Rattle.bike_book.specs.Tables.{Counts}
 use Rattle.bike_operator.specs.Operator.{Operator}
 use Rattle.bike_book.specs.Stored.{Listed}
 use Rattle.bike_book.specs.Found.{rows_of}
-use Rattle.bike_office_reads.specs.Within.{rows_within}
+use Rattle.bike_schema.specs.Within.{rows_within}
 use Rattle.bike_schema.proofs.AnswerLemmas.{answers_then}
-use Rattle.bike_office_reads.proofs.WithinLaw.{rows_at}
+use Rattle.bike_schema.proofs.WithinLaw.{rows_at}
 use Rattle.bike_queries.specs.StationCounts.{AreCountRows}
 use Rattle.bike_queries.proofs.CountRows.{counts_listed}
 use Rattle.bike_queries.proofs.counts.find_tally.Goals as goal

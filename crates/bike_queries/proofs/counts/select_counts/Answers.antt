@@ -4,7 +4,7 @@ use Rattle.bike_book.specs.Tables.{Tables}
 use Rattle.bike_book.specs.Stored.{tables_for}
 use Rattle.bike_schema.specs.Answers.{Answers}
 use Rattle.bike_schema.specs.Tables.{tables_of}
-use Rattle.bike_office_reads.specs.Within.{rows_within}
+use Rattle.bike_schema.specs.Within.{rows_within}
 use Rattle.bike_office_reads.proofs.CollectLaws.{begins, rows_answered}
 use Rattle.bike_queries.proofs.counts.select_counts.Goals as goal
 
