@@ -51,4 +51,3 @@ module _ {S : Type 0} (g : Ghosts S) (old new : Held S) {text : List ℕ} {param
     failed = λ clean ours. query_stopped text sent (state g old) (state g new) (one (state g old).now ours).means.1 e (fails clean);
     quiet = quiet;
   }
-
