@@ -8,7 +8,10 @@ the order of the tables and of their keys, where a row out of its bounds counts 
 import sqlite3
 from pathlib import Path
 
-from shared import FOREIGN, HERE, READY, SOUND, STORE_FAILED, changed, held, removed, rows_of, told_with
+from shared import (
+    BY_KEY, FOREIGN, HERE, KEYED, READY, SOUND, STORE_FAILED, UNKEYED, changed, held, is_keyed, laid_out, removed, rows_of,
+    told_with,
+)
 
 NOW = 1700003000
 
@@ -481,7 +484,6 @@ CHANGES = [
     ("CREATE INDEX by_balance ON riders (balance) WHERE balance > 0", "foreign"),
     ("CREATE INDEX by_half ON riders (balance / 2)", "foreign"),
     # What a key refuses already.
-    ("CREATE UNIQUE INDEX again ON kept (caller, req_key)", None),
     ("CREATE UNIQUE INDEX again ON plans (plan_id ASC)", None),
     ("CREATE UNIQUE INDEX again ON kept (req_key, caller)", "foreign"),
     ("CREATE UNIQUE INDEX again ON kept (caller, req_key COLLATE NOCASE)", "foreign"),
@@ -494,6 +496,59 @@ CHANGES = [
     ("UPDATE meta SET version = 4; CREATE UNIQUE INDEX one_balance ON riders (balance)", "foreign"),
     ("UPDATE riders SET balance = balance + 1; CREATE UNIQUE INDEX one_balance ON riders (balance)", "foreign"),
     ("CREATE UNIQUE INDEX one_balance ON riders (balance); DROP INDEX one_balance", None),
+]
+
+AGAIN = "INSERT INTO kept SELECT * FROM kept WHERE req_key = 'k2'"
+# Beside these, where `kept` has no PRIMARY KEY: two of its rows may have one key, which is told before all else.
+WITHOUT_A_KEY = [
+    (AGAIN, "unsound kept office/k2"),
+    ("INSERT INTO kept VALUES ('office', 'k2', 'add-rider\t99', 'ok')", "unsound kept office/k2"),
+    ("UPDATE kept SET req_key = 'k3' WHERE req_key = 'k2'", "unsound kept office/k3"),
+    ("UPDATE kept SET req_key = 'k3' WHERE req_key IN ('k1', 'k2')", "unsound kept office/k3"),
+    (f"{AGAIN}; INSERT INTO kept SELECT * FROM kept WHERE req_key = 'k10'", "unsound kept office/k10"),
+    ("INSERT INTO kept SELECT * FROM kept", "unsound kept office/k0"),
+    ("UPDATE kept SET caller = 'x', req_key = ''", "unsound kept x/"),
+    (
+        "INSERT INTO kept VALUES ('rider:17', 'a', 'x', 'y'), ('crew:3', 'b', 'x', 'y'), ('rider:17', 'a', 'x', 'y'),"
+        " ('crew:3', 'b', 'x', 'y')",
+        "unsound kept crew:3/b",
+    ),
+    # Before a bad row of an earlier table, of the same and of a later one, and a row that is missing.
+    (f"{AGAIN}; UPDATE riders SET balance = balance + 1", "unsound kept office/k2"),
+    (f"{AGAIN}; UPDATE kept SET reply = 'no' WHERE req_key = 'k1'", "unsound kept office/k2"),
+    (f"{AGAIN}; DELETE FROM counts", "unsound kept office/k2"),
+    (f"{AGAIN}; DELETE FROM meta", "unsound kept office/k2"),
+    # Behind what makes the file another program's, or another version's.
+    (f"{AGAIN}; UPDATE meta SET app = 'other'", "foreign"),
+    (f"{AGAIN}; DROP TABLE counts", "foreign"),
+    (f"{AGAIN}; DROP TABLE plans", "foreign"),
+    (f"{AGAIN}; CREATE UNIQUE INDEX one_balance ON riders (balance)", "foreign"),
+    (f"{AGAIN}; CREATE TABLE helmets (rider INTEGER REFERENCES riders)", "foreign"),
+    (f"{AGAIN}; CREATE TABLE helmets (key TEXT REFERENCES kept)", "foreign"),
+    (f"{AGAIN}; ALTER TABLE kept ADD COLUMN more TEXT", "foreign"),
+    (f"{AGAIN}; UPDATE meta SET version = 2", "older 2"),
+    (f"{AGAIN}; UPDATE meta SET version = 4", "newer 4"),
+    # By their bytes these keys are apart, and so are those of two callers.
+    ("INSERT INTO kept SELECT caller, upper(req_key), command, reply FROM kept", None),
+    ("INSERT INTO kept SELECT 'crew:3', req_key, command, reply FROM kept", None),
+    ("INSERT INTO kept SELECT 'import:' || req_key, 'k2', command, reply FROM kept", None),
+    # The index makes reading fast, and no more.
+    ("DROP INDEX kept_by_key", None),
+    (f"DROP INDEX kept_by_key; {AGAIN}", "unsound kept office/k2"),
+    ("DROP INDEX kept_by_key; CREATE INDEX kept_by_key ON kept (reply)", None),
+    # A key that is no PRIMARY KEY isn't the table's.
+    ("CREATE UNIQUE INDEX again ON kept (caller, req_key)", "foreign"),
+    ("DROP INDEX kept_by_key; CREATE UNIQUE INDEX kept_by_key ON kept (caller, req_key)", "foreign"),
+]
+# And where it has one.
+WITH_A_KEY = [("CREATE UNIQUE INDEX again ON kept (caller, req_key)", None), (BY_KEY, None)]
+# What is no layout of `kept`.
+OTHERS = [
+    KEYED.replace("caller, req_key)", "req_key, caller)"), KEYED.replace("PRIMARY KEY", "UNIQUE"),
+    KEYED.replace("STRICT", "STRICT, WITHOUT ROWID"), KEYED.replace(" STRICT", ""), UNKEYED.replace(" STRICT", ""),
+    KEYED.replace("(caller, req_key)", "(caller, req_key, command)"), KEYED.replace("(caller, req_key)", "(req_key)"),
+    UNKEYED.replace("caller TEXT NOT NULL, req_key TEXT NOT NULL", "req_key TEXT NOT NULL, caller TEXT NOT NULL"),
+    UNKEYED.replace("reply TEXT NOT NULL", "reply TEXT"), UNKEYED.replace("reply TEXT", "reply ANY"),
 ]
 
 # UNIQUE indexes that the rows of the small city allow, on each of its tables.
@@ -537,10 +592,16 @@ def checked(program, file, wanted):
     assert file.read_bytes() == before and held(file, whole=False) == rows, "the file was changed"
 
 
-def test_each_change_of_a_small_city_is_found(program):
-    city = made(program, "city.db").read_bytes()
+def made_keyed(program, name):
+    """Makes the city as an earlier program did, whose `kept` has a PRIMARY KEY."""
+    file = made(program, name)
+    laid_out(file, KEYED)
+    return file
+
+
+def each_is_found(program, city, changes):
     wrong = []
-    for n, (change, wanted) in enumerate(CHANGES):
+    for n, (change, wanted) in enumerate(changes):
         file = Path(program.folder, f"changed{n}.db")
         file.write_bytes(city)
         try:
@@ -550,6 +611,50 @@ def test_each_change_of_a_small_city_is_found(program):
             wrong.append(f"{change}: {fault}")
         file.unlink()
     assert not wrong, "\n".join(wrong)
+
+
+def test_each_change_of_a_small_city_is_found(program):
+    file = made(program, "city.db")
+    assert not is_keyed(file)
+    each_is_found(program, file.read_bytes(), CHANGES + WITHOUT_A_KEY)
+
+
+def test_each_change_is_found_where_kept_has_a_key(program):
+    file = made_keyed(program, "city.db")
+    assert is_keyed(file)
+    each_is_found(program, file.read_bytes(), [*CHANGES, *WITH_A_KEY])
+
+
+# The plain index becomes that of the key.
+KEY_DECLARED = (
+    f"PRAGMA writable_schema = ON; UPDATE sqlite_schema SET sql = '{KEYED}' WHERE name = 'kept'; "
+    "UPDATE sqlite_schema SET name = 'sqlite_autoindex_kept_1', sql = NULL WHERE name = 'kept_by_key'"
+)
+
+
+def test_two_rows_of_a_key_that_is_declared(program):
+    """The index of a PRIMARY KEY with an entry twice is damaged, to SQLite too: no word reads such a file."""
+    file = made(program, "city.db")
+    whole = file.read_bytes()
+    changed(file, KEY_DECLARED)
+    checked(program, file, None)
+    file.write_bytes(whole)
+    changed(file, f"{AGAIN}; {KEY_DECLARED}")
+    before = file.read_bytes()
+    for word, *more in EACH_WORD:
+        ended = program.run(word, file.name, *more, given=b"1700000001\toffice\tk2\tadd-rider\t18\n")
+        assert ended == STORE_FAILED, (word, ended)
+        assert file.read_bytes() == before, word
+
+
+def test_other_layouts_of_kept(program):
+    file = made(program, "city.db")
+    city = file.read_bytes()
+    for kept in OTHERS:
+        file.write_bytes(city)
+        laid_out(file, kept)
+        with told_with(kept):
+            checked(program, file, "foreign")
 
 
 def test_an_index_that_somebody_added(program):
@@ -582,7 +687,24 @@ def test_no_word_takes_a_file_with_such_an_index(program):
 
 
 def test_a_file_goes_on_where_it_was(program):
+    goes_on(program, made(program, "city.db"))
+
+
+def test_a_file_goes_on_with_a_key_of_kept(program):
+    """It keeps the key, and the plain index that it hasn't isn't made."""
+    file = made_keyed(program, "city.db")
+    goes_on(program, file)
+    assert is_keyed(file) and rows_of("SELECT count(*) FROM sqlite_schema WHERE name = 'kept_by_key'", file) == [(0,)]
+
+
+def test_a_file_goes_on_without_an_index_of_kept(program):
     file = made(program, "city.db")
+    changed(file, "DROP INDEX kept_by_key")
+    goes_on(program, file)
+    assert rows_of("SELECT count(*) FROM sqlite_schema WHERE name = 'kept_by_key'", file) == [(0,)]
+
+
+def goes_on(program, file):
     checked(program, file, None)
     # The same requests come again: each has its kept answer, and nothing is changed.
     before = held(file)
@@ -602,6 +724,7 @@ def test_a_new_file_gets_the_tables(program):
     assert ended == READY, ended
     file = Path(program.folder, "new.db")
     assert rows_of("SELECT * FROM meta", file) == [(1, "bikeshare", 3, 0, 0, 0)]
+    assert rows_of("SELECT sql FROM sqlite_schema WHERE tbl_name = 'kept' ORDER BY name", file) == [(UNKEYED,), (BY_KEY,)]
     changed(file)
     checked(program, file, None)
     ended = program.run("init", "new.db")

@@ -3,6 +3,7 @@ tables, their columns and the bounds of each are those of section 10's table. It
 """
 
 import contextlib
+import itertools
 import re
 import sqlite3
 
@@ -323,6 +324,12 @@ def shown(value):
     return value if isinstance(value, bytes) and formats.is_utf8(value) else b"?"
 
 
+def doubled(tables):
+    """The table and key of the first key that two rows of `kept` have, or none. It is told before any bad row."""
+    keys = sorted((it["caller"], it["req_key"]) for it in tables["kept"])
+    return next((("kept", list(key)) for key, after in itertools.pairwise(keys) if key == after), None)
+
+
 def verdict(tables):
     """What `check` has to end with."""
     row = next((it for it in tables["meta"] if it["one"] == 1), None)
@@ -330,7 +337,7 @@ def verdict(tables):
         return FOREIGN
     if row is not None and row["version"] != NEWEST:
         return 5, b"", b"%s %d\n" % (b"newer" if row["version"] > NEWEST else b"older", row["version"])
-    bad = Audit(tables).first_bad()
+    bad = doubled(tables) or Audit(tables).first_bad()
     if bad is None:
         return SOUND
     return 5, b"", b"unsound %s %s\n" % (bad[0].encode(), b"/".join(shown(it) for it in bad[1]))

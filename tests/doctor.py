@@ -27,10 +27,12 @@ import time
 import unittest.mock
 from pathlib import Path
 
+from adoption import KEY_DECLARED
 from package import sections_of
 from shared import (
-    CITY, FEEDS, FOREIGN, HEADER, READ_FAILED, READY, SOUND, STORE_FAILED, TOP, Program, Server, accepted, changed,
-    free_port, held, killed, line_of, loaded, needs, office, put, ran, removed, requests_of, rows_of, taken,
+    CITY, FEEDS, FOREIGN, HEADER, KEYED, READY, READ_FAILED, SOUND, STORE_FAILED, TOP, UNKEYED, Program, Server,
+    accepted, changed, free_port, held, killed, line_of, loaded, needs, office, put, ran, removed, requests_of, rows_of,
+    taken,
 )
 
 SCRIPT = TOP / "deploy/bikeshare-doctor"
@@ -172,6 +174,8 @@ ADDED = (
      "DROP TABLE cards"),
     ("CREATE UNIQUE INDEX once ON riders (blocked)", "the table riders has the UNIQUE index once beside its key",
      "DROP INDEX once"),
+    ("CREATE UNIQUE INDEX once ON kept (caller, req_key)", "the table kept has the UNIQUE index once beside its key",
+     "DROP INDEX once"),
 )
 # A change to the city's file by SQL, what `check` says of it, and a word of the hint.
 CHANGES = (
@@ -181,6 +185,14 @@ CHANGES = (
     ("DROP INDEX bikes_by_dock; CREATE INDEX i ON plans (name DESC, price)", None, ""),
     (TRUCKS + "(truck INTEGER, capacity INT NOT NULL, PRIMARY KEY (truck)) STRICT; INSERT INTO trucks VALUES (3, 9)",
      None, ""),
+    (f"DROP TABLE kept; {KEYED}", None, ""),
+    (f"DROP TABLE kept; {KEYED}; CREATE UNIQUE INDEX twice ON kept (caller, req_key)", None, ""),
+    (f"DROP TABLE kept; {UNKEYED}", None, ""),
+    (f"INSERT INTO kept SELECT * FROM kept LIMIT 1; {KEY_DECLARED}", "store failed", "non-unique entry in index"),
+    (f"DROP TABLE kept; {KEYED.replace('caller, req_key)', 'req_key, caller)')}", "foreign", "column caller is"),
+    (f"DROP TABLE kept; {KEYED.replace('PRIMARY KEY', 'UNIQUE')}", "foreign", "sqlite_autoindex_kept_1 beside its key"),
+    (f"DROP TABLE kept; {KEYED.replace('PRIMARY KEY (caller, req_key)', 'PRIMARY KEY (req_key)')}", "foreign",
+     "column caller is"),
     ("PRAGMA journal_mode = DELETE; PRAGMA page_size = 512; VACUUM", None, ""),
     ("DROP TABLE riders", "foreign", "there is no table riders"),
     ("ALTER TABLE riders RENAME TO r; ALTER TABLE r RENAME TO RIDERS", "foreign", "called RIDERS"),

@@ -1,8 +1,8 @@
-"""Files of schemas 1 and 2 that earlier programs wrote, as they stand in files/, with what these showed of each
-(files/README.md).
+"""Files that earlier programs wrote, as they stand in files/, with what these showed of each (files/README.md).
 
-No word but `raise` takes such a file: each says `older 1` or `older 2` and leaves the file as it is. What a city shows
-that is made anew from the same request lines is what the earlier program showed of it.
+No word but `raise` takes one of schema 1 or 2: each says `older 1` or `older 2` and leaves the file as it is. One of
+schema 3, whose `kept` has a PRIMARY KEY, every word takes, and leaves it its layout. What a city shows that is made
+anew from the same request lines is what the earlier program showed of it.
 """
 
 import gzip
@@ -10,7 +10,9 @@ import json
 from pathlib import Path
 
 from adoption import checked
-from shared import HERE, TOP, changed, held, is_sound
+from shared import (
+    DONE, HEADER, HERE, READY, SOUND, TOP, Server, changed, held, is_keyed, is_sound, office, rows_of,
+)
 
 FILES, TOUR = HERE / "files", TOP / "docs/tour.txt"
 
@@ -96,6 +98,31 @@ def test_every_kind_of_row(program):
 def test_a_file_with_regions(program):
     """Kept when regions had come in, of schema 2."""
     is_older(program, "regions", 2)
+
+
+def test_a_file_with_a_key_of_kept(program):
+    """What the earlier program kept is answered as before, and nothing of the schema changes."""
+    file = unpacked(program, "names")
+    schema = "SELECT type, name, tbl_name, rootpage, sql FROM sqlite_schema"
+    before = rows_of(schema, file)
+    assert is_keyed(file)
+    shows(program, file.name, shown_of("names"))
+    for words, given, wanted in (
+        (["init"], b"", READY), (["raise"], b"", (0, b"version 3\n", b"")), (["check"], b"", SOUND),
+        (["import", "spring", "--at", "1700100000"], f"{HEADER}z9,New,0,0,1\n".encode(), (0, b"rows 1\n", b"")),
+    ):
+        found = program.run(words[0], file.name, *words[1:], given=given)
+        assert found == wanted, (words, found)
+    for _ in range(2):
+        with Server(program, 1, file.name) as server:
+            assert server.ask(office("once", "add-rider\t4711")) == DONE
+    is_sound(program, file.name)
+    assert rows_of(schema, file) == before and rows_of("SELECT count(*) FROM riders WHERE rider = 4711", file) == [(1,)]
+
+
+def test_names_made_anew(program):
+    made_anew_shows(program, "names", (FILES / "names.in").read_bytes())
+    assert not is_keyed(program.folder, "anew.db")
 
 
 def test_the_tour_made_anew(program):

@@ -1,6 +1,8 @@
 """The program is ended by `kill -9` at random moments, while it answers request lines over a file or serves HTTP from
 one.
 
+Half of the files were made by an earlier program, whose `kept` has a PRIMARY KEY, and half are new.
+
 After each kill SQLite's own integrity_check accepts the file, `check` says `sound`, and the file holds the city after
 some front of the list: every acknowledged request is in it, and at most one more. The list, sent again from its first
 request, has the answers of a run that nobody disturbed, and ends in the same city.
@@ -31,8 +33,8 @@ import time
 from pathlib import Path
 
 from shared import (
-    DONE, READY, Server, at_once, copied, counted, environment, is_sound, is_whole, line_of, office, post, quickly,
-    removed, rows_of, told_with,
+    DONE, KEYED, READY, Server, at_once, copied, counted, environment, is_keyed, is_sound, is_whole, laid_out, line_of,
+    office, post, quickly, removed, rows_of, told_with,
 )
 
 KILLS = int(os.environ.get("BIKESHARE_KILLS", "10"))
@@ -341,7 +343,10 @@ def kills(program, kind):
     number = 0
     while number < KILLS:
         file = Path(program.folder) / f"killed{number}.db"
-        least = 0
+        least, is_earlier = 0, pick.random() < 0.5
+        if is_earlier:
+            assert program.run("init", file.name) == READY
+            laid_out(file, KEYED)
         for _ in range(min(pick.randint(1, 4), KILLS - number)):
             number += 1
             told = f"{wrong}, kill {number}"
@@ -359,6 +364,7 @@ def kills(program, kind):
             f"{told}: sent again: {[it for it in zip(kind.requests, again, wanted) if it[1] != it[2]][:3]}, {said!r}"
         )
         assert held(file, kind.timeless) == fronts[-1], f"{told}: the list, sent again, ends in another city"
+        assert is_keyed(file) == is_earlier, f"{told}: kept has another layout"
         removed(file)
 
 

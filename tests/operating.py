@@ -22,10 +22,11 @@ from datetime import datetime
 from email.utils import parsedate_to_datetime
 from pathlib import Path
 
+import adoption
 from serving import ended
 from shared import (
-    CITY, FEEDS, READY, STORE_FAILED, TOP, Server, body_of, city, free_port, get, is_sound, needs, office, put, ran,
-    removed, rows_of, taken,
+    CITY, FEEDS, READY, STORE_FAILED, TOP, Server, answer, body_of, city, free_port, get, is_keyed, is_sound, needs, office,
+    put, ran, removed, rows_of, taken,
 )
 
 DEPLOY = TOP / "deploy"
@@ -288,6 +289,29 @@ def test_a_standby(program):
         assert server.ask(office("n1", "top-up\t17\t1")) == first
         assert server.ask(office("n2", "top-up\t17\t1")) == lost
         assert b'"balance_cents":2502' in server.ask(get("/riders/17"))
+
+
+def test_a_standby_that_is_open(program):
+    """A program that has opened a copy answers while the first one serves, and goes on at once when that is dead."""
+    city(program)
+    plain_copy(Path(program.folder), "standby.db")
+    with Server(program, 2, "standby.db") as standby:
+        with Server(program) as server:
+            assert server.ask(office("n1", "top-up\t17\t1")) == answer(200, '{"result":"ok","balance_cents":2501}')
+        assert b'"balance_cents":2500' in standby.ask(get("/riders/17"))
+        assert standby.ask(office("n1", "top-up\t17\t1")) == answer(200, '{"result":"ok","balance_cents":2501}')
+    is_sound(program, "standby.db")
+
+
+def test_another_layout_of_kept(program):
+    """By the statements of docs/OPERATING.md a file of an earlier program gets the layout of today, and loses no row."""
+    file = adoption.made_keyed(program, "city.db")
+    text = (TOP / "docs/OPERATING.md").read_text(encoding="utf-8")
+    (sql,) = re.findall(r"sqlite3 /var/lib/bikeshare/metro\.db '(BEGIN.*?)'", text, re.S)
+    kept = rows_of("SELECT * FROM kept ORDER BY rowid", file)
+    assert ran("sqlite3", "city.db", sql, cwd=program.folder) == (0, "")
+    assert not is_keyed(file) and rows_of("SELECT * FROM kept ORDER BY rowid", file) == kept and len(kept) > 30
+    adoption.goes_on(program, file)
 
 
 # ---- documents, release, unit files

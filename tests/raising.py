@@ -38,8 +38,8 @@ import tampered
 import traffic
 import words
 from shared import (
-    FEEDS, FOREIGN, HEAD, READY, SOUND, STORE_FAILED, TOP, WRITE_FAILED, Program, Server, at_once, changed, copied,
-    is_whole, put, quickly, removed, taken, told_with,
+    FEEDS, FOREIGN, HEAD, READY, SOUND, STORE_FAILED, TOP, UNKEYED, WRITE_FAILED, Program, Server, at_once, changed,
+    copied, is_whole, laid_out, put, quickly, removed, taken, told_with,
 )
 
 SEED = int(os.environ.get("BIKESHARE_SEED", "1"))
@@ -260,6 +260,23 @@ def test_files_of_earlier_programs(program):
         assert program.run("raise", file.name) == DONE
         assert tampered.parts(file) == before and held(file) == whole, "a second raise changed the file"
         kept_files.shows(program, file.name, shown)
+
+
+def test_kept_requests_without_a_key(program):
+    """The table `kept` stands in either layout, and stays in it. Two rows of one key are no city of an earlier schema,
+    and the first bad row of one of the newest."""
+    for version in OLD:
+        file = of_sql(program.folder, version)
+        laid_out(file, UNKEYED)
+        is_raised(program, file, version)
+        removed(file)
+        file = of_sql(program.folder, version)
+        laid_out(file, UNKEYED)
+        changed(file, "INSERT INTO kept SELECT * FROM kept LIMIT 1")
+        stays(program, file, FOREIGN)
+    file = adoption.made(program, "city.db")
+    changed(file, f"{adoption.AGAIN}; UPDATE riders SET balance = balance + 1")
+    stays(program, file, unsound("kept", b"office/k2"))
 
 
 def test_kept_requests_act_no_more(program):

@@ -45,6 +45,8 @@ def verdict(file, version):
         return FOREIGN
     if row["version"] > NEWEST:
         return newer(row["version"])
+    if audit.doubled(tables):
+        return FOREIGN
     row["version"] = NEWEST
     stations = [it if "region_id" in it else {**it, "region_id": None} for it in tables["stations_3"]]
     whole = {name: tables.get(name, []) for name in audit.TABLES} | {"stations_3": stations}

@@ -538,6 +538,30 @@ def changed(file, change=""):
         base.execute("PRAGMA wal_checkpoint(TRUNCATE)").fetchall()
 
 
+# How earlier programs made `kept`.
+KEYED = (
+    "CREATE TABLE kept (caller TEXT NOT NULL, req_key TEXT NOT NULL, command TEXT NOT NULL, reply TEXT NOT NULL, "
+    "PRIMARY KEY (caller, req_key)) STRICT"
+)
+# As the program makes it. Both layouts are the newest version's.
+UNKEYED = KEYED.replace(", PRIMARY KEY (caller, req_key)", "")
+BY_KEY = "CREATE INDEX kept_by_key ON kept (caller, req_key)"
+
+
+def laid_out(file, kept):
+    """Makes the file's `kept` anew by this text, with its rows and without an index."""
+    changed(
+        file,
+        f"CREATE TEMP TABLE rows AS SELECT * FROM kept ORDER BY rowid; DROP TABLE kept; {kept}; "
+        "INSERT INTO kept SELECT * FROM temp.rows ORDER BY rowid",
+    )
+
+
+def is_keyed(*where):
+    """Whether the file's `kept` has a PRIMARY KEY."""
+    return any(is_part for *_, is_part in rows_of("PRAGMA table_info(kept)", *where))
+
+
 # ---- Disks
 
 

@@ -2,8 +2,8 @@
 bytes one by one, and it is refused every request for memory, each in its turn. tests/stops/faults.c does it from
 outside; cc builds it.
 
-It does that while it makes a file, serves lines (of a new file, of one that is there, and over the moment at which the
-log is copied into the file), imports stations, checks a file, writes a feed and the table of a day, and answers HTTP.
+It does that while it makes a file, serves lines (of a new file, of one that is there, of one that an earlier program
+made, and over the moment at which the log is copied into the file), imports stations, checks a file, writes a feed and the table of a day, and answers HTTP.
 After each fault, without faults:
 
   - SQLite's own integrity_check finds nothing, and `check` says `sound`, or `store failed` of a file that isn't made
@@ -32,9 +32,9 @@ from pathlib import Path
 
 import shared
 from shared import (
-    DISTURBED, EINTR, EIO, ENOSPC, FAULTS, KILLED, NO_SYSTEM, ROOM, SOUND, STORE_FAILED, TOP, UNAVAILABLE, WANTS,
-    Program, at_once, city, counted, environment, exchanged, faulty, get_feed, held, is_sound, nothing_is, post, put,
-    quickly, removed, rows_of, taken, tell,
+    DISTURBED, EINTR, EIO, ENOSPC, FAULTS, KEYED, KILLED, NO_SYSTEM, ROOM, SOUND, STORE_FAILED, TOP, UNAVAILABLE, WANTS,
+    Program, at_once, city, counted, environment, exchanged, faulty, get_feed, held, is_sound, laid_out, nothing_is, post,
+    put, quickly, removed, rows_of, taken, tell,
 )
 
 STRIDE = int(os.environ.get("BIKESHARE_STOPS", "0"))
@@ -229,6 +229,14 @@ def made(file, count):
         return taken(folder, "city.db")
 
 
+def made_keyed(file, count):
+    """The same as an earlier program made it, whose `kept` has a PRIMARY KEY."""
+    with tempfile.TemporaryDirectory(dir=ROOM) as folder:
+        put(made(file, count), folder, "city.db")
+        laid_out(Path(folder, "city.db"), KEYED)
+        return taken(folder, "city.db")
+
+
 @functools.cache
 def before_the_copy(file):
     """How many lines fill the log so far that the next few have it copied into the file."""
@@ -250,6 +258,8 @@ def run_named(file, name):
         return Lines(file, {}, words, LINES, ANSWERS)
     if name == "lines of a file":
         return Lines(file, made(file, 10), words, LINES[10:], ANSWERS[10:])
+    if name == "lines of an earlier file":
+        return Lines(file, made_keyed(file, 10), words, LINES[10:], ANSWERS[10:])
     if name == "lines of other commands":
         return Lines(
             file,
@@ -277,7 +287,8 @@ def run_named(file, name):
     )
 
 
-LONG = ["lines of a new file", "lines of a file", "lines of other commands", "lines while the log is copied"]
+LONG = ["lines of a new file", "lines of a file", "lines of an earlier file", "lines of other commands"]
+LONG += ["lines while the log is copied"]
 RUNS = ["init", *LONG, "import"]
 RUNS += ["check", "feed", "a table of a day", "a start over HTTP", "a feed over HTTP"]
 

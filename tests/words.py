@@ -308,6 +308,7 @@ def test_no_word_serves_a_file_that_is_refused(program):
         ("UPDATE riders SET balance = balance + 1 WHERE rider = 17", "unsound riders 17"),
         ("DELETE FROM meta", "unsound meta 1"),
         ("UPDATE kept SET reply = 'no' WHERE req_key = 'k2'", "unsound kept office/k2"),
+        (adoption.AGAIN, "unsound kept office/k2"),
         ("UPDATE meta SET app = 'other'", "foreign"),
         ("DROP TABLE counts", "foreign"), ("UPDATE meta SET version = 9", "newer 9"),
         ("UPDATE meta SET version = 1", "older 1"),
