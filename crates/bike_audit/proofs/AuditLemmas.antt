@@ -219,12 +219,4 @@ doubled_audited one is two = reads_weaker (reads_once one (λ db told. subst (Is
 
 -- a caller and key are two columns
 pub two_columns : (rows : List Row) (key : Row) → IsDoubled rows key → IsDoubled rows (take 2 key)
-two_columns rows key it = record {
-  first = it.first;
-  second = it.second;
-  has_first = it.has_first;
-  has_second = it.has_second;
-  apart = it.apart;
-  shows_first = ap (take 2) it.shows_first;
-  shows_second = ap (take 2) it.shows_second;
-}
+two_columns rows key it = subst (IsDoubled rows) (sym it.0.shows_first ∙ ap (take 2) it.0.shows_first) it

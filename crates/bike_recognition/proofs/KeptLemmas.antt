@@ -21,7 +21,7 @@ use Rattle.bike_schema.proofs.KeyLemmas.{unique_key}
 use Rattle.bike_schema.proofs.TableLemmas.{of_every, same_table}
 use Rattle.bike_recognition.specs.declared.recognition.Recognition.TheVariants.{Foreign, Doubled}
 use Rattle.bike_recognition.specs.declared.table.TableName.{TableName as Name}
-use Rattle.bike_recognition.specs.Keys.{KeptLies, IsDoubled, TellsKeys}
+use Rattle.bike_recognition.specs.Keys.{KeptLies, AreTwo, TellsKeys}
 use Rattle.bike_recognition.specs.Names.{table_named}
 use Rattle.bike_recognition.specs.Recognition.{ReadsAny, TableStands, IsFirstMissing, IsByTables, after_kept}
 use Rattle.bike_recognition.specs.Wanted.{Lies}
@@ -76,7 +76,7 @@ has_none db it = rw (it.has.found, it.has.there) refl
 pub kept_stands : (db : Database) (it : KeptLies db) → IsKeyed (keys_of Kept) (table_of (layout_of Kept) it.tree) (db.trees it.tree) → TableStands Kept db
 kept_stands db it keyed = subst (λ k. Stands db (keys_of Kept) (layout_by k Kept)) (sym (has_none db it)) (stands_of it keyed)
 
-not_keyed : (tree : ℕ) (rows : List Row) (key : Row) → IsDoubled rows key → IsKeyed (keys_of Kept) (table_of (layout_of Kept) tree) rows → ⊥
+not_keyed : (tree : ℕ) (rows : List Row) (key : Row) → AreTwo rows key → IsKeyed (keys_of Kept) (table_of (layout_of Kept) tree) rows → ⊥
 not_keyed tree rows key it keyed = it.apart (keyed.apart it.first it.second it.has_first it.has_second (ap₂ row_cmp it.shows_first it.shows_second ∙ tied_itself row_cmp_total key))
 
 told_stands : (db : Database) (found : Option Row) (none : Bool) → is_some found ≡ not none → KeptLies db → ((it : KeptLies db) → TellsKeys db it.tree found) → IsTrue none ↔ TableStands Kept db
@@ -87,7 +87,7 @@ told_stands db (Some key) false is it tells = (
   (λ never. absurd (true≢false (sym never))),
   λ stands.
       let plain : Stands db (keys_of Kept) (layout_of Kept) = subst (λ k. Stands db (keys_of Kept) (layout_by k Kept)) (has_none db it) stands in
-      absurd (not_keyed plain.tree (db.trees plain.tree) key (tells (lies_of plain)) plain.keyed),
+      absurd (not_keyed plain.tree (db.trees plain.tree) key (tells (lies_of plain)).0 plain.keyed),
 )
 
 pub kept_stands_if : (db : Database) (t : TableName) (found : Option Row) (none : Bool) → t ≡ Kept → is_some found ≡ not none → KeptLies db × ((it : KeptLies db) → TellsKeys db it.tree found) → IsTrue none ↔ TableStands t db

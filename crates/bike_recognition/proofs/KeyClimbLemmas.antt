@@ -1,8 +1,8 @@
 -- Callers and keys that climb, or two neighbours that are one, when those of all rows of `kept` are listed.
-use Rattle.std.proofs.Common.{◌≡◌, ℕ, ◌+◌, ◌≤◌, inl, inr, List, [], ◌∷◌, ◌++◌, map, cond, Bool, true, false, Option, Some, None, Ordering, Less, Equal, Greater, nat_cmp, refl, ap, ap₂, subst, sym, ◌∙◌, arith, append_assoc}
+use Rattle.std.proofs.Common.{◌≡◌, ℕ, ◌+◌, ◌≤◌, inl, inr, List, [], ◌∷◌, ◌++◌, map, filter, cond, Bool, true, false, Option, Some, None, Ordering, Less, Equal, Greater, nat_cmp, refl, ap, ap₂, subst, sym, ◌∙◌, arith, append_assoc}
 use Rattle.std.specs.List.{AllByRecursion, IsDistinct, sum_by}
 use Rattle.std.specs.List.Sorted.{IsPermutation}
-use Rattle.std.specs.Ordering.{eq_by_cmp, is_eq, ordering_then}
+use Rattle.std.specs.Ordering.{eq_by_cmp, is_eq, is_lt, ordering_then}
 use Rattle.std.proofs.lemmas.Bool.{true≢false}
 use Rattle.std.proofs.lemmas.Cmp.{tied_itself, tied_back}
 use Rattle.std.specs.Cmp.{eq_by_cmp_equiv}
@@ -16,21 +16,24 @@ use Rattle.sqlite_value.specs.declared.value.Value.TheVariants.{Null, Int, Real,
 use Rattle.sqlite_value.specs.Order.{Row, value_cmp, row_cmp}
 use Rattle.sqlite_value.proofs.KeyLemmas.{then_tied}
 use Rattle.sqlite_value.proofs.OrderLemmas.{then-Equal, row_cmp_total, value_cmp_total, value_cmp-Text, value_cmp-apart}
-use Rattle.sqlite_sql.specs.Query.{Output, IsAnswerAs}
+use Rattle.sqlite_sql.specs.Query.{Output, output_cmp, IsAnswerAs}
+use Rattle.sqlite_sql.proofs.QueryLemmas.{output_cmp_total}
 use Rattle.sqlite_sql.specs.Program.{overlay}
 use Rattle.sqlite_sql.specs.Term.{col}
 use Rattle.sqlite_trees.specs.Tree.{Trees, rowid}
+use Rattle.sqlite_trees.proofs.ListLemmas.{IsPermutation-filter, filter-map}
 use Rattle.sqlite_rules.specs.Lists.{Has}
 use Rattle.bike_rows.specs.Layout.{table_of}
 use Rattle.bike_rows.specs.Queries.{by_columns}
 use Rattle.bike_rows.specs.View.{IsKeyed, AreSpread}
-use Rattle.bike_rows.proofs.AnswerLemmas.{out, answered}
-use Rattle.bike_rows.proofs.ListLemmas.{map_map, filter_all}
+use Rattle.bike_rows.proofs.AnswerLemmas.{Answered, out, answered, out_from}
+use Rattle.bike_rows.proofs.KeyOrderLemmas.{compares}
+use Rattle.bike_rows.proofs.ListLemmas.{map_map, filter_all, filter_has}
 use Rattle.bike_rows.proofs.OrderLemmas.{all_has}
-use Rattle.bike_rows.proofs.SortLemmas.{AreApartAll, rising_apart}
+use Rattle.bike_rows.proofs.SortLemmas.{AreApartAll, NoneAbove, ascends, rising_apart}
 use Rattle.bike_book.specs.Tables.{Kept, keys_of}
 use Rattle.bike_schema.specs.Layouts.{layout_of}
-use Rattle.bike_recognition.specs.Keys.{keys_query, shown_key, IsKeyRow, IsDoubled, order_after, Climb, EndsWith}
+use Rattle.bike_recognition.specs.Keys.{keys_query, shown_key, IsKeyRow, AreTwo, IsFirst, IsDoubled, order_after, Climb, EndsWith}
 use Rattle.bike_recognition.specs.Rowids.{AreApart}
 
 -- ---- one row more
@@ -135,11 +138,11 @@ module _ (key : Row) (it : IsKeyRow key) where
       by true e h rest = (r, inl refl, shows r e)
       by false e h rest = let found = rest (omega (arith, h)) in (found.0, inr found.1, found.2)
 
-  two_of : (rows : List Row) → AreSpread rows → 2 ≤ sum_by (ties key) (map shown_key rows) → IsDoubled rows key
+  two_of : (rows : List Row) → AreSpread rows → 2 ≤ sum_by (ties key) (map shown_key rows) → AreTwo rows key
   two_of [] spread some = absurd (omega (arith, some))
   two_of (r ∷ rows) spread some = by (is_eq (row_cmp key (shown_key r))) refl (subst (λ n. 2 ≤ n) (sum_by-cons (ties key) (shown_key r) (map shown_key rows)) some) (two_of rows spread.1)
     where
-      by : (b : Bool) → is_eq (row_cmp key (shown_key r)) ≡ b → 2 ≤ cond b 1 0 + sum_by (ties key) (map shown_key rows) → (2 ≤ sum_by (ties key) (map shown_key rows) → IsDoubled rows key) → IsDoubled (r ∷ rows) key
+      by : (b : Bool) → is_eq (row_cmp key (shown_key r)) ≡ b → 2 ≤ cond b 1 0 + sum_by (ties key) (map shown_key rows) → (2 ≤ sum_by (ties key) (map shown_key rows) → AreTwo rows key) → AreTwo (r ∷ rows) key
       by true e h rest = let other = one_of rows (omega (arith, h)) in record {
         first = r;
         second = other.0;
@@ -168,16 +171,65 @@ module _ (key : Row) (it : IsKeyRow key) where
       omega (arith, one, first, second, all)
 
   -- two neighbours of those that were given, and what was not given yet
-  pub given_doubled : (rows front more : List Row) → AreSpread rows → IsPermutation (map shown_key rows) (front ++ key ∷ key ∷ more) → IsDoubled rows key
+  given_doubled : (rows front more : List Row) → AreSpread rows → IsPermutation (map shown_key rows) (front ++ key ∷ key ∷ more) → AreTwo rows key
   given_doubled rows front more spread same = let all = sum_by-IsPermutation (ties key) (map shown_key rows) (front ++ key ∷ key ∷ more) same in two_of rows spread (omega (arith, counted front more, all))
 
+-- ---- and none before them
+
+-- whether the row is below the key
+abbrev is_below : Row → Row → Bool
+is_below key row = is_lt (row_cmp row key)
+
+all_kept : (key : Row) (rows : List Row) → AllByRecursion (λ a. row_cmp a key ≡ Less) rows → filter (is_below key) rows ≡ rows
+all_kept key [] low = refl
+all_kept key (a ∷ rows) low = rw (ap is_lt low.0) (ap (λ rs. a ∷ rs) (all_kept key rows low.1))
+
+none_kept : (key : Row) (rows : List Row) → AllByRecursion (λ a. is_lt (row_cmp a key) ≡ false) rows → filter (is_below key) rows ≡ []
+none_kept key [] up = refl
+none_kept key (a ∷ rows) up = rw (up.0) (none_kept key rows up.1)
+
+-- below a key that comes behind rows that climb to it stand those rows
+kept_are : (key : Row) (front more : List Row) → AllByRecursion (λ a. row_cmp a key ≡ Less) front → NoneAbove row_cmp_total (front ++ key ∷ more) → filter (is_below key) (front ++ key ∷ more) ≡ front
+kept_are key [] more low up = rw (ap is_lt (tied_itself row_cmp_total key)) (none_kept key more up.0)
+kept_are key (a ∷ front) more low up = rw (ap is_lt low.0) (ap (λ rs. a ∷ rs) (kept_are key front more low.1 up.1))
+
+front_climbs : (front : List Row) (key : Row) → Climb (front ++ key ∷ []) → Climb front
+front_climbs [] key climb = tt
+front_climbs (a ∷ front) key climb = (all_of front climb.0, front_climbs front key climb.1)
+  where
+    all_of : (rows : List Row) → AllByRecursion (λ b. row_cmp a b ≡ Less) (rows ++ key ∷ []) → AllByRecursion (λ b. row_cmp a b ≡ Less) rows
+    all_of [] all = tt
+    all_of (b ∷ rows) all = (all.0, all_of rows all.1)
+
+given_first : (rows front more : List Row) (key : Row) → IsPermutation (map shown_key rows) (front ++ key ∷ more) → Climb (front ++ key ∷ []) → NoneAbove row_cmp_total (front ++ key ∷ more) → IsFirst rows key
+given_first rows front more key same climb up = record {
+  alone = λ a b p q tie low.
+      let one : a ≡ b = same_row kept apart a b (below a p low) (below b q (sym (row_cmp_total.congr (shown_key a) (shown_key b) key tie) ∙ low)) tie in
+      subst (λ x. value_cmp (rowid a) (rowid x) ≡ Equal) one (tied_itself value_cmp_total (rowid a));
+}
+  where
+    kept : List Row
+    kept = filter (λ r. is_below key (shown_key r)) rows
+
+    below : (r : Row) → Has rows r → row_cmp (shown_key r) key ≡ Less → Has kept r
+    below r h low = filter_has (λ x. is_below key (shown_key x)) rows r h (ap is_lt low)
+
+    found : IsPermutation (map shown_key kept) front
+    found = subst (λ ks. IsPermutation ks front) (filter-map (is_below key) shown_key rows) (subst (IsPermutation (filter (is_below key) (map shown_key rows))) (kept_are key front more (all_below front key climb) up) (IsPermutation-filter (is_below key) (map shown_key rows) (front ++ key ∷ more) same))
+
+    apart : AreApartAll row_cmp_total (map shown_key kept)
+    apart = IsDistinct-IsPermutation (eq_by_cmp row_cmp) (eq_by_cmp_equiv row_cmp_total).symm front (map shown_key kept) (IsPermutation-sym _ _ found) (rising_apart row_cmp_total front (front_climbs front key climb))
+
 -- the last row that was given, and the next one, which ties with it
-pub pair_doubled : (last : Option Row) (row : Row) (rows given more : List Row) → EndsWith last given → order_after last row ≡ Equal → IsKeyRow row → AreSpread rows → IsPermutation (map shown_key rows) ((given ++ row ∷ []) ++ more) → IsDoubled rows row
-pair_doubled None row rows given more ends tie it spread same = absurd (cc)
-pair_doubled (Some last) row rows given more ends tie it spread same =
+pub pair_doubled : (last : Option Row) (row : Row) (rows given more : List Row) → EndsWith last given → order_after last row ≡ Equal → IsKeyRow row → AreSpread rows → Climb given → IsPermutation (map shown_key rows) ((given ++ row ∷ []) ++ more) → NoneAbove row_cmp_total ((given ++ row ∷ []) ++ more)
+    → IsDoubled rows row
+pair_doubled None row rows given more ends tie it spread climb same up = absurd (cc)
+pair_doubled (Some last) row rows given more ends tie it spread climb same up =
     let one : last ≡ row = key_tied row last it (tied_back row_cmp_total last row tie) in
-    let split : (given ++ row ∷ []) ++ more ≡ ends.0 ++ row ∷ row ∷ more = append_assoc given (row ∷ []) more ∙ ap (λ rs. rs ++ row ∷ more) (ends.1 ∙ ap (λ x. ends.0 ++ x ∷ []) one) ∙ append_assoc ends.0 (row ∷ []) (row ∷ more) in
-    given_doubled row it rows ends.0 more spread (subst (IsPermutation (map shown_key rows)) split same)
+    let whole : given ≡ ends.0 ++ row ∷ [] = ends.1 ∙ ap (λ x. ends.0 ++ x ∷ []) one in
+    let split : (given ++ row ∷ []) ++ more ≡ ends.0 ++ row ∷ row ∷ more = append_assoc given (row ∷ []) more ∙ ap (λ rs. rs ++ row ∷ more) whole ∙ append_assoc ends.0 (row ∷ []) (row ∷ more) in
+    let all = subst (IsPermutation (map shown_key rows)) split same in
+    (given_doubled row it rows ends.0 more spread all, given_first rows ends.0 (row ∷ more) row all (subst Climb whole climb) (subst (NoneAbove row_cmp_total) split up))
 
 -- ---- the answer
 
@@ -192,3 +244,31 @@ all_given tree trees rows answer =
     let same : IsPermutation (map shows (trees tree)) it.outs = subst (λ rs. IsPermutation (map shows rs) it.outs) (filter_all (trees tree)) it.same in
     let moved = IsPermutation-map second (map shows (trees tree)) it.outs same in
     subst (IsPermutation (map shown_key (trees tree))) (sym it.shown) (subst (λ xs. IsPermutation xs (map second it.outs)) (map_map shows second (trees tree)) moved)
+
+-- and in the order of callers and keys
+pub all_ordered : (tree : ℕ) (trees : Trees) (rows : List Row) → IsAnswerAs Null (keys_query tree) (overlay trees []) [] rows → NoneAbove row_cmp_total rows
+all_ordered tree trees rows answer =
+    subst (NoneAbove row_cmp_total) (sym it.shown) (in_turn it.outs (λ o h. let from = out_from tree [] (by_columns (1 ∷ 2 ∷ [])) (col 1 1 ∷ col 1 2 ∷ []) trees [] rows it o h in (from.0, from.2)) (ascends (output_cmp_total (keys_query tree)) it.outs it.sorted))
+  where
+    shows : Row → Output
+    shows = out tree [] (by_columns (1 ∷ 2 ∷ [])) (col 1 1 ∷ col 1 2 ∷ []) trees []
+
+    it : Answered tree [] (by_columns (1 ∷ 2 ∷ [])) (col 1 1 ∷ col 1 2 ∷ []) trees [] rows
+    it = answered tree [] (by_columns (1 ∷ 2 ∷ [])) (col 1 1 ∷ col 1 2 ∷ []) trees [] Null rows answer
+
+    IsOf : Output → Type 0
+    IsOf o = (r : Row) × (o ≡ shows r)
+
+    not_above : (x y : Output) → IsOf x → IsOf y → is_lt (output_cmp (keys_query tree) y x) ≡ false → is_lt (row_cmp y.1 x.1) ≡ false
+    not_above x y of_x of_y h =
+        let named : is_lt (output_cmp (keys_query tree) (shows of_y.0) (shows of_x.0)) ≡ false = subst (λ z. is_lt (output_cmp (keys_query tree) (shows of_y.0) z) ≡ false) of_x.1 (subst (λ z. is_lt (output_cmp (keys_query tree) z x) ≡ false) of_y.1 h) in
+        let shown : is_lt (row_cmp (shown_key of_y.0) (shown_key of_x.0)) ≡ false = sym (ap is_lt (compares (1 ∷ 2 ∷ []) [] of_y.0 of_x.0 [] [])) ∙ named in
+        subst (λ z. is_lt (row_cmp z.1 x.1) ≡ false) (sym of_y.1) (subst (λ z. is_lt (row_cmp (shown_key of_y.0) z.1) ≡ false) (sym of_x.1) shown)
+
+    each : (x : Output) (ys : List Output) → IsOf x → ((o : Output) → Has ys o → IsOf o) → AllByRecursion (λ y. is_lt (output_cmp (keys_query tree) y x) ≡ false) ys → AllByRecursion (λ y. is_lt (row_cmp y x.1) ≡ false) (map (λ (o : Output). o.1) ys)
+    each x [] of_x of up = tt
+    each x (y ∷ ys) of_x of up = (not_above x y of_x (of y (inl refl)) up.0, each x ys of_x (λ o h. of o (inr h)) up.1)
+
+    in_turn : (outs : List Output) → ((o : Output) → Has outs o → IsOf o) → NoneAbove (output_cmp_total (keys_query tree)) outs → NoneAbove row_cmp_total (map (λ (o : Output). o.1) outs)
+    in_turn [] of up = tt
+    in_turn (x ∷ outs) of up = (each x outs (of x (inl refl)) (λ o h. of o (inr h)) up.0, in_turn outs (λ o h. of o (inr h)) up.1)

@@ -4,6 +4,7 @@ use Rattle.std.specs.Borrow.{MutBor}
 use Rattle.std.specs.List.Sorted.{IsPermutation}
 use Rattle.sqlite_value.specs.declared.value.Value.TheVariants.{Null}
 use Rattle.sqlite_value.specs.Order.{Row}
+use Rattle.sqlite_value.proofs.OrderLemmas.{row_cmp_total}
 use Rattle.sqlite_trees.specs.declared.store.Store.{Ghosts}
 use Rattle.sqlite.specs.declared.error.Error.{Error}
 use Rattle.sqlite.specs.declared.rows.stream.Rows.{Rows}
@@ -18,8 +19,9 @@ use Rattle.bike_rows.specs.Calls.{IsQuiet, ReadsWhere, StopsWhere}
 use Rattle.bike_rows.proofs.CallLaws.{FollowsQuery, TellsLender}
 use Rattle.bike_rows.proofs.ChainLaws.{reads_as, reads_both}
 use Rattle.bike_rows.proofs.ReadLemmas.{query_stopped}
+use Rattle.bike_rows.proofs.SortLemmas.{NoneAbove}
 use Rattle.bike_recognition.specs.Keys.{KeptLies, TellsKeys, shown_key, keys_text, IsKeyRow, order_after, AreClimbing, BeginsKeys, GivesNext}
-use Rattle.bike_recognition.proofs.KeyClimbLemmas.{climb_more, given_keyed, pair_doubled, all_given}
+use Rattle.bike_recognition.proofs.KeyClimbLemmas.{climb_more, given_keyed, pair_doubled, all_given, all_ordered}
 use Rattle.bike_recognition.proofs.KeyTexts.{asks_keys}
 
 plain : (db : Database) → KeptLies db → IsPlain (understood db.schema keys_text)
@@ -29,9 +31,9 @@ plain db it = (asks_keys db.schema it.at it.tree it.has).1.1
 abbrev AreAll : Database → List Row → Type 0
 AreAll db rows = (it : KeptLies db) → IsPermutation (map shown_key (db.trees it.tree)) rows
 
--- .. of which these come first
+-- .. of which these come first, in their order
 abbrev AreFirst : Database → List Row → Type 0
-AreFirst db rows = (it : KeptLies db) → (more : List Row) × IsPermutation (map shown_key (db.trees it.tree)) (rows ++ more)
+AreFirst db rows = (it : KeptLies db) → (more : List Row) × IsPermutation (map shown_key (db.trees it.tree)) (rows ++ more) × NoneAbove row_cmp_total (rows ++ more)
 
 shown_all : (old new : State) (given : List Row) → Shown keys_text [] old new given → AreAll old.now given
 shown_all old new given shown it =
@@ -43,7 +45,8 @@ module _ {S : Type 0} (g : Ghosts S) where
   given_first h given gave it =
       let asked = (asks_keys (state g h).now.schema it.at it.tree it.has).1 in
       let first = (begins_as keys_text [] (state g h) (state g h) h.schema refl _ asked.0 asked.1 asked.2 given (given_begin g keys_text [] h given gave)).1 in
-      (first.0, all_given it.tree (state g h).now.trees (given ++ first.0) (first.1 Null))
+      let answer = first.1 Null in
+      (first.0, all_given it.tree (state g h).now.trees (given ++ first.0) answer, all_ordered it.tree (state g h).now.trees (given ++ first.0) answer)
 
   -- ---- the query
 
@@ -125,7 +128,7 @@ module _ {S : Type 0} (g : Ghosts S) where
       walk_doubled row order it tie ranks = reads_as (reads_both so_far (step (Some row) it)) (λ db both kept.
           let was = both.0 in
           let first = (both.1 was.given was.gave).1 kept in
-          pair_doubled last row (db.trees kept.tree) was.given first.0 was.ends (sym ranks.1 ∙ tie) ranks.0 kept.apart.0 first.1)
+          pair_doubled last row (db.trees kept.tree) was.given first.0 was.ends (sym ranks.1 ∙ tie) ranks.0 kept.apart.0 was.climb first.1 first.2)
 
       -- the end
       pub walk_ends : {F G : Type 0} → GivesNext g mid new {E = F} (Ok None) → ReadsWhere g KeptLies old new {E = G} (Ok None) (λ db found. (it : KeptLies db) → TellsKeys db it.tree found)

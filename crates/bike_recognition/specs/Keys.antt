@@ -35,7 +35,7 @@ abbrev pub shown_key : Row → Row
 shown_key row = column row 1 ∷ column row 2 ∷ []
 
 -- Two stored rows have this caller and key.
-pub record IsDoubled (rows : List Row) (key : Row) : Type 0 where
+pub record AreTwo (rows : List Row) (key : Row) : Type 0 where
   pub first : Row
   pub second : Row
   pub has_first : Has rows first
@@ -44,7 +44,15 @@ pub record IsDoubled (rows : List Row) (key : Row) : Type 0 where
   pub shows_first : shown_key first ≡ key
   pub shows_second : shown_key second ≡ key
 
--- what is told of the table in the tree: nothing, and its first columns are a key; or a caller and key that two rows have
+-- Of stored rows below this caller and key, two that have one are one.
+pub record IsFirst (rows : List Row) (key : Row) : Type 0 where
+  pub alone : (a b : Row) → Has rows a → Has rows b → row_cmp (shown_key a) (shown_key b) ≡ Equal → row_cmp (shown_key a) key ≡ Less → value_cmp (rowid a) (rowid b) ≡ Equal
+
+-- Two stored rows have this caller and key, and none below it has two.
+abbrev pub IsDoubled : List Row → Row → Type 0
+IsDoubled rows key = AreTwo rows key × IsFirst rows key
+
+-- what is told of the table in the tree: nothing, and its first columns are a key; or the first caller and key that two rows have
 abbrev pub TellsKeys : Database → ℕ → Option Row → Type 0
 TellsKeys db tree None = IsKeyed (keys_of Kept) (table_of (layout_of Kept) tree) (db.trees tree)
 TellsKeys db tree (Some key) = IsDoubled (db.trees tree) key
