@@ -9,8 +9,8 @@ import sqlite3
 from pathlib import Path
 
 from shared import (
-    BY_KEY, FOREIGN, HERE, KEYED, READY, SOUND, STORE_FAILED, UNKEYED, changed, held, is_keyed, laid_out, removed, rows_of,
-    told_with,
+    BY_KEY, FOREIGN, HERE, KEYED, READY, SOUND, STORE_FAILED, UNKEYED, changed, held, is_keyed, laid_out, removed,
+    rows_of, told_with,
 )
 
 NOW = 1700003000
@@ -724,7 +724,8 @@ def test_a_new_file_gets_the_tables(program):
     assert ended == READY, ended
     file = Path(program.folder, "new.db")
     assert rows_of("SELECT * FROM meta", file) == [(1, "bikeshare", 3, 0, 0, 0)]
-    assert rows_of("SELECT sql FROM sqlite_schema WHERE tbl_name = 'kept' ORDER BY name", file) == [(UNKEYED,), (BY_KEY,)]
+    made_so = rows_of("SELECT sql FROM sqlite_schema WHERE tbl_name = 'kept' ORDER BY name", file)
+    assert made_so == [(UNKEYED,), (BY_KEY,)], made_so
     changed(file)
     checked(program, file, None)
     ended = program.run("init", "new.db")

@@ -25,8 +25,8 @@ from pathlib import Path
 import adoption
 from serving import ended
 from shared import (
-    CITY, FEEDS, READY, STORE_FAILED, TOP, Server, answer, body_of, city, free_port, get, is_keyed, is_sound, needs, office,
-    put, ran, removed, rows_of, taken,
+    CITY, FEEDS, READY, STORE_FAILED, TOP, Server, answer, body_of, changed, city, free_port, get, is_keyed, is_sound,
+    needs, office, put, ran, removed, rows_of, taken,
 )
 
 DEPLOY = TOP / "deploy"
@@ -304,13 +304,17 @@ def test_a_standby_that_is_open(program):
 
 
 def test_another_layout_of_kept(program):
-    """By the statements of docs/OPERATING.md a file of an earlier program gets the layout of today, and loses no row."""
+    """By the statements of docs/OPERATING.md a file of an earlier program gets pages and layout of today."""
     file = adoption.made_keyed(program, "city.db")
     text = (TOP / "docs/OPERATING.md").read_text(encoding="utf-8")
     (sql,) = re.findall(r"sqlite3 /var/lib/bikeshare/metro\.db '(BEGIN.*?)'", text, re.S)
+    changed(file, "PRAGMA journal_mode = DELETE; PRAGMA page_size = 4096; VACUUM; PRAGMA journal_mode = WAL")
     kept = rows_of("SELECT * FROM kept ORDER BY rowid", file)
-    assert ran("sqlite3", "city.db", sql, cwd=program.folder) == (0, "")
-    assert not is_keyed(file) and rows_of("SELECT * FROM kept ORDER BY rowid", file) == kept and len(kept) > 30
+    # Of a file in that layout the statements leave it as it is.
+    for _ in range(2):
+        assert ran("sqlite3", "city.db", sql, cwd=program.folder) == (0, "delete\nwal\n")
+        assert not is_keyed(file) and rows_of("SELECT * FROM kept ORDER BY rowid", file) == kept and len(kept) > 30
+        assert rows_of("PRAGMA page_size", file) == [(2048,)]
     adoption.goes_on(program, file)
 
 

@@ -3,7 +3,8 @@ bytes one by one, and it is refused every request for memory, each in its turn. 
 outside; cc builds it.
 
 It does that while it makes a file, serves lines (of a new file, of one that is there, of one that an earlier program
-made, and over the moment at which the log is copied into the file), imports stations, checks a file, writes a feed and the table of a day, and answers HTTP.
+made, and over the moment at which the log is copied into the file), imports stations, checks a file, writes a feed and
+the table of a day, and answers HTTP.
 After each fault, without faults:
 
   - SQLite's own integrity_check finds nothing, and `check` says `sound`, or `store failed` of a file that isn't made
@@ -33,8 +34,8 @@ from pathlib import Path
 import shared
 from shared import (
     DISTURBED, EINTR, EIO, ENOSPC, FAULTS, KEYED, KILLED, NO_SYSTEM, ROOM, SOUND, STORE_FAILED, TOP, UNAVAILABLE, WANTS,
-    Program, at_once, city, counted, environment, exchanged, faulty, get_feed, held, is_sound, laid_out, nothing_is, post,
-    put, quickly, removed, rows_of, taken, tell,
+    Program, at_once, city, counted, environment, exchanged, faulty, get_feed, held, is_sound, laid_out, nothing_is,
+    post, put, quickly, removed, rows_of, taken, tell,
 )
 
 STRIDE = int(os.environ.get("BIKESHARE_STOPS", "0"))
