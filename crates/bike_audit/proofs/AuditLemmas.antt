@@ -35,6 +35,7 @@ use Rattle.bike_judges.specs.declared.key.BadKey.{BadKey}
 use Rattle.bike_judges.specs.Judging.{key_row}
 use Rattle.bike_judges.specs.Verdicts.{EarlierGood, JudgesTable}
 use Rattle.bike_audit.specs.Audit.{IsDoubledFinding, IsAfter, IsFoundIn, IsVerdictOn, IsByRules, IsAudited, row_name}
+use Rattle.bike_audit.specs.Watching.{IsDoubledAt}
 use Rattle.bike_audit.specs.declared.finding.Finding.{Finding}
 use Rattle.bike_audit.specs.declared.finding.Finding.TheVariants as finding
 use Rattle.bike_audit.specs.declared.tables.BadRow.{BadRow}
@@ -216,6 +217,13 @@ by_doubled db (finding.Newer version) is it = absurd it
 pub doubled_audited : {S E F : Type 0} {g : Ghosts S} {old mid new : Held S} {told : Recognition} {result : Result Finding F} → ReadsAny {E = E} g old mid (Ok told) IsRecognised → told ≡ recognition.Doubled
     → ReadsWhere g KeptLies mid new result IsDoubledFinding → ReadsAny g old new result IsAudited
 doubled_audited one is two = reads_weaker (reads_once one (λ db told. subst (IsRecognised db) is told) (reads_under doubled_lies two)) (λ db found both. by_doubled db found both.0 both.1)
+
+pub doubled_at : {S E F : Type 0} {g : Ghosts S} {old mid new : Held S} {told : Recognition} {result : Result Finding F} → ReadsAny {E = E} g old mid (Ok told) IsRecognised → told ≡ recognition.Doubled
+    → ReadsWhere g KeptLies mid new result IsDoubledFinding → IsDoubledAt g old new
+doubled_at {g = g} {old = old} {mid = mid} {new = new} one is two clean =
+    let kept = two.quiet.survives.clean in
+    let early : HasCleanDisk (state g mid) = omega (arith, clean, kept) in
+    subst (IsRecognised (state g old).now) is (one.found early tt)
 
 -- a caller and key are two columns
 pub two_columns : (rows : List Row) (key : Row) → IsDoubled rows key → IsDoubled rows (take 2 key)

@@ -45,7 +45,7 @@ IsByRules db finding.Sound = IsVerdict (tables_of db) None
 IsByRules db (finding.Unsound bad) = IsVerdict (tables_of db) (Some (row_name bad))
 IsByRules db _ = ⊥
 
--- the row is one of two of `kept` that have one key
+-- the row of `kept` is named by the first caller and key that two of its rows have
 abbrev pub IsDoubledRow : Database → BadRow → Type 0
 IsDoubledRow db bad = (bad.table ≡ name.Kept) × ((it : KeptLies db) → IsDoubled (db.trees it.tree) (key_row bad.key))
 
@@ -53,9 +53,11 @@ abbrev pub IsDoubledFinding : Database → Finding → Type 0
 IsDoubledFinding db (finding.Unsound bad) = IsDoubledRow db bad
 IsDoubledFinding db _ = ⊥
 
--- a bad row: by the rules, or, where the keys of `kept` alone aren't apart, one of two that have one
+-- a bad row: by the rules, or, where the keys of `kept` alone aren't apart, by the first key that two rows have
 abbrev pub IsBadIn : Database → BadRow → Type 0
-IsBadIn db bad = (IsRecognised db recognition.Ours × (HasTables db × IsByRules db (finding.Unsound bad))) ⊎ (IsRecognised db recognition.Doubled × IsDoubledRow db bad)
+IsBadIn db bad =
+    (IsRecognised db recognition.Ours × (HasTables db × IsByRules db (finding.Unsound bad)))
+    ⊎ (IsRecognised db recognition.Doubled × IsDoubledRow db bad)
 
 -- WHAT THE AUDIT FINDS: what the database is recognised as, and by the rules where that is the product's newest version
 abbrev pub IsAudited : Database → Finding → Type 0

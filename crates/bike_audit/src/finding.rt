@@ -1,12 +1,12 @@
 //! What a database is, and whether its tables stand for an operator.
 
-ghost use Rattle.std.specs.Prelude.{[]};
+ghost use Rattle.std.specs.Prelude.{IfOk};
 ghost use Rattle.bike_rows.specs.Calls.{ReadsWhere};
 ghost use Rattle.bike_schema.specs.Tables.{HasTables};
 ghost use Rattle.bike_recognition.specs.Recognition.{ReadsAny};
 ghost use Rattle.bike_audit.specs.Audit.{IsAudited, IsByRules, IsDoubledFinding};
 ghost use Rattle.bike_recognition.specs.Keys.{KeptLies};
-ghost use Rattle.bike_audit.specs.Watching.{WasTold, AreToldOf};
+ghost use Rattle.bike_audit.specs.Watching.{WasTold, AreToldOf, IsDoubledAt, IsOfKept};
 
 use crate::tables::{BadRow, first_bad_row};
 use crate::watch::Watch;
@@ -27,7 +27,7 @@ pub enum Finding {
     /// It has some of the names, and isn't the product's.
     Foreign,
     /// All tables stand, in the newest version, but perhaps for keys of `kept`; this is the first row that is not an
-    /// operator's, or one of two rows of `kept` that have one key.
+    /// operator's, or the first caller and key of `kept` that two rows have.
     Unsound(BadRow),
     /// It is of this earlier version of the schema.
     Older(u64),
@@ -43,7 +43,7 @@ fn audit_tables<S: Alter, P: Watch>(
 ) -> Result<Finding, StatementFault>
     ensures found { ReadsWhere S.Store HasTables conn.old conn.new result
         (λ db found. HasTables db × IsByRules db found) }
-    ensures watched { WasTold (P.told watch.old) (P.told watch.new) (AreToldOf result) }
+    ensures watched { WasTold (P.told watch.old) (P.told watch.new) (AreToldOf ⊥ result) }
 {
     check_open(conn)?;
     obeys_schema(conn);
@@ -53,10 +53,10 @@ fn audit_tables<S: Alter, P: Watch>(
     }
 }
 
-/// The caller and key that two rows of `kept` have, where that is all that a database lacks.
+/// The first caller and key that two rows of `kept` have, where that is all that a database lacks.
 fn find_doubled<S: Alter>(conn: &mut Connection<S>) -> Result<Finding, StatementFault>
     ensures found { ReadsWhere S.Store KeptLies conn.old conn.new result IsDoubledFinding }
-    ensures watched { AreToldOf result [] }
+    ensures of_kept { IfOk result IsOfKept }
 {
     match doubled_key(conn)? {
         Some(key) => Ok(Finding::Unsound(BadRow {
@@ -76,7 +76,8 @@ pub fn audit<S: Alter, P: Watch>(
     watch: &mut P,
 ) -> Result<Finding, StatementFault>
     ensures audited { ReadsAny S.Store conn.old conn.new result IsAudited }
-    ensures watched { WasTold (P.told watch.old) (P.told watch.new) (AreToldOf result) }
+    ensures watched { WasTold (P.told watch.old) (P.told watch.new)
+        (AreToldOf (IsDoubledAt S.Store conn.old conn.new) result) }
 {
     match recognise(alloc, conn)? {
         Recognition::Empty => Ok(Finding::Empty),

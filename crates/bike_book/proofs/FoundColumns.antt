@@ -17,7 +17,8 @@ use Rattle.sqlite_rules.specs.Lists.{Has}
 use Rattle.bike_rows.specs.View.{rows_where}
 use Rattle.bike_operator.specs.NameKinds.{kind_text}
 use Rattle.bike_operator.specs.NameKind.{NameKind}
-use Rattle.bike_operator.specs.Rows.{SegmentRow, PlanRow}
+use Rattle.bike_attributes.specs.Values.{SegmentRow}
+use Rattle.bike_operator.specs.Rows.{PlanRow}
 use Rattle.bike_ledger.specs.Entries.{Entry}
 use Rattle.bike_operator.specs.declared.records.Place.{Place}
 use Rattle.bike_operator.specs.declared.records.Place.TheVariants as place

@@ -12,7 +12,8 @@ use Rattle.sqlite_rules.specs.Lists.{Has}
 use Rattle.bike_rows.specs.View.{row_with, rows_after_update, with_values}
 use Rattle.bike_rows.proofs.SetLaw.{updated_there}
 use Rattle.bike_operator.specs.NameKind.TheVariants as named
-use Rattle.bike_operator.specs.Rows.{SegmentRow, PlanRow, TypeRow, RegionRow, SystemRow}
+use Rattle.bike_attributes.specs.Values.{SegmentRow}
+use Rattle.bike_operator.specs.Rows.{PlanRow, TypeRow, RegionRow, SystemRow}
 use Rattle.bike_operator.specs.Operator.{Station, text_cmp, name_key}
 use Rattle.bike_operator.specs.Steps.{found_changed, key_changed, system_named}
 use Rattle.bike_places.proofs.MapLemmas.{text_order, known_changed}

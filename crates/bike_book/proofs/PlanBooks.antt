@@ -10,7 +10,8 @@ use Rattle.sqlite_value.specs.Order.{Row}
 use Rattle.sqlite_value.proofs.OrderLemmas.{value_cmp-Text, then-Equal}
 use Rattle.sqlite_rules.specs.Lists.{Has}
 use Rattle.bike_rows.specs.View.{by_key, put_row_by}
-use Rattle.bike_operator.specs.Rows.{SegmentRow, PlanRow}
+use Rattle.bike_attributes.specs.Values.{SegmentRow}
+use Rattle.bike_operator.specs.Rows.{PlanRow}
 use Rattle.bike_operator.specs.Operator.{text_cmp}
 use Rattle.bike_places.proofs.MapLemmas.{text_order}
 use Rattle.bike_accepted.specs.declared.change.Change.TheVariants as change

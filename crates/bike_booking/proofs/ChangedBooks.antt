@@ -1,7 +1,7 @@
 -- One other record, as row changes.
 use Rattle.std.proofs.Common.{◌≡◌, ◌+◌, ◌<◌, ℕ, suc, pos, length, List, [], ◌∷◌, None, refl, ap, subst, arith}
 use Rattle.std.specs.FinMap as fin
-use Rattle.bike_catalogue.specs.Rows.{SegmentRow}
+use Rattle.bike_attributes.specs.Values.{SegmentRow}
 use Rattle.bike_ledger.specs.Ledger.{balance_of, refunded_of}
 use Rattle.bike_operator.specs.Operator.{Operator}
 use Rattle.bike_operator.specs.Sound.{AreNamesSound}

@@ -5,7 +5,7 @@ use Rattle.std.specs.FinMap as fin
 use Rattle.bike_operator.specs.NameKind.{NameKind}
 use Rattle.bike_operator.specs.NameKind.TheVariants as named
 use Rattle.bike_operator.specs.Operator.{key_of}
-use Rattle.bike_operator.specs.Rows.{SegmentRow}
+use Rattle.bike_attributes.specs.Values.{SegmentRow}
 use Rattle.bike_book.specs.Stored.{tables_for}
 use Rattle.bike_book.specs.Writes.{write_of, writes_of, own_name_write, tables_after, MayWriteAll}
 use Rattle.bike_book.specs.declared.row_change.RowChange.TheVariants as row

@@ -16,8 +16,8 @@ use crate::stored::{Stored, StoredCounts, StoredDock, Sums};
 use crate::texts::KeptTexts;
 use arrayvec::ArrayVec;
 use bike_accepted::{Accepted, Booked, Change, DockAt, Held, Moved, Standing};
+use bike_attributes::Segment;
 use bike_book::RowChange;
-use bike_catalogue::Segment;
 use bike_fields::{DockCount, Ident};
 use bike_fixed::Moment;
 

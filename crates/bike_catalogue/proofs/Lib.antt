@@ -1,3 +1,1 @@
 pub mod Checks
-pub mod Vehicles
-pub mod NameKinds

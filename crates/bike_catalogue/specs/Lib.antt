@@ -1,4 +1,2 @@
 pub mod Rows
 pub mod RowFaults
-pub mod Vehicle
-pub mod NameKinds

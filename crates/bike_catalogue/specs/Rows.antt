@@ -1,19 +1,12 @@
 -- The records of the catalogue, as contracts see them.
-use Rattle.std.specs.Prelude.{◌≡◌, ℕ, ℤ, pos, neg_ℤ, ◌+◌, ◌≤◌, ◌<◌, ◌≤ℤ◌, List, length, Bool, true, Option, None, Some, nat_lt, nat_le, int_le, ◌==◌, ◌&&◌, if◌then◌else◌}
+use Rattle.std.specs.Prelude.{◌≡◌, ℕ, ℤ, ◌+◌, ◌≤◌, List, length, Bool, true, Option, None, Some, nat_le, if◌then◌else◌}
 use Rattle.bike_fields.specs.Coordinate.{IsMicro}
-use Rattle.bike_catalogue.specs.declared.vehicle.Form.{Form}
-use Rattle.bike_catalogue.specs.declared.vehicle.Propulsion.{Propulsion}
-use Rattle.bike_catalogue.specs.declared.vehicle.Propulsion.TheVariants.{Human, ElectricAssist}
-use Rattle.bike_fields.specs.declared.numbers.TheConstants.{MOST_DOCKS, LAST_MINUTE, GREATEST_PRICE, GREATEST_RANGE, LONGEST_TIME_TO_LIVE}
-use Rattle.bike_catalogue.specs.declared.limits.TheConstants.{MOST_SEGMENTS, GREATEST_RATE, GREATEST_LATITUDE}
+use Rattle.bike_attributes.specs.declared.vehicle.Form.{Form}
+use Rattle.bike_attributes.specs.declared.vehicle.Propulsion.{Propulsion}
+use Rattle.bike_fields.specs.declared.numbers.TheConstants.{MOST_DOCKS, GREATEST_PRICE, LONGEST_TIME_TO_LIVE}
+use Rattle.bike_attributes.specs.declared.limits.TheConstants.{MOST_SEGMENTS}
+use Rattle.bike_attributes.specs.Values.{SegmentRow, PositionRow, IsRange, is_range, IsLatitude, is_latitude}
 use Rattle.bike_fields.specs.Bytes.{is_ident, is_name, is_ascii_field, is_language, is_currency}
-
--- minutes from the start of a rental; the rate in hundredths; no end means that the segment goes on
-pub record SegmentRow : Type 0 where
-  pub start : ℕ
-  pub rate : ℤ
-  pub interval : ℕ
-  pub end : Option ℕ
 
 pub record PlanRow : Type 0 where
   pub plan_id : List ℕ
@@ -37,11 +30,6 @@ pub record StationRow : Type 0 where
   pub lat : ℤ
   pub lon : ℤ
   pub docks : ℕ
-
--- where a station stands
-pub record PositionRow : Type 0 where
-  pub lat : ℤ
-  pub lon : ℤ
 
 pub record RegionRow : Type 0 where
   pub region_id : List ℕ
@@ -102,10 +90,6 @@ system_of_fields system_id language name opening_hours feed_contact_email timezo
   ttl = ttl;
 }
 
--- a position from its latitude and longitude, in microdegrees
-abbrev pub position_of_fields : ℤ → ℤ → PositionRow
-position_of_fields lat lon = record { lat = lat; lon = lon }
-
 abbrev pub settings_of_fields : List ℕ → List ℕ → List ℕ → List ℕ → List ℕ → ℕ → SettingsRow
 settings_of_fields name opening_hours feed_contact_email timezone base_url ttl = record {
   name = name;
@@ -137,27 +121,6 @@ system_with x s = record s {
 
 -- the bounds of each record
 
-abbrev pub IsRate : ℤ → Type 0
-IsRate z = (neg_ℤ (pos GREATEST_RATE) ≤ℤ z) × (z ≤ℤ pos GREATEST_RATE)
-
-abbrev pub is_rate : ℤ → Bool
-is_rate z = int_le (neg_ℤ (pos GREATEST_RATE)) z && int_le z (pos GREATEST_RATE)
-
--- an end is a minute after the start
-abbrev pub IsEnd : ℕ → Option ℕ → Type 0
-IsEnd start None = Unit {0}
-IsEnd start (Some end) = (end ≤ LAST_MINUTE) × (start < end)
-
-abbrev pub is_after : ℕ → Option ℕ → Bool
-is_after start None = true
-is_after start (Some end) = nat_lt start end
-
-pub record IsSegment (s : SegmentRow) : Type 0 where
-  pub start : s.start ≤ LAST_MINUTE
-  pub rate : IsRate s.rate
-  pub interval : s.interval ≤ LAST_MINUTE
-  pub end : IsEnd s.start s.end
-
 pub record IsPlan (p : PlanRow) : Type 0 where
   pub plan_id : is_ident p.plan_id ≡ true
   pub name : is_name p.name ≡ true
@@ -169,16 +132,6 @@ pub record IsPlan (p : PlanRow) : Type 0 where
 abbrev pub plan_within : PlanRow → Option PlanRow
 plan_within p = if nat_le (length p.segments) MOST_SEGMENTS then Some p else None
 
--- in metres: 0 exactly with human propulsion
-abbrev pub IsRange : Propulsion → ℕ → Type 0
-IsRange Human n = n ≡ 0
-IsRange ElectricAssist n = (1 ≤ n) × (n ≤ GREATEST_RANGE)
-
--- the same as a test
-abbrev pub is_range : Propulsion → ℕ → Bool
-is_range Human n = n == 0
-is_range ElectricAssist n = nat_le 1 n && nat_le n GREATEST_RANGE
-
 -- the vehicle type, where its range goes with its propulsion
 abbrev pub type_within : TypeRow → Option TypeRow
 type_within t = if is_range t.propulsion t.max_range then Some t else None
@@ -188,13 +141,6 @@ pub record IsType (t : TypeRow) : Type 0 where
   pub name : is_name t.name ≡ true
   pub max_range : IsRange t.propulsion t.max_range
   pub plan_id : is_ident t.plan_id ≡ true
-
--- from 90 degrees south to 90 degrees north
-abbrev pub IsLatitude : ℤ → Type 0
-IsLatitude z = (neg_ℤ (pos GREATEST_LATITUDE) ≤ℤ z) × (z ≤ℤ pos GREATEST_LATITUDE)
-
-abbrev pub is_latitude : ℤ → Bool
-is_latitude z = int_le (neg_ℤ (pos GREATEST_LATITUDE)) z && int_le z (pos GREATEST_LATITUDE)
 
 -- the station, where its latitude is one
 abbrev pub station_within : StationRow → Option StationRow
@@ -207,15 +153,6 @@ pub record IsStation (s : StationRow) : Type 0 where
   pub lon : IsMicro s.lon
   pub some_docks : 1 ≤ s.docks
   pub few_docks : s.docks ≤ MOST_DOCKS
-
--- a latitude and a longitude that there are
-pub record IsPosition (p : PositionRow) : Type 0 where
-  pub lat : IsLatitude p.lat
-  pub lon : IsMicro p.lon
-
--- the position, where its latitude is one
-abbrev pub position_within : PositionRow → Option PositionRow
-position_within p = if is_latitude p.lat then Some p else None
 
 pub record IsRegion (r : RegionRow) : Type 0 where
   pub region_id : is_ident r.region_id ≡ true

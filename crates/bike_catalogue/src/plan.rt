@@ -5,9 +5,7 @@ ghost use Rattle.bike_fields.specs.Fault.{Tests};
 ghost use Rattle.bike_catalogue.specs.RowFaults.{MakesPlan, plan_fault};
 ghost use Rattle.bike_catalogue.specs.Rows.{IsPlan, plan_of_fields, plan_within};
 
-use crate::limits::MOST_SEGMENTS;
-use crate::range::in_range;
-use crate::segment::Segment;
+use bike_attributes::{MOST_SEGMENTS, Segment, in_range};
 use bike_fields::{Bound, Field, FieldFault, Ident, Name, Price};
 use std::alloc::{AllocError, Global};
 use std::marker::Model;
@@ -26,7 +24,7 @@ pub struct Plan {
 
 impl Model for Plan {
     ghost use Rattle.std.specs.Prelude.{◌≤◌, length};
-    ghost use Rattle.bike_catalogue.specs.declared.limits.TheConstants.{MOST_SEGMENTS};
+    ghost use Rattle.bike_attributes.specs.declared.limits.TheConstants.{MOST_SEGMENTS};
     ghost use Rattle.bike_catalogue.specs.Rows.{PlanRow};
 
     ghost Value = { PlanRow };

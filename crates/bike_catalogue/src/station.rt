@@ -5,8 +5,7 @@ ghost use Rattle.bike_fields.specs.Fault.{Tests};
 ghost use Rattle.bike_catalogue.specs.RowFaults.{MakesStation, station_fault};
 ghost use Rattle.bike_catalogue.specs.Rows.{IsStation, station_of_fields, station_within};
 
-use crate::limits::GREATEST_LATITUDE;
-use crate::range::{coordinate, in_range};
+use bike_attributes::{GREATEST_LATITUDE, coordinate, in_range};
 use bike_fields::{DockCount, Field, FieldFault, GREATEST_COORDINATE, Ident, Micro, Name};
 use std::alloc::{AllocError, Global};
 use std::marker::Model;
@@ -22,7 +21,8 @@ pub struct Station {
 }
 
 impl Model for Station {
-    ghost use Rattle.bike_catalogue.specs.Rows.{StationRow, IsLatitude};
+    ghost use Rattle.bike_attributes.specs.Values.{IsLatitude};
+    ghost use Rattle.bike_catalogue.specs.Rows.{StationRow};
 
     ghost Value = { StationRow };
 

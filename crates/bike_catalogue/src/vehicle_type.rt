@@ -2,11 +2,12 @@
 
 ghost use Rattle.std.specs.Prelude.{◌≡◌, IfOk};
 ghost use Rattle.bike_fields.specs.Fault.{Tests, at_field};
-ghost use Rattle.bike_catalogue.specs.RowFaults.{MakesType, type_fault, value_or_fault, max_range_fault};
-ghost use Rattle.bike_catalogue.specs.Rows.{IsType, is_range, type_of_fields, type_within};
+ghost use Rattle.bike_attributes.specs.Faults.{value_or_fault};
+ghost use Rattle.bike_catalogue.specs.RowFaults.{MakesType, type_fault, max_range_fault};
+ghost use Rattle.bike_attributes.specs.Values.{is_range};
+ghost use Rattle.bike_catalogue.specs.Rows.{IsType, type_of_fields, type_within};
 
-use crate::range::in_range;
-use crate::vehicle::{Form, Propulsion};
+use bike_attributes::{Form, Propulsion, in_range};
 use bike_fields::{Bound, Field, FieldFault, GREATEST_RANGE, Ident, MaxRange, Name};
 use std::alloc::{AllocError, Global};
 use std::marker::Model;
@@ -24,7 +25,8 @@ pub struct VehicleType {
 }
 
 impl Model for VehicleType {
-    ghost use Rattle.bike_catalogue.specs.Rows.{TypeRow, IsRange};
+    ghost use Rattle.bike_attributes.specs.Values.{IsRange};
+    ghost use Rattle.bike_catalogue.specs.Rows.{TypeRow};
 
     ghost Value = { TypeRow };
 

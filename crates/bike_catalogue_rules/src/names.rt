@@ -12,8 +12,8 @@ ghost use Rattle.bike_judges.specs.Verdicts.{JudgesTable};
 ghost use Rattle.bike_catalogue_rules.specs.Names.{system_key, with_system, is_of_same, names_since, is_own_id, is_further, next_run, first_misnamed, is_place_there, is_offer_there, has_place, has_offer};
 
 use crate::key::columns_key;
+use bike_attributes::NameKind;
 use bike_book::columns::{more_names, plans, regions, stations, types};
-use bike_catalogue::NameKind;
 use bike_fields::{Ident, Language};
 use bike_judges::{
     BadKey, Judge, LineFold, LineJudge, LineTest, Query, fold_lines, judge_lines, least,

@@ -1,9 +1,10 @@
 //! Commands: what a request asks the operator to do.
 
+use bike_catalogue::{Plan, Region, Settings, Station, System, VehicleType};
 use bike_texts::{
     BicycleNumber, DockCount, DockNumber, Ident, Language, Name, NameKind, OrderEnd, OrderNumber,
-    OrderQuantity, Payment, Plan, Position, Region, RentalNumber, RiderNumber, Settings, Side,
-    Station, System, TruckCapacity, TruckNumber, UnloadDock, VehicleType,
+    OrderQuantity, Payment, Position, RentalNumber, RiderNumber, Side, TruckCapacity, TruckNumber,
+    UnloadDock,
 };
 
 /// What a request asks for. Its fields keep their bounds by their types.

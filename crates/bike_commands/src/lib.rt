@@ -10,10 +10,11 @@ mod refusal;
 mod reply;
 mod request;
 
+pub use bike_catalogue::{Plan, Region, Settings, Station, System, VehicleType};
 pub use bike_texts::{
     BicycleNumber, DockCount, DockNumber, Ident, Language, Name, NameKind, OrderEnd, OrderNumber,
-    OrderQuantity, Plan, Position, Region, RentalNumber, RiderNumber, Segment, Settings, Station,
-    System, TruckCapacity, TruckNumber, UnloadDock, VehicleType,
+    OrderQuantity, Position, RentalNumber, RiderNumber, Segment, TruckCapacity, TruckNumber,
+    UnloadDock,
 };
 pub use command::Command;
 pub use refusal::Refusal;

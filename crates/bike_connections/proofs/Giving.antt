@@ -1,8 +1,10 @@
 -- Connections that are handed out, one of those ahead.
 use Rattle.std.proofs.Common.{◌≡◌, ℕ, List, [], ◌∷◌, ◌++◌, Option, Some, None, is_some, true, false, subst}
-use Rattle.bike_connections.specs.Ahead.{Coming, Loses}
-use Rattle.bike_connections.specs.declared.exchange.Exchange.{Exchange}
-use Rattle.bike_connections.specs.Handed.{coming_from, Gives}
+use Rattle.bike_exchange.specs.Asking.{Coming}
+use Rattle.bike_connections.specs.Ahead.{Loses}
+use Rattle.bike_exchange.specs.declared.exchange.Exchange.{Exchange}
+use Rattle.bike_exchange.specs.Asking.{coming_from}
+use Rattle.bike_connections.specs.Handed.{Gives}
 use Rattle.bike_connections.proofs.Losing.{loses_via}
 
 -- one that was taken out, by itself

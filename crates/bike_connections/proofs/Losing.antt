@@ -4,7 +4,8 @@ use Rattle.std.proofs.lemmas.Bool.{cases_eq}
 use Rattle.std.proofs.lemmas.List.Sums.{sum_by-cons}
 use Rattle.std.proofs.lemmas.List.Sorted.{IsPermutation-refl, IsPermutation-sym, IsPermutation-trans, IsPermutation-append_left, IsPermutation-append_right, IsPermutation-append_comm, IsPermutation-middle}
 use Rattle.slab.specs.Slab.{Slab, get, slab_len, Updates}
-use Rattle.bike_connections.specs.Ahead.{Coming, Loses, ahead_in}
+use Rattle.bike_exchange.specs.Asking.{Coming}
+use Rattle.bike_connections.specs.Ahead.{Loses, ahead_in}
 
 -- what is lost is moved past what stays
 past : (xs ys zs : List Coming) → IsPermutation (xs ++ (ys ++ zs)) (ys ++ (xs ++ zs))

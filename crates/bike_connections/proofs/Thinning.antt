@@ -1,11 +1,13 @@
 -- The crowd of connections as some end, come in or are handed out.
 use Rattle.std.proofs.Common.{◌≡◌, ℕ, max, take, List, [], ◌∷◌, ◌++◌, Option, Some, None, refl, sym, subst, ap, ◌∙◌}
-use Rattle.bike_connections.specs.Ahead.{Coming, Loses, Crowd, Thins}
-use Rattle.bike_connections.specs.declared.exchange.Exchange.{Exchange}
-use Rattle.bike_connections.specs.declared.peer.Peer.{Peer}
-use Rattle.bike_connections.specs.Asking.{coming_of}
+use Rattle.bike_exchange.specs.Asking.{Coming}
+use Rattle.bike_connections.specs.Ahead.{Loses, Crowd, Thins}
+use Rattle.bike_exchange.specs.declared.exchange.Exchange.{Exchange}
+use Rattle.bike_exchange.specs.declared.peer.Peer.{Peer}
+use Rattle.bike_exchange.specs.Asking.{coming_of}
 use Rattle.bike_connections.specs.Accepting.{PicksAlone}
-use Rattle.bike_connections.specs.Handed.{moment_of, unread, coming_from, Gives, HandsOut}
+use Rattle.bike_exchange.specs.Asking.{moment_of, unread, coming_from}
+use Rattle.bike_connections.specs.Handed.{Gives, HandsOut}
 use Rattle.bike_connections.proofs.Losing.{loses_then, loses_front, loses_behind, loses_before, loses_one}
 
 -- ---- none is handed out
@@ -25,16 +27,6 @@ pub thins_coming : (old : Crowd) (opened coming left : List Coming) (latest : �
     → Loses coming left → Thins old (record { ahead = opened ++ left; latest = latest })
 thins_coming old opened coming left latest is lost =
     subst (λ (c : Crowd). Thins c (record { ahead = opened ++ left; latest = latest })) is (loses_behind opened coming left lost, refl)
-
--- a connection of which some came
-pub one_is : {S : Type 0} (coming : S → List ℕ) (peer : Peer S) (bytes start came : List ℕ) (moment : ℕ) (socket : S) (x : List Coming)
-    → x ≡ coming_of coming peer bytes ∷ [] → peer.moment ≡ moment → peer.socket ≡ socket → bytes ≡ start ++ came → start ≡ []
-    → x ≡ record { moment = moment; input = came ++ coming socket } ∷ []
-one_is {S} coming peer bytes start came moment socket x is at of_socket grown none =
-    is
-    ∙ ap (λ (m : ℕ). record { moment = m; input = bytes ++ coming peer.socket } ∷ []) at
-    ∙ ap (λ (s : S). record { moment = moment; input = bytes ++ coming s } ∷ []) of_socket
-    ∙ ap (λ (b : List ℕ). record { moment = moment; input = b ++ coming socket } ∷ []) (grown ∙ ap (λ (xs : List ℕ). xs ++ came) none)
 
 -- one is taken in that was accepted
 pub taken_in : (old : Crowd) (opened new coming x : List Coming) (one : Coming) (latest : ℕ) → record { ahead = opened ++ coming; latest = latest } ≡ old

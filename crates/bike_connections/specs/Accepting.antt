@@ -2,7 +2,8 @@
 use Rattle.std.specs.Prelude.{ℕ, ◌≤◌, List, ◌∷◌, ◌++◌, take, Option, Some, None, IfSome, Result, Ok, Err, IfOk}
 use Rattle.bike_connections.specs.declared.network.Accepted.{Accepted}
 use Rattle.bike_connections.specs.declared.network.Accepted.TheVariants.{One, Lost, Nobody}
-use Rattle.bike_connections.specs.Ahead.{Coming, Loses}
+use Rattle.bike_exchange.specs.Asking.{Coming}
+use Rattle.bike_connections.specs.Ahead.{Loses}
 
 -- no more bytes were read than there is room for
 abbrev pub IsWithin : {S E : Type 0} → ℕ → Result (Option (S × ℕ × ℕ)) E → Type 0

@@ -1,10 +1,6 @@
 -- Connections of which it is known what comes.
 use Rattle.std.specs.Prelude.{◌≡◌, ℕ, List, [], ◌∷◌, ◌++◌, Option, Some, None, IsPermutation}
-
--- a connection that comes: when it is accepted, and all that its client sends
-pub record Coming : Type 0 where
-  pub moment : ℕ
-  pub input : List ℕ
+use Rattle.bike_exchange.specs.Asking.{Coming}
 
 -- those that were ahead are ahead still, but for some that ended with nothing asked of the desk
 abbrev pub Loses : List Coming → List Coming → Type 0

@@ -1,24 +1,13 @@
 -- Connections that are handed out, to be answered.
-use Rattle.std.specs.Prelude.{◌≡◌, ℕ, max, List, [], ◌∷◌, ◌++◌, drop, Option, Some, None, Result, Ok, Err}
-use Rattle.bike_connections.specs.declared.exchange.Exchange.{Exchange}
-use Rattle.bike_connections.specs.Ahead.{Coming, Loses, Crowd}
-
--- when it was accepted, or another that was handed out before, if that is later
-abbrev pub moment_of : {S : Type 0} → Exchange S → ℕ
-moment_of {S} exchange = exchange.peer.moment
+use Rattle.std.specs.Prelude.{◌≡◌, ℕ, max, List, [], ◌∷◌, Option, Some, None, Result, Ok, Err}
+use Rattle.bike_exchange.specs.declared.exchange.Exchange.{Exchange}
+use Rattle.bike_exchange.specs.Asking.{Coming, moment_of, unread, coming_from}
+use Rattle.bike_connections.specs.Ahead.{Loses, Crowd}
 
 module _ {S : Type 0} (coming : S → List ℕ) where
-  -- what is still to be read of its request, and what comes behind
-  abbrev pub unread : Exchange S → List ℕ
-  unread exchange = drop exchange.start exchange.bytes.items ++ coming exchange.peer.socket
-
-  -- the connection as it was ahead
-  abbrev pub coming_from : Exchange S → Coming
-  coming_from exchange = record { moment = moment_of exchange; input = unread exchange }
-
   -- one of those ahead is given, to which nothing was sent, or none; others may be lost
   abbrev pub Gives : List Coming → List Coming → Option (Exchange S × List ℕ) → Type 0
-  Gives old new (Some handed) = Loses old (coming_from handed.0 ∷ new) × (handed.1 ≡ [])
+  Gives old new (Some handed) = Loses old (coming_from coming handed.0 ∷ new) × (handed.1 ≡ [])
   Gives old new None = Loses old new
 
   -- One of those ahead is handed out with all that its client sends, at the moment of its acceptance, or at that of one before it, if
@@ -28,7 +17,7 @@ module _ {S : Type 0} (coming : S → List ℕ) where
     pub ahead : Loses old.ahead (coming_one ∷ new.ahead)
     pub moment : moment_of exchange ≡ max old.latest coming_one.moment
     pub latest : new.latest ≡ moment_of exchange
-    pub reads : unread exchange ≡ coming_one.input
+    pub reads : unread coming exchange ≡ coming_one.input
     pub writes : answer ≡ []
 
   -- WHAT IS HANDED OUT: one of those ahead; or none, where none is ahead any more; an error loses no more than some of them

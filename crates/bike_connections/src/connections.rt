@@ -2,16 +2,13 @@
 
 ghost use Rattle.std.specs.Prelude.{◌≡◌, ◌∷◌, ◌++◌, max, IsTrue, IfOk};
 ghost use Rattle.bike_connections.specs.Ahead.{Loses, Thins};
-ghost use Rattle.bike_connections.specs.Handed.{moment_of, unread, Gives, Hands};
+ghost use Rattle.bike_exchange.specs.Asking.{moment_of, unread};
+ghost use Rattle.bike_connections.specs.Handed.{Gives, Hands};
 
-use crate::answer::Answer;
-use crate::connection::Connection;
-use crate::exchange::Exchange;
-use crate::gathering::Gathering;
-use crate::limits::{PIECE, TURN};
+use crate::limits::TURN;
 use crate::network::{Accepted, Network};
 use crate::open::Open;
-use crate::peer::Peer;
+use bike_exchange::{Answer, Connection, Exchange, PIECE};
 use bike_fixed::Moment;
 use std::alloc::Global;
 use std::io;
@@ -67,12 +64,9 @@ impl<N: Network> Connections<N> {
             → Loses (record { moment = moment; input = came.now ++ N.Socket.coming socket } ∷ self.old.ahead) self.new.ahead }
         ensures latest { self.new.latest ≡ self.old.latest }
     {
-        let peer = Peer::new(socket, moment, self.now);
-        let mut gathering = Gathering::new(self.alloc);
-        let Ok(()) = gathering.add(came) else {
+        let Ok(connection) = Connection::begin(self.alloc, socket, moment, self.now, came) else {
             return;
         };
-        let connection = Connection::gathering(peer, gathering);
         self.connections
             .insert(self.network.registry(), connection, self.now);
     }
@@ -286,7 +280,7 @@ impl<N: Network> Connections<N> {
     pub fn finish(&mut self, exchange: Exchange<N::Socket>, answer: Answer, is_early: bool)
         ensures { IsTrue N.Socket.is_known → Thins self.old self.new }
     {
-        let connection = Connection::sending(exchange.peer, answer, is_early);
+        let connection = exchange.into_answered(answer, is_early);
         self.connections
             .insert(self.network.registry(), connection, self.now);
     }

@@ -5,24 +5,11 @@
 //! connections come from is a `Network`; where it is known what comes, the contracts say what is handed out.
 #![tactic(auto)]
 
-mod answer;
-mod connection;
 mod connections;
-mod exchange;
-mod gathering;
 mod limits;
 mod network;
 mod open;
-mod peer;
-mod settled;
-mod socket;
 
-pub use answer::Answer;
-pub use connection::Step;
 pub use connections::Connections;
-pub use exchange::Exchange;
-pub use gathering::Gathering;
 pub use limits::TURN;
 pub use network::{Accepted, Network};
-pub use settled::is_settled;
-pub use socket::{Socket, Wants};

@@ -3,7 +3,7 @@
 ghost use Rattle.std.specs.Prelude.{◌≡◌, [], length, IsTrue};
 ghost use Rattle.bike_connections.specs.Accepting.{Accepts, AcceptsAlone, IsWithin};
 
-use crate::socket::Socket;
+use bike_exchange::Socket;
 use bike_fixed::Moment;
 use std::io;
 use std::time::Duration;
@@ -22,7 +22,7 @@ pub enum Accepted<S> {
 /// Where connections come from, what tells which of them are ready, and the time.
 pub trait Network: Drop {
     ghost use Rattle.std.specs.Prelude.{List};
-    ghost use Rattle.bike_connections.specs.Ahead.{Coming};
+    ghost use Rattle.bike_exchange.specs.Asking.{Coming};
 
     type Socket: Socket;
 

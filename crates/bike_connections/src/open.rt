@@ -4,11 +4,8 @@ ghost use Rattle.std.specs.Prelude.{◌≡◌, [], ◌++◌, IsTrue, IfOk, IfSom
 ghost use Rattle.bike_connections.specs.Ahead.{Loses};
 ghost use Rattle.bike_connections.specs.Handed.{Gives};
 
-use crate::answer::{Answer, BLOCK};
-use crate::connection::{Connection, Step};
-use crate::exchange::Exchange;
 use crate::limits::MOST_OPEN;
-use crate::socket::Socket;
+use bike_exchange::{Answer, BLOCK, Connection, Exchange, Socket, Step};
 use slab::Slab;
 use std::alloc::{AllocError, Global};
 use std::collections::VecDeque;
@@ -45,7 +42,8 @@ pub(crate) struct Open<S: Socket> {
 
 impl<S: Socket> Model for Open<S> {
     ghost use Rattle.std.specs.Prelude.{List};
-    ghost use Rattle.bike_connections.specs.Ahead.{Coming, ahead_in};
+    ghost use Rattle.bike_exchange.specs.Asking.{Coming};
+    ghost use Rattle.bike_connections.specs.Ahead.{ahead_in};
 
     ghost Value = { List Coming };
 
@@ -122,9 +120,9 @@ impl<S: Socket> Open<S> {
             Step::Waits => connection.watch(registry, key).is_ok(),
             Step::Rests => true,
             Step::GoesOn => {
-                connection.is_going
+                connection.is_going()
                     || {
-                        connection.is_going = true;
+                        connection.set_going(true);
                         self.going.push_back(key).is_ok()
                     }
             }
@@ -138,10 +136,8 @@ impl<S: Socket> Open<S> {
             Step::Sent => connection.is_early()
                 && {
                     connection.linger();
-                    connection
-                        .peer
-                        .end_by(now.saturating_add(Duration::from_millis(LINGER)));
-                    connection.is_going = true;
+                    connection.end_by(now.saturating_add(Duration::from_millis(LINGER)));
+                    connection.set_going(true);
                     self.going.push_back(key).is_ok()
                 },
             Step::Over => false,
@@ -162,7 +158,7 @@ impl<S: Socket> Open<S> {
         };
         let key = self.connections.vacant_key();
         if self.is_kept(registry, key, &mut connection, step, now) {
-            self.soonest = sooner(self.soonest, connection.peer.end());
+            self.soonest = sooner(self.soonest, connection.end());
             self.put_back(connection);
         }
     }
@@ -201,7 +197,7 @@ impl<S: Socket> Open<S> {
         ensures { IsTrue S.is_known → Loses self.old self.new }
     {
         if let Some(mut connection) = self.remove(key) {
-            connection.is_going = false;
+            connection.set_going(false);
             self.insert(registry, connection, now);
         }
     }
@@ -287,8 +283,8 @@ impl<S: Socket> Open<S> {
         let Some(connection) = self.remove(key) else {
             return;
         };
-        if connection.peer.end() > now {
-            self.soonest = sooner(self.soonest, connection.peer.end());
+        if connection.end() > now {
+            self.soonest = sooner(self.soonest, connection.end());
             self.put_back(connection);
         }
     }
@@ -314,7 +310,7 @@ impl<S: Socket> Open<S> {
         self.ready.clear();
         self.feeds.clear();
         self.connections.retain(|_, connection| {
-            connection.peer.end_by(end);
+            connection.end_by(end);
             connection.is_answered()
         });
         self.soonest = Some(end);

@@ -26,7 +26,7 @@ use Rattle.bike_accepted.specs.declared.moved.DockAt.{DockAt}
 use Rattle.bike_accepted.specs.declared.moved.Held.{Held}
 use Rattle.bike_accepted.specs.Effects.{bike_in, bike_put, after_moved}
 use Rattle.bike_accepted.specs.Found.{IsStationFound, IsNoOtherDock, held_bike, IsMovedFound}
-use Rattle.bike_core.specs.Moves.{IsShown, put_from, IsHeldShown}
+use Rattle.bike_parts.specs.Moves.{IsShown, put_from, IsHeldShown}
 use Rattle.bike_core.proofs.Views.{shown_bike, empty_dock}
 
 -- ---- a bicycle put from where it stands

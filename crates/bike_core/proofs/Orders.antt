@@ -34,7 +34,7 @@ use Rattle.bike_accepted.specs.declared.change.Change.TheVariants as change
 use Rattle.bike_accepted.specs.declared.accepted.Accepted.{Accepted}
 use Rattle.bike_accepted.specs.Effects.{after_moved, where_changed, Decides}
 use Rattle.bike_accepted.specs.Found.{IsMovedFound, IsFound, AreFound}
-use Rattle.bike_core.specs.Moves.{IsShown, put_from, IsPutAtEnd}
+use Rattle.bike_parts.specs.Moves.{IsShown, put_from, IsPutAtEnd}
 use Rattle.bike_core.proofs.Moves.{after_put, away_reach, put_found, no_dock}
 use Rattle.bike_core.proofs.Views.{refused_as, shown_bike, empty_dock}
 

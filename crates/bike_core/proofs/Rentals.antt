@@ -40,7 +40,7 @@ use Rattle.bike_accepted.specs.declared.accepted.Booked.{Booked}
 use Rattle.bike_accepted.specs.declared.accepted.Accepted.{Accepted}
 use Rattle.bike_accepted.specs.Effects.{bike_in, effect_of, Decides}
 use Rattle.bike_accepted.specs.Found.{IsMovedFound, IsNoOtherDock, IsAtDockFound, IsBookedFound, AreFound}
-use Rattle.bike_core.specs.Moves.{IsShown, IsRecovered}
+use Rattle.bike_parts.specs.Moves.{IsShown, IsRecovered}
 use Rattle.bike_core.proofs.Moves.{IsDockedRow, docked_row}
 use Rattle.bike_core.proofs.Views.{refused_as, shown_bike, empty_dock, balance_after_entry, rental_balance, bike_balance, rental_refunds, rider_balance}
 

@@ -32,7 +32,7 @@ use Rattle.bike_accepted.specs.declared.moved.Standing.{Standing}
 use Rattle.bike_accepted.specs.declared.accepted.Accepted.{Accepted}
 use Rattle.bike_accepted.specs.Effects.{bike_in}
 use Rattle.bike_accepted.specs.Found.{FindsAt, FindsOn}
-use Rattle.bike_core.specs.Moves.{IsShown}
+use Rattle.bike_parts.specs.Moves.{IsShown}
 
 -- the first test that holds over the view is the operator's refusal
 pub refused_as : (s : Operator) (v : View) (c : Command) (o : Option Refusal) → v ≡ view_of s c → o ≡ first (tests v c) → refusal_of s c ≡ o

@@ -9,7 +9,7 @@ ghost use Rattle.bike_accepted.specs.Effects.{DecidesOn};
 ghost use Rattle.bike_accepted.specs.Found.{FindsOn};
 
 use bike_accepted::{Accepted, Change, Decision};
-use bike_catalogue::NameKind;
+use bike_attributes::NameKind;
 use bike_commands::Refusal;
 use bike_fields::{Ident, Language, Name};
 use bike_operator::View;

@@ -7,7 +7,6 @@
 //! view of an operator and what an accepted command makes.
 #![tactic(auto)]
 
-mod booking;
 mod decide_bikes;
 mod decide_catalogue;
 mod decide_names;
@@ -16,7 +15,6 @@ mod decide_regions;
 mod decide_rentals;
 mod decide_riders;
 mod decision;
-mod places;
 
 pub use bike_accepted::{Accepted, Change, Decision, Moved};
 pub use bike_commands::{Command, Refusal, Reply, Request};

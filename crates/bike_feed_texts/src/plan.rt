@@ -8,7 +8,8 @@ ghost use Rattle.bike_feed_texts.specs.Elements.{members, end_members, segment_t
 ghost use Rattle.bike_feed_texts.specs.Writing.{WroteMember, WroteMembers, WroteValue};
 
 use crate::members::{cents_member, flag_member, localized_member, text_member, whole_member};
-use bike_catalogue::{MoreName, Plan, Segment, System};
+use bike_attributes::Segment;
+use bike_catalogue::{MoreName, Plan, System};
 use bike_fixed::Cents;
 use bike_json::{JsonState, Level, Output};
 use bike_stream::WriteFault;

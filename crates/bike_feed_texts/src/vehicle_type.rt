@@ -6,7 +6,8 @@ ghost use Rattle.bike_feed_texts.specs.Elements.{members, range_members, type_tr
 ghost use Rattle.bike_feed_texts.specs.Writing.{WroteMembers, WroteValue};
 
 use crate::members::{localized_member, text_member, whole_member};
-use bike_catalogue::{MoreName, Propulsion, System, VehicleType};
+use bike_attributes::Propulsion;
+use bike_catalogue::{MoreName, System, VehicleType};
 use bike_json::{JsonState, Level, Output};
 use bike_stream::WriteFault;
 

@@ -14,7 +14,8 @@ ghost use Rattle.bike_queries.specs.Pages.{IsTold};
 ghost use Rattle.bike_desk.specs.Queries.{Queries};
 
 use crate::names::find_names;
-use bike_catalogue::{MoreName, NameKind, Plan, Region, System, VehicleType};
+use bike_attributes::NameKind;
+use bike_catalogue::{MoreName, Plan, Region, System, VehicleType};
 use bike_desk::{Desk, DeskFault};
 use bike_feed_texts::{write_plan, write_region, write_type};
 use bike_fields::Ident;

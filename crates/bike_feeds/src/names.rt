@@ -5,7 +5,8 @@ ghost use Rattle.bike_operator.specs.Names.{further_names};
 ghost use Rattle.bike_queries.specs.Pages.{IsTold};
 ghost use Rattle.bike_desk.specs.Queries.{Queries};
 
-use bike_catalogue::{MoreName, NameKind};
+use bike_attributes::NameKind;
+use bike_catalogue::MoreName;
 use bike_desk::{Desk, DeskFault};
 use bike_fields::Ident;
 use sqlite::Alter;

@@ -13,7 +13,7 @@ ghost use Rattle.bike_schema.specs.Within.{rows_from};
 use bike_fields::Ident;
 use bike_operator::MOST_REGIONS;
 use bike_rows::lookup::first_row;
-use bike_schema::{END, StatementFault, are_at_least};
+use bike_schema::{ABOVE_TEXTS, StatementFault, are_at_least};
 use sqlite::{Alter, Connection, Row, params};
 
 /// The regions whose identifiers lie between two values, both among them, in byte order.
@@ -43,14 +43,14 @@ pub fn find_region_row_from<S: Alter>(
     ensures { Answers S.Store conn.old conn.new result
         (λ s m row. row ≡ slice_get (rows_from start.now (rows_of s m Regions)) 0) }
 {
-    first_row(conn, REGIONS_WITHIN, params![start, END])
+    first_row(conn, REGIONS_WITHIN, params![start, ABOVE_TEXTS])
 }
 
 /// The rows of all regions, of which there are at most 256.
 fn select_regions<S: Alter>(conn: &mut Connection<S>) -> Result<Vec<Row>, StatementFault>
     ensures { Answers S.Store conn.old conn.new result (λ s m rows. rows.items ≡ rows_of s m Regions) }
 {
-    let rows = conn.query_all(REGIONS_WITHIN, params!["", END])?;
+    let rows = conn.query_all(REGIONS_WITHIN, params!["", ABOVE_TEXTS])?;
     Ok(rows)
 }
 

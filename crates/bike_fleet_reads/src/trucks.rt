@@ -13,7 +13,7 @@ use bike_book::columns::trucks;
 use bike_fields::TruckNumber;
 use bike_operator::{MOST_TRUCKS, TruckView};
 use bike_rows::lookup::first_row;
-use bike_schema::{END, StatementFault, are_at_least, number_at};
+use bike_schema::{ABOVE_TEXTS, StatementFault, are_at_least, number_at};
 use sqlite::{Alter, Connection, Row, params};
 
 /// The trucks whose numbers lie between two values, both among them, in the order of their numbers.
@@ -47,7 +47,7 @@ fn truck_of(row: &Option<Row>) -> Result<Option<TruckView>, StatementFault>
 fn select_trucks<S: Alter>(conn: &mut Connection<S>) -> Result<Vec<Row>, StatementFault>
     ensures { Answers S.Store conn.old conn.new result (λ s m rows. rows.items ≡ rows_of s m Trucks) }
 {
-    let rows = conn.query_all(TRUCKS_WITHIN, params![0_u32, END])?;
+    let rows = conn.query_all(TRUCKS_WITHIN, params![0_u32, ABOVE_TEXTS])?;
     Ok(rows)
 }
 

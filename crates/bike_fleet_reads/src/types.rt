@@ -15,7 +15,7 @@ use bike_book::columns::types;
 use bike_fields::Ident;
 use bike_operator::MOST_TYPES;
 use bike_rows::lookup::first_row;
-use bike_schema::{END, StatementFault, are_at_least, ident_at};
+use bike_schema::{ABOVE_TEXTS, StatementFault, are_at_least, ident_at};
 use sqlite::{Alter, Connection, Row, params};
 use std::alloc::Global;
 
@@ -46,14 +46,14 @@ pub fn find_type_row_from<S: Alter>(
     ensures { Answers S.Store conn.old conn.new result
         (λ s m row. row ≡ slice_get (rows_from start.now (rows_of s m Types)) 0) }
 {
-    first_row(conn, TYPES_WITHIN, params![start, END])
+    first_row(conn, TYPES_WITHIN, params![start, ABOVE_TEXTS])
 }
 
 /// The rows of all vehicle types, of which there are at most 32, in byte order of their identifiers.
 pub fn select_types<S: Alter>(conn: &mut Connection<S>) -> Result<Vec<Row>, StatementFault>
     ensures { Answers S.Store conn.old conn.new result (λ s m rows. rows.items ≡ rows_of s m Types) }
 {
-    let rows = conn.query_all(TYPES_WITHIN, params!["", END])?;
+    let rows = conn.query_all(TYPES_WITHIN, params!["", ABOVE_TEXTS])?;
     Ok(rows)
 }
 

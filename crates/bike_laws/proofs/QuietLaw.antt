@@ -4,8 +4,8 @@ use Rattle.std.specs.FinMap as finmap
 use Rattle.std.specs.Cmp.{nat_cmp_total}
 use Rattle.std.specs.Cmp.Lexicographic.{nat_list_cmp_total}
 use Rattle.bike_catalogue.specs.Rows.{moved_to, more_docks}
-use Rattle.bike_catalogue.specs.declared.name_kind.NameKind.{NameKind}
-use Rattle.bike_catalogue.specs.declared.name_kind.NameKind.TheVariants as named
+use Rattle.bike_attributes.specs.declared.name_kind.NameKind.{NameKind}
+use Rattle.bike_attributes.specs.declared.name_kind.NameKind.TheVariants as named
 use Rattle.bike_texts.specs.declared.ends.OrderEnd.{OrderEnd}
 use Rattle.bike_texts.specs.declared.ends.OrderEnd.TheVariants as end
 use Rattle.bike_texts.specs.declared.ends.Side.{Side}

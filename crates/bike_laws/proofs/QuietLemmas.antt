@@ -6,8 +6,8 @@ use Rattle.std.specs.Cmp.{nat_cmp_total}
 use Rattle.std.specs.Cmp.Lexicographic.{nat_list_cmp_total}
 use Rattle.std.proofs.lemmas.Option.{same_Some}
 use Rattle.bike_catalogue.specs.Rows.{PlanRow}
-use Rattle.bike_catalogue.specs.declared.name_kind.NameKind.{NameKind}
-use Rattle.bike_catalogue.specs.declared.name_kind.NameKind.TheVariants as named
+use Rattle.bike_attributes.specs.declared.name_kind.NameKind.{NameKind}
+use Rattle.bike_attributes.specs.declared.name_kind.NameKind.TheVariants as named
 use Rattle.bike_texts.specs.declared.ends.OrderEnd.{OrderEnd}
 use Rattle.bike_texts.specs.declared.ends.OrderEnd.TheVariants as end
 use Rattle.bike_texts.specs.declared.ends.Side.{Side}

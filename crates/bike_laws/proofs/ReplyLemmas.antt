@@ -2,7 +2,8 @@
 use Rattle.std.proofs.Common.{◌≡◌, ℕ, ℤ, ◌+◌, ◌<◌, ◌≤◌, pos, List, [], ◌∷◌, ◌++◌, length, length-append, true, false, Option, Some, None, refl, sym, subst, arith}
 use Rattle.std.specs.FinMap as finmap
 use Rattle.std.proofs.lemmas.Int.{ints}
-use Rattle.bike_catalogue.specs.Rows.{TypeRow, SegmentRow}
+use Rattle.bike_attributes.specs.Values.{SegmentRow}
+use Rattle.bike_catalogue.specs.Rows.{TypeRow}
 use Rattle.bike_fares.specs.Pricing.{fare_of}
 use Rattle.bike_fares.specs.Pricing as pricing
 use Rattle.bike_fares.proofs.BoundLemmas.{fare_of-low, fare_of-high}

@@ -4,7 +4,8 @@ ghost use Rattle.std.specs.Prelude.{◌≤◌, length, IfOk};
 
 use crate::clock::clock_moment;
 use crate::listener::Listener;
-use bike_connections::{Accepted, Network, Socket, TURN, Wants};
+use bike_connections::{Accepted, Network, TURN};
+use bike_exchange::{Socket, Wants};
 use bike_fixed::Moment;
 use mio::net::TcpStream;
 use mio::{Events, Interest, Poll, Registry, Token};

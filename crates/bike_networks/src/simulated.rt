@@ -3,7 +3,8 @@
 
 ghost use Rattle.std.specs.Prelude.{◌<◌, IfOk};
 
-use bike_connections::{Accepted, Network, Socket, Wants};
+use bike_connections::{Accepted, Network};
+use bike_exchange::{Socket, Wants};
 use bike_fixed::Moment;
 use std::collections::VecDeque;
 use std::io;

@@ -1,7 +1,8 @@
 //! Exchanges whose bytes come and go in pieces: in every order of a few pieces, and byte by byte in many.
 
 use crate::simulated::{Client, PAUSE, SimulatedNetwork, SimulatedSocket};
-use bike_connections::{Answer, Connections, Exchange};
+use bike_connections::Connections;
+use bike_exchange::{Answer, Exchange};
 use bike_fixed::Moment;
 use std::alloc::Global;
 use std::collections::VecDeque;

@@ -13,7 +13,8 @@ use Rattle.sqlite_value.specs.declared.value.Value.TheVariants.{Int}
 use Rattle.sqlite_value.specs.Order.{Row, column}
 use Rattle.sqlite_rules.specs.Lists.{Has}
 use Rattle.bike_rows.specs.View.{last_of}
-use Rattle.bike_catalogue.specs.Rows.{SegmentRow, PlanRow}
+use Rattle.bike_attributes.specs.Values.{SegmentRow}
+use Rattle.bike_catalogue.specs.Rows.{PlanRow}
 use Rattle.bike_commands.specs.Commands.{text_of}
 use Rattle.bike_commands.specs.Replies.{reply_text, IsReply}
 use Rattle.bike_ledger.specs.Entries.{Entry}

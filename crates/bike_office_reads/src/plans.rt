@@ -12,12 +12,15 @@ ghost use Rattle.bike_schema.specs.Answers.{Answers};
 ghost use Rattle.bike_schema.specs.Within.{rows_from};
 
 use crate::segments::find_segments;
+use bike_attributes::Segment;
 use bike_book::columns::plans;
-use bike_catalogue::{Plan, Segment};
+use bike_catalogue::Plan;
 use bike_fields::Ident;
 use bike_operator::MOST_PLANS;
 use bike_rows::lookup::first_row;
-use bike_schema::{END, StatementFault, are_at_least, flag_at, ident_at, name_at, number_at};
+use bike_schema::{
+    ABOVE_TEXTS, StatementFault, are_at_least, flag_at, ident_at, name_at, number_at,
+};
 use sqlite::{Alter, Connection, Row, params};
 use std::alloc::Global;
 
@@ -54,14 +57,14 @@ pub fn find_plan_row_from<S: Alter>(
     ensures { Answers S.Store conn.old conn.new result
         (λ s m row. row ≡ slice_get (rows_from start.now (rows_of s m Plans)) 0) }
 {
-    first_row(conn, PLANS_WITHIN, params![start, END])
+    first_row(conn, PLANS_WITHIN, params![start, ABOVE_TEXTS])
 }
 
 /// The rows of all plans, of which there are at most 256.
 fn select_plans<S: Alter>(conn: &mut Connection<S>) -> Result<Vec<Row>, StatementFault>
     ensures { Answers S.Store conn.old conn.new result (λ s m rows. rows.items ≡ rows_of s m Plans) }
 {
-    let rows = conn.query_all(PLANS_WITHIN, params!["", END])?;
+    let rows = conn.query_all(PLANS_WITHIN, params!["", ABOVE_TEXTS])?;
     Ok(rows)
 }
 

@@ -11,10 +11,10 @@ use Rattle.sqlite_value.specs.declared.value.Value.TheVariants.{Int, Text}
 use Rattle.sqlite_value.specs.Order.{Row, column}
 use Rattle.sqlite_rules.specs.Lists.{Has}
 use Rattle.bike_fields.specs.declared.numbers.TheConstants.{MOST_DOCKS}
-use Rattle.bike_catalogue.specs.declared.vehicle.Form.{Form}
-use Rattle.bike_catalogue.specs.declared.vehicle.Propulsion.{Propulsion}
+use Rattle.bike_attributes.specs.declared.vehicle.Form.{Form}
+use Rattle.bike_attributes.specs.declared.vehicle.Propulsion.{Propulsion}
 use Rattle.bike_catalogue.specs.Rows.{PlanRow, TypeRow, StationRow, RegionRow, region_of_fields}
-use Rattle.bike_catalogue.specs.Vehicle.{form_text, propulsion_text}
+use Rattle.bike_attributes.specs.Vehicle.{form_text, propulsion_text}
 use Rattle.bike_operator.specs.Operator.{Operator, Station, text_cmp}
 use Rattle.bike_operator.specs.Sound.{IsSound}
 use Rattle.bike_book.specs.Rows.{type_row, region_row, station_row}

@@ -13,8 +13,9 @@ ghost use Rattle.bike_queries.specs.Pages.{AreNamedStations, ArePage, ReadsNamed
 use crate::after::start_of;
 use crate::columns::{micro_at, whole_at};
 use crate::pages::{OwnedRow, OwnerReader, last_id, read_page};
+use bike_attributes::NameKind;
 use bike_book::columns::stations;
-use bike_catalogue::{MoreName, NameKind, Station};
+use bike_catalogue::{MoreName, Station};
 use bike_fields::Ident;
 use bike_fixed::Moment;
 use bike_fleet_reads::DockNumbers;

@@ -16,9 +16,9 @@ use Rattle.bike_rows.proofs.OrderLemmas.{Rises, all_from}
 use Rattle.bike_rows.proofs.ListLemmas.{has_map, map_has, filter_has, has_filter}
 use Rattle.bike_fields.proofs.Lengths.{both_hold}
 use Rattle.bike_catalogue.specs.Rows.{MoreNameRow}
-use Rattle.bike_catalogue.specs.declared.name_kind.NameKind.{NameKind}
-use Rattle.bike_catalogue.specs.NameKinds.{kind_text, kind_of}
-use Rattle.bike_catalogue.proofs.NameKinds.{kind_full}
+use Rattle.bike_attributes.specs.declared.name_kind.NameKind.{NameKind}
+use Rattle.bike_attributes.specs.NameKinds.{kind_text, kind_of}
+use Rattle.bike_attributes.proofs.NameKinds.{kind_full}
 use Rattle.bike_operator.specs.Operator.{Operator, NameKey, text_cmp, texts_cmp, name_key}
 use Rattle.bike_operator.specs.Names.{part_at, is_name_of, further_names}
 use Rattle.bike_places.proofs.MapLemmas.{text_order, texts_order}

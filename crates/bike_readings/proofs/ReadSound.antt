@@ -13,8 +13,8 @@ use Rattle.sqlite_value.specs.Order.{Row}
 use Rattle.sqlite_rules.specs.Lists.{Has}
 use Rattle.bike_rows.specs.View.{row_with}
 use Rattle.bike_fields.specs.Bytes.{is_name}
-use Rattle.bike_catalogue.specs.declared.name_kind.NameKind.{NameKind}
-use Rattle.bike_catalogue.specs.NameKinds.{kind_text}
+use Rattle.bike_attributes.specs.declared.name_kind.NameKind.{NameKind}
+use Rattle.bike_attributes.specs.NameKinds.{kind_text}
 use Rattle.bike_catalogue.specs.Rows.{TypeRow, RegionRow, MoreNameRow}
 use Rattle.bike_ledger.specs.Entries.{Entry}
 use Rattle.bike_ledger.specs.declared.entry.EntryKind.{EntryKind}

@@ -4,9 +4,10 @@ use Rattle.std.specs.Prelude.{option_map, take}
 use Rattle.std.specs.FinMap as fin
 use Rattle.sqlite_value.specs.Order.{Row}
 use Rattle.sqlite_rules.specs.Lists.{Has}
-use Rattle.bike_catalogue.specs.declared.name_kind.NameKind.{NameKind}
-use Rattle.bike_catalogue.specs.NameKinds.{kind_text}
-use Rattle.bike_catalogue.specs.Rows.{SegmentRow, PlanRow, MoreNameRow, IsSegment, IsPlan}
+use Rattle.bike_attributes.specs.declared.name_kind.NameKind.{NameKind}
+use Rattle.bike_attributes.specs.NameKinds.{kind_text}
+use Rattle.bike_attributes.specs.Values.{SegmentRow, IsSegment}
+use Rattle.bike_catalogue.specs.Rows.{PlanRow, MoreNameRow, IsPlan}
 use Rattle.bike_ledger.specs.Entries.{Entry}
 use Rattle.bike_texts.specs.Fields.{AreSegments}
 use Rattle.bike_operator.specs.declared.records.Bike.{Bike}

@@ -1,8 +1,9 @@
 -- Which bounds the records of a sound operator keep as rows.
 use Rattle.std.specs.Prelude.{◌≡◌, ℕ, ◌+◌, List, true, Some}
 use Rattle.std.specs.FinMap as fin
-use Rattle.bike_catalogue.specs.Rows.{SegmentRow, PlanRow, TypeRow, RegionRow, SystemRow, IsSystem}
-use Rattle.bike_catalogue.specs.declared.name_kind.NameKind.{NameKind}
+use Rattle.bike_attributes.specs.Values.{SegmentRow}
+use Rattle.bike_catalogue.specs.Rows.{PlanRow, TypeRow, RegionRow, SystemRow, IsSystem}
+use Rattle.bike_attributes.specs.declared.name_kind.NameKind.{NameKind}
 use Rattle.bike_ledger.specs.Entries.{Entry}
 use Rattle.bike_operator.specs.declared.records.Bike.{Bike}
 use Rattle.bike_operator.specs.declared.records.Rental.{Rental}

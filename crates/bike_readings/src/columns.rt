@@ -8,7 +8,7 @@ ghost use Rattle.bike_schema.specs.Columns.{whole_in, text_in, number_in, moment
 ghost use Rattle.bike_readings.specs.ColumnReaders.{ascii_in, language_in, currency_in, form_in, propulsion_in, named_kind_in, word_in, signed_in, kind_in};
 
 use crate::part::Part;
-use bike_catalogue::{Form, NameKind, Propulsion};
+use bike_attributes::{Form, NameKind, Propulsion};
 use bike_fields::{Ascii, Currency, Ident, Language, Name};
 use bike_fixed::{Cents, Moment, Within};
 use bike_ledger::EntryKind;

@@ -44,9 +44,10 @@ pub record AreTwo (rows : List Row) (key : Row) : Type 0 where
   pub shows_first : shown_key first ≡ key
   pub shows_second : shown_key second ≡ key
 
--- Of stored rows below this caller and key, two that have one are one.
+-- No two stored rows have one caller and key that is below this one.
 pub record IsFirst (rows : List Row) (key : Row) : Type 0 where
-  pub alone : (a b : Row) → Has rows a → Has rows b → row_cmp (shown_key a) (shown_key b) ≡ Equal → row_cmp (shown_key a) key ≡ Less → value_cmp (rowid a) (rowid b) ≡ Equal
+  pub alone : (a b : Row) → Has rows a → Has rows b → row_cmp (shown_key a) (shown_key b) ≡ Equal
+      → row_cmp (shown_key a) key ≡ Less → value_cmp (rowid a) (rowid b) ≡ Equal
 
 -- Two stored rows have this caller and key, and none below it has two.
 abbrev pub IsDoubled : List Row → Row → Type 0

@@ -78,7 +78,9 @@ pub record IsDoubledAlone (db : Database) : Type 0 where
 
 -- at the newest version: all tables stand, all but for two rows of kept that have one key, or some doesn't
 abbrev pub IsByTables : Database → Recognition → Type 0
-IsByTables db r = (HasTables db × (r ≡ Ours)) ⊎ ((IsDoubledAlone db × (r ≡ Doubled)) ⊎ ((¬ HasTables db) × (¬ IsDoubledAlone db) × (r ≡ Foreign)))
+IsByTables db r =
+    (HasTables db × (r ≡ Ours))
+    ⊎ ((IsDoubledAlone db × (r ≡ Doubled)) ⊎ ((¬ HasTables db) × (¬ IsDoubledAlone db) × (r ≡ Foreign)))
 
 -- what row 1 of `meta` tells alone; where it is missing, or of the newest version, the tables decide
 abbrev pub told_by : MetaVersion → Option Recognition

@@ -6,7 +6,7 @@ ghost use Rattle.bike_fixed.specs.declared.micro.TheConstants.{GREATEST_COORDINA
 ghost use Rattle.bike_fixed.specs.declared.cents.TheConstants.{GREATEST_FARE};
 ghost use Rattle.bike_fields.specs.declared.numbers.TheConstants as number;
 ghost use Rattle.bike_fields.specs.declared.text_lengths.TheConstants as text;
-ghost use Rattle.bike_catalogue.specs.declared.limits.TheConstants as catalogue;
+ghost use Rattle.bike_attributes.specs.declared.limits.TheConstants as catalogue;
 ghost use Rattle.bike_fares.specs.declared.elapsed.TheConstants as rental;
 ghost use Rattle.bike_ledger.specs.declared.sums.TheConstants.{GREATEST_BALANCE};
 ghost use Rattle.bike_commands.specs.declared.request.TheConstants.{LINE_LENGTH};

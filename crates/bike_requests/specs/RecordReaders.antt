@@ -2,13 +2,13 @@
 use Rattle.std.specs.Prelude.{ℕ, List, Option, Some, None, nat_le, length, if◌then◌else◌, codes}
 use Rattle.bike_fixed.specs.declared.micro.TheConstants.{GREATEST_COORDINATE}
 use Rattle.bike_fixed.specs.Whole.{number_of}
-use Rattle.bike_catalogue.specs.declared.limits.TheConstants.{GREATEST_LATITUDE}
+use Rattle.bike_attributes.specs.declared.limits.TheConstants.{GREATEST_LATITUDE}
 use Rattle.bike_fields.specs.declared.numbers.TheConstants.{GREATEST_PRICE, LONGEST_TIME_TO_LIVE, MOST_DOCKS}
 use Rattle.bike_fields.specs.Bytes.{ident_of, language_of, currency_of}
-use Rattle.bike_catalogue.specs.Rows.{is_range, is_latitude}
-use Rattle.bike_catalogue.specs.Vehicle.{form_of, propulsion_of}
-use Rattle.bike_catalogue.specs.NameKinds.{kind_of}
-use Rattle.bike_catalogue.specs.declared.name_kind.NameKind.{NameKind}
+use Rattle.bike_attributes.specs.Values.{is_range, is_latitude}
+use Rattle.bike_attributes.specs.Vehicle.{form_of, propulsion_of}
+use Rattle.bike_attributes.specs.NameKinds.{kind_of}
+use Rattle.bike_attributes.specs.declared.name_kind.NameKind.{NameKind}
 use Rattle.bike_texts.specs.Parts.{Parts}
 use Rattle.bike_texts.specs.Reading.{◌>>=◌, field_at, no_more, degrees_of, metres_of, choice_of}
 use Rattle.bike_texts.specs.Escapes.{name_at, ascii_at}

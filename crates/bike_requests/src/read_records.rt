@@ -4,9 +4,8 @@ ghost use Rattle.bike_requests.specs.Unread.{IsReading};
 ghost use Rattle.bike_requests.specs.RecordReaders.{set_system_at, add_plan_at, add_type_at, add_station_at, add_region_at, name_fields_at, add_name_at, set_name_at, remove_name_at, change_system_at, move_station_at};
 
 use crate::unread::Unread;
-use bike_catalogue::{
-    GREATEST_LATITUDE, NameKind, Plan, Position, Region, Settings, Station, System, VehicleType,
-};
+use bike_attributes::{GREATEST_LATITUDE, NameKind, Position};
+use bike_catalogue::{Plan, Region, Settings, Station, System, VehicleType};
 use bike_commands::Command;
 use bike_fields::{Ascii, Currency, GREATEST_COORDINATE, Ident, Language, Name};
 use bike_texts::Fields;

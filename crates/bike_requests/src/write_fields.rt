@@ -7,7 +7,7 @@ ghost use Rattle.bike_fixed.specs.Text.{micro_text};
 ghost use Rattle.bike_texts.specs.Fields.{escapes_of, segment_end_text, segment_text, segments_text, end_text, IdOrNone, field_text};
 ghost use Rattle.bike_requests.specs.Writing.{others_text};
 
-use bike_catalogue::Segment;
+use bike_attributes::Segment;
 use bike_fields::Ident;
 use bike_fixed::{Micro, Within, signed_text};
 use bike_texts::OrderEnd;

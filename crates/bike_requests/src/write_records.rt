@@ -9,7 +9,8 @@ ghost use Rattle.bike_commands.specs.Commands.{fields_of};
 use crate::write_fields::{
     put_choice, put_degrees, put_escaped, put_ident, put_number, put_segments, put_text,
 };
-use bike_catalogue::{NameKind, Plan, Position, Region, Settings, Station, System, VehicleType};
+use bike_attributes::{NameKind, Position};
+use bike_catalogue::{Plan, Region, Settings, Station, System, VehicleType};
 use bike_fields::{Ident, Language, Name};
 use std::alloc::AllocError;
 

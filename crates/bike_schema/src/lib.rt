@@ -18,4 +18,4 @@ pub use columns::{
 pub use create::{APP, INDEXES, Staged, TABLES, create_tables};
 pub use fault::StatementFault;
 pub use schema::{has_none, is_unused};
-pub use within::{END, are_at_least};
+pub use within::{ABOVE_TEXTS, are_at_least};

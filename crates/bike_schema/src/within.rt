@@ -5,8 +5,8 @@ ghost use Rattle.std.specs.Prelude.{◌≡◌, length, nat_le};
 
 use sqlite::Row;
 
-/// What stands above each number and each text, as SQL orders values.
-pub const END: &[u8] = b"";
+/// The value that stands above each number and each text, as SQL orders values: an empty BLOB.
+pub const ABOVE_TEXTS: &[u8] = b"";
 
 /// Whether there are at least so many rows.
 pub fn are_at_least(rows: &[Row], most: u32) -> bool

@@ -14,7 +14,7 @@ use Rattle.bike_http.specs.declared.exchange.Served.TheVariants.{Empty, Status}
 use Rattle.bike_http.specs.declared.exchange.ServeFault.{ServeFault}
 use Rattle.bike_http.specs.declared.exchange.ServeFault.TheVariants.{Read, Write, Cut}
 use Rattle.bike_http.proofs.Told.{tells_any}
-use Rattle.bike_connections.specs.Ahead.{Coming}
+use Rattle.bike_exchange.specs.Asking.{Coming}
 use Rattle.bike_server.specs.Answering.{BeginsWith, IsResponse, IsRefused, StopsAt, Exchanges}
 
 -- ---- bytes

@@ -5,7 +5,8 @@ use Rattle.bike_operator.specs.Operator.{Operator}
 use Rattle.bike_http.specs.Desk.{DeskValue, IsAt}
 use Rattle.bike_http.specs.declared.exchange.Served.{Served}
 use Rattle.bike_http.specs.declared.exchange.ServeFault.{ServeFault}
-use Rattle.bike_connections.specs.Ahead.{Coming, Loses}
+use Rattle.bike_exchange.specs.Asking.{Coming}
+use Rattle.bike_connections.specs.Ahead.{Loses}
 use Rattle.bike_connections.proofs.Losing.{loses_none, loses_then, loses_front, loses_behind}
 use Rattle.bike_server.specs.declared.arrivals.AcceptFault.{AcceptFault}
 use Rattle.bike_server.specs.declared.arrivals.Arrival.{Arrival}

@@ -12,7 +12,8 @@ use Rattle.bike_http.specs.declared.exchange.ServeFault.{ServeFault}
 use Rattle.bike_http.specs.declared.exchange.ServeFault.TheVariants.{Read, Write, Cut}
 use Rattle.bike_server.specs.declared.fault.ServerFault.{ServerFault}
 use Rattle.bike_server.specs.declared.fault.ServerFault.TheVariants.{StoreFailed, AcceptFailed}
-use Rattle.bike_connections.specs.Ahead.{Coming, Loses}
+use Rattle.bike_exchange.specs.Asking.{Coming}
+use Rattle.bike_connections.specs.Ahead.{Loses}
 use Rattle.bike_server.specs.Visits.{Leaving, Kept, Visits, LetsGo}
 
 -- ---- one connection

@@ -1,6 +1,7 @@
 -- What accepting a connection gives.
 use Rattle.std.specs.Prelude.{◌≡◌, Bool, IsTrue, ℕ, ◌+◌, max, List, [], ◌∷◌, Option, Some, None, IfSome, IsSomeAnd, MatchOption, Result, Ok, Err}
-use Rattle.bike_connections.specs.Ahead.{Coming, Loses}
+use Rattle.bike_exchange.specs.Asking.{Coming}
+use Rattle.bike_connections.specs.Ahead.{Loses}
 use Rattle.bike_server.specs.declared.arrivals.Arrival.{Arrival}
 use Rattle.bike_server.specs.declared.arrivals.AcceptFault.{AcceptFault}
 use Rattle.bike_server.specs.Visits.{Visits}

@@ -1,5 +1,5 @@
 -- Connections that are played, as all that is known of them.
-use Rattle.bike_connections.specs.Ahead.{Coming}
+use Rattle.bike_exchange.specs.Asking.{Coming}
 use Rattle.bike_server.specs.declared.memory.Visit.{Visit}
 use Rattle.bike_server.specs.declared.memory.Parting.{Parting}
 use Rattle.bike_server.specs.Visits.{Leaving}

@@ -2,7 +2,8 @@
 use Rattle.std.specs.Prelude.{◌≡◌, ℕ, ◌-◌, ◌<◌, List, [], ◌∷◌, ◌++◌, Option, Some, IfSome, Result}
 use Rattle.bike_http.specs.declared.exchange.Served.{Served}
 use Rattle.bike_http.specs.declared.exchange.ServeFault.{ServeFault}
-use Rattle.bike_connections.specs.Ahead.{Coming, Loses}
+use Rattle.bike_exchange.specs.Asking.{Coming}
+use Rattle.bike_connections.specs.Ahead.{Loses}
 
 -- a connection that was let go: how its exchange ended, and all that it was sent
 pub record Leaving : Type 0 where

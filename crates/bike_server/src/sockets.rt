@@ -1,7 +1,8 @@
 //! Connections over sockets.
 
 use crate::arrivals::{AcceptFault, Arrival, Arrivals};
-use bike_connections::{Answer, Connections, Exchange, Network};
+use bike_connections::{Connections, Network};
+use bike_exchange::{Answer, Exchange};
 use bike_http::{ServeFault, Served};
 use std::time::Duration;
 

@@ -3,7 +3,7 @@
 ghost use Rattle.bike_texts.specs.Fields.{IsEnd, AreSegments};
 
 use crate::ends::OrderEnd;
-use bike_catalogue::Segment;
+use bike_attributes::Segment;
 
 /// Tells the bounds of an end of an order to a proof.
 pub fn tell_end(end: &OrderEnd)

@@ -14,9 +14,7 @@ mod fields;
 mod segments;
 mod values;
 
-pub use bike_catalogue::{
-    NameKind, Plan, Position, Region, Segment, Settings, Station, System, VehicleType,
-};
+pub use bike_attributes::{NameKind, Position, Segment};
 pub use bike_fields::{
     BicycleNumber, Caller, DockCount, DockNumber, Ident, Language, Name, OrderNumber,
     OrderQuantity, Payment, RentalNumber, RequestKey, RiderNumber, TruckCapacity, TruckNumber,

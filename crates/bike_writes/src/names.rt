@@ -4,7 +4,7 @@ ghost use Rattle.bike_book.specs.declared.row_change.RowChange.TheVariants as ro
 ghost use Rattle.bike_book.specs.Writes.{write_of};
 ghost use Rattle.bike_schema.specs.Calls.{Writes};
 
-use bike_catalogue::NameKind;
+use bike_attributes::NameKind;
 use bike_fields::{Ident, Language, Name};
 use bike_rows::write::run;
 use bike_schema::{Staged, StatementFault};

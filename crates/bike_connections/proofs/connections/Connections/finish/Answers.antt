@@ -6,4 +6,4 @@ use Rattle.bike_connections.proofs.connections.Connections.finish.Goals as goal
 pub returns : goal.returns
 returns g c known =
     thins_open c.args.self.now c.self.inside.connections c.insert.new.self _ _ c.self.view_is
-    (subst (λ (xs : _). Loses (xs ++ c.self.inside.connections) c.insert.new.self) c.sending-connection.ensures (c.insert.ensures known))
+    (subst (λ (xs : _). Loses (xs ++ c.self.inside.connections) c.insert.new.self) c.into_answered-connection.ensures (c.insert.ensures known))

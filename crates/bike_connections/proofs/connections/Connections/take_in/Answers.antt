@@ -1,15 +1,12 @@
 use Rattle.std.proofs.Common.{◌∷◌, ◌++◌, []}
 use Rattle.bike_connections.proofs.Losing.{loses_front}
-use Rattle.bike_connections.proofs.Thinning.{one_is, taken_in}
+use Rattle.bike_connections.proofs.Thinning.{taken_in}
 use Rattle.bike_connections.proofs.connections.Connections.take_in.Goals as goal
 
 pub returns-clause-ahead : goal.returns-clause-ahead
 returns-clause-ahead g c known =
-    taken_in c.args.self.now c.self.inside.connections c.insert.new.self (g.N.Network.ahead c.self.inside.network) c.gathering-connection.result _ _
-    c.self.view_is
-    (one_is g.N.Socket.Socket.coming c.new-peer.result c.add.new.self.bytes.items c.new-gathering.result.bytes.items c.args.came.now c.args.moment c.args.socket
-    c.gathering-connection.result c.gathering-connection.ensures c.new-peer.ensures.moment c.new-peer.ensures.socket c.in-Ok.ensures c.new-gathering.ensures)
-    (c.insert.ensures known)
+    taken_in c.args.self.now c.self.inside.connections c.insert.new.self (g.N.Network.ahead c.self.inside.network) c.in-Ok.connection _ _
+    c.self.view_is c.in-Ok.ensures (c.insert.ensures known)
 
 pub returns-in_default-clause-ahead : goal.returns-in_default-clause-ahead
 returns-in_default-clause-ahead g c known =

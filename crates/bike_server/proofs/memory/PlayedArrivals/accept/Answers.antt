@@ -1,5 +1,6 @@
 use Rattle.std.proofs.Common.{◌≡◌, ℕ, ◌+◌, ◌-◌, List, ◌∷◌, map, drop, vec_len, slice_index_or, Some, refl, subst, ap, arith}
-use Rattle.bike_connections.specs.Ahead.{Coming, Loses}
+use Rattle.bike_exchange.specs.Asking.{Coming}
+use Rattle.bike_connections.specs.Ahead.{Loses}
 use Rattle.bike_connections.proofs.Losing.{loses_none}
 use Rattle.bike_server.specs.Visits.{Kept}
 use Rattle.bike_server.specs.Played.{coming_of, leaving_of}

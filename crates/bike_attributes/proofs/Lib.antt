@@ -1,0 +1,2 @@
+pub mod Vehicles
+pub mod NameKinds

@@ -1,0 +1,4 @@
+pub mod Settling
+pub mod Sending
+pub mod Reading
+pub mod Beginning

@@ -1,0 +1,293 @@
+//! What a connection is about.
+
+ghost use Rattle.std.specs.Prelude.{◌≡◌, [], ◌∷◌, ◌++◌, IsTrue, IfSome, IfOk, IfErr};
+ghost use Rattle.bike_exchange.specs.Asking.{coming_of, ahead_as, coming_from};
+
+use crate::answer::Answer;
+use crate::exchange::Exchange;
+use crate::gathering::Gathering;
+use crate::limits::{MOST_CALLS, PIECE};
+use crate::peer::Peer;
+use crate::socket::Socket;
+use bike_fixed::Moment;
+use std::alloc::{AllocError, Global};
+use std::io;
+use std::io::ErrorKind;
+use std::marker::Model;
+use std::time::Duration;
+
+/// In how many pieces is read at most what a client still sends once it is answered.
+const MOST_PIECES: u32 = 64;
+
+/// How far a connection got.
+#[derive(Clone, Copy, PartialEq, Eq)]
+pub enum Step {
+    /// It waits for its socket.
+    Waits,
+    /// There may be more to do at once, but others come first.
+    GoesOn,
+    /// No more of its request is wanted.
+    Settled,
+    /// Its client took the answer.
+    Sent,
+    /// It has nothing to do.
+    Rests,
+    /// It failed, or is done.
+    Over,
+}
+
+/// What a connection is about.
+#[derive(Drop)]
+pub(crate) enum State {
+    /// Its request comes.
+    Gathering(Gathering),
+    /// Its request is there.
+    Ready(Gathering),
+    /// Its answer goes out. It may have been made before all of the request was read.
+    Sending { answer: Answer, is_early: bool },
+    /// It was answered before all of its request was read, and what comes still is read in so many pieces.
+    Lingering { pieces: u32 },
+}
+
+/// A connection; seen as itself where it isn't answered yet, and else as nothing.
+#[derive(Drop)]
+pub struct Connection<S: Socket> {
+    peer: Peer<S>,
+    state: State,
+    /// Whether it goes on in the next turn without being told of.
+    is_going: bool,
+}
+
+impl<S: Socket> Model for Connection<S> {
+    ghost use Rattle.std.specs.Prelude.{List};
+    ghost use Rattle.bike_exchange.specs.Asking.{Coming, ahead_as};
+
+    ghost Value = { List Coming };
+
+    ghost view = { λ c. ahead_as S.coming c.peer c.state };
+}
+
+/// Whether these bytes may ask for a feed: its path, which stands before the version, has this part. No other answer is long.
+fn may_be_feed(bytes: &[u8]) -> bool {
+    let end = bytes
+        .windows(8)
+        .position(|part| part == b" HTTP/1.".as_slice());
+    let front = match end {
+        Some(end) => &bytes[..end.min(bytes.len())],
+        None => bytes,
+    };
+    front.windows(6).any(|part| part == b"/gbfs/".as_slice())
+}
+
+/// Reads what a client still sends, and drops it.
+fn linger<S: Socket>(socket: &mut S, pieces: &mut u32) -> Step {
+    let mut piece = [0; PIECE];
+    for _ in 0..MOST_CALLS {
+        if *pieces == 0 {
+            return Step::Over;
+        }
+        *pieces = pieces.saturating_sub(1);
+        match socket.read(&mut piece) {
+            Ok(0) => return Step::Over,
+            Ok(_) => {}
+            Err(error) if error.kind() == ErrorKind::WouldBlock => return Step::Waits,
+            Err(_) => return Step::Over,
+        }
+    }
+    Step::GoesOn
+}
+
+/// Reads what there is of a request.
+fn gather<S: Socket>(peer: Peer<S>, gathering: Gathering) -> (Peer<S>, State, Step)
+    ensures { IsTrue S.is_known → (result.2 ≡ Step.Over → ⊥)
+        → ahead_as S.coming result.0 result.1 ≡ coming_of S.coming peer gathering.bytes.items ∷ [] }
+{
+    let mut peer = peer;
+    let mut gathering = gathering;
+    let step = gathering.gather(&mut peer.socket);
+    if step == Step::Settled {
+        return (peer, State::Ready(gathering), step);
+    }
+    (peer, State::Gathering(gathering), step)
+}
+
+/// Reads or writes as far as a socket is ready.
+fn go_on<S: Socket>(peer: Peer<S>, state: State) -> (Peer<S>, State, Step)
+    ensures { IsTrue S.is_known → (result.2 ≡ Step.Over → ⊥)
+        → ahead_as S.coming result.0 result.1 ≡ ahead_as S.coming peer state }
+{
+    match state {
+        State::Gathering(gathering) => gather(peer, gathering),
+        State::Ready(gathering) => (peer, State::Ready(gathering), Step::Rests),
+        State::Sending {
+            mut answer,
+            is_early,
+        } => {
+            let mut peer = peer;
+            let step = answer.send(&mut peer.socket);
+            (peer, State::Sending { answer, is_early }, step)
+        }
+        State::Lingering { mut pieces } => {
+            let mut peer = peer;
+            let step = linger(&mut peer.socket, &mut pieces);
+            (peer, State::Lingering { pieces }, step)
+        }
+    }
+}
+
+impl<S: Socket> Connection<S> {
+    /// A connection that was accepted at this moment, which is now, and of whose request this came; an error where memory is refused.
+    pub fn begin(
+        alloc: Global,
+        socket: S,
+        moment: Moment,
+        now: Duration,
+        came: &[u8],
+    ) -> Result<Connection<S>, AllocError>
+        ensures { IfOk result
+            (λ begun. begun ≡ record { moment = moment; input = came.now ++ S.coming socket } ∷ []) }
+    {
+        let peer = Peer::new(socket, moment, now);
+        let mut gathering = Gathering::new(alloc);
+        gathering.add(came)?;
+        Ok(Connection::gathering(peer, gathering))
+    }
+
+    /// A connection of whose request this came.
+    fn gathering(peer: Peer<S>, gathering: Gathering) -> Connection<S>
+        ensures { result ≡ coming_of S.coming peer gathering.bytes.items ∷ [] }
+    {
+        Connection {
+            peer,
+            state: State::Gathering(gathering),
+            is_going: false,
+        }
+    }
+
+    /// A connection that was answered. The answer may have been made before all of the request was read (`is_early`).
+    pub(crate) fn sending(peer: Peer<S>, answer: Answer, is_early: bool) -> Connection<S>
+        ensures { result ≡ [] }
+    {
+        Connection {
+            peer,
+            state: State::Sending { answer, is_early },
+            is_going: false,
+        }
+    }
+
+    /// When it is given up.
+    pub fn end(&self) -> Duration {
+        self.peer.end()
+    }
+
+    /// Gives it up no later than at this moment.
+    pub fn end_by(&mut self, end: Duration)
+        ensures { self.new ≡ self.old }
+    {
+        self.peer.end_by(end);
+    }
+
+    /// Whether it goes on in the next turn without being told of.
+    pub fn is_going(&self) -> bool {
+        self.is_going
+    }
+
+    /// Has it go on in the next turn without being told of, or no longer.
+    pub fn set_going(&mut self, is_going: bool)
+        ensures { self.new ≡ self.old }
+    {
+        self.is_going = is_going;
+    }
+
+    /// How many blocks its answer holds.
+    pub fn blocks(&self) -> usize {
+        match &self.state {
+            State::Sending { answer, .. } => answer.blocks(),
+            State::Gathering(_) | State::Ready(_) | State::Lingering { .. } => 0,
+        }
+    }
+
+    /// Whether it is answered.
+    pub fn is_answered(&self) -> bool {
+        matches!(&self.state, State::Sending { .. } | State::Lingering { .. })
+    }
+
+    /// Whether its client may still send of a request which was answered before all of it was read.
+    pub fn is_early(&self) -> bool
+        ensures { IsTrue result → self.now ≡ [] }
+    {
+        matches!(&self.state, State::Sending { is_early: true, .. })
+    }
+
+    /// Whether its request may ask for a feed.
+    pub fn may_be_feed(&self) -> bool {
+        match &self.state {
+            State::Ready(gathering) => may_be_feed(gathering.bytes.as_slice()),
+            State::Gathering(_) | State::Sending { .. } | State::Lingering { .. } => false,
+        }
+    }
+
+    /// Reads or writes as far as its socket is ready; none where it is over.
+    pub fn step(self) -> Option<(Connection<S>, Step)>
+        ensures { IsTrue S.is_known → IfSome result (λ went. went.0 ≡ self) }
+    {
+        let Connection {
+            peer,
+            state,
+            is_going,
+        } = self;
+        let (peer, state, step) = go_on(peer, state);
+        if step == Step::Over {
+            return None;
+        }
+        let connection = Connection {
+            peer,
+            state,
+            is_going,
+        };
+        Some((connection, step))
+    }
+
+    /// The connection handed out with its request; as it was where that is still to come.
+    pub fn into_exchange(self) -> Result<Exchange<S>, Connection<S>>
+        ensures handed { IfOk result (λ exchange. self ≡ coming_from S.coming exchange ∷ []) }
+        ensures kept { IfErr result (λ connection. connection ≡ self) }
+    {
+        let Connection {
+            peer,
+            state,
+            is_going,
+        } = self;
+        match state {
+            State::Ready(gathering) => Ok(Exchange::new(peer, gathering.bytes, gathering.is_ended)),
+            state => Err(Connection {
+                peer,
+                state,
+                is_going,
+            }),
+        }
+    }
+
+    /// Tells the client that nothing more is sent, and reads what it still sends. A connection that is closed while bytes of it are
+    /// unread is reset, and with that the client may lose its answer (RFC 9112, section 9.6).
+    pub fn linger(&mut self)
+        ensures { self.new ≡ [] }
+    {
+        self.peer.socket.shut_writes();
+        self.state = State::Lingering {
+            pieces: MOST_PIECES,
+        };
+    }
+
+    /// Has the system tell when the socket is ready for what the connection waits for.
+    pub fn watch(&mut self, registry: &S::Registry, key: usize) -> io::Result<()>
+        ensures { self.new ≡ self.old }
+    {
+        match &self.state {
+            State::Sending { .. } => self.peer.watch_writes(registry, key),
+            State::Gathering(_) | State::Ready(_) | State::Lingering { .. } => {
+                self.peer.watch_reads(registry, key)
+            }
+        }
+    }
+}
