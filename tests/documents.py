@@ -146,6 +146,30 @@ def test_groups_of_crates(program):
     assert found == wanted, [(one, other) for one, other in zip(found, wanted) if one != other]
 
 
+def test_libraries_of_crates(program):
+    """A crate of this repository that crates.txt names as a library of another is named in the other's files."""
+    on, unused = libraries(), []
+    for crate, names in on.items():
+        parts = (TOP / "crates" / crate / it for it in ("src", "specs", "proofs"))
+        files = [it for part in parts for it in part.rglob("*") if it.suffix in (".rt", ".antt")]
+        text = "\n".join(it.read_text(encoding="utf-8") for it in files)
+        unused += [(crate, it) for it in names if it in on and not re.search(rf"\b{it}\b", text)]
+    assert not unused, unused
+
+
+MOST_WAYS = 650_000
+
+
+def test_ways_through_crates(program):
+    """There are at most so many ways down from a library to itself or to one below it, by crates.txt: at the end of
+    each the gate reads a crate's files, twice."""
+    on, ways = libraries(), {}
+    for crate in on:  # the lowest come first
+        ways[crate] = 1 + sum(ways[it] for it in on[crate] if it in on)
+    most = sorted(ways, key=ways.get)[-9:]
+    assert sum(ways.values()) - ways["bikeshare"] <= MOST_WAYS, [(it, ways[it]) for it in most]
+
+
 # Words and phrases that no document has any more, each with the plain one that stands in its place.
 GONE = {
     "dear": "expensive",
@@ -232,10 +256,15 @@ NUMBERS = (
 ).split()
 
 
+def libraries():
+    """The libraries that each crate of this repository names in crates.txt, those of the kit among them."""
+    lines = [it for it in (TOP / "crates.txt").read_text(encoding="utf-8").splitlines() if it and it[0] != "#"]
+    return {name: names.split() for name, names in (it.split(":", 1) for it in lines)}
+
+
 def crates_below(crate):
     """The crates of this repository on which one stands, by crates.txt."""
-    lines = [it for it in (TOP / "crates.txt").read_text(encoding="utf-8").splitlines() if it and it[0] != "#"]
-    on = {name: names.split() for name, names in (it.split(":", 1) for it in lines)}
+    on = libraries()
     found, left = set(), [crate]
     while left:
         new = [it for it in on[left.pop()] if it in on and it not in found]

@@ -10,5 +10,5 @@ mod looking;
 mod tables;
 
 pub use adoption::{AdoptCause, AdoptFault, adopt, adopt_watched};
-pub use bike_audit::{BadRow, Unwatched, Watch};
+pub use bike_audit::{BadRow, Finding, Unwatched, Watch, audit, first_bad_row};
 pub use looking::{Looked, look};

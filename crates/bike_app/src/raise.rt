@@ -8,8 +8,7 @@ ghost use Rattle.bike_app.specs.Raises.{CrashLeavesRaised, TellsRaised};
 
 use crate::words::write_line;
 use bike_adoption::Watch;
-use bike_console::Fault;
-use bike_migrate::raise_watched;
+use bike_console::{Fault, raise_watched};
 use sqlite::{Alter, Connection};
 use std::alloc::Global;
 use std::io::Write;

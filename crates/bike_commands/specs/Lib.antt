@@ -4,9 +4,10 @@ pub mod Replies
 pub mod ReplyReaders
 pub mod Requests
 pub use Rattle.bike_catalogue.specs.Rows
-pub use Rattle.bike_attributes.specs.Vehicle
-pub use Rattle.bike_attributes.specs.NameKinds
-pub use Rattle.bike_attributes.specs.declared.name_kind.NameKind
+pub use Rattle.bike_catalogue.specs.Vehicle
+pub use Rattle.bike_catalogue.specs.NameKinds
+pub use Rattle.bike_catalogue.specs.NameKind
+pub use Rattle.bike_catalogue.specs.numbers
 pub use Rattle.bike_texts.specs.Bytes
 pub use Rattle.bike_texts.specs.Caller
 pub use Rattle.bike_texts.specs.CallerType

@@ -3,23 +3,21 @@
 ghost use Rattle.std.specs.Prelude.{◌≡◌, ◌++◌, codes, Err};
 ghost use Rattle.std.specs.Fmt.{decimal};
 ghost use Rattle.std.specs.Process.{exit_status};
-ghost use Rattle.bike_adoption.specs.Adoption.{handed};
+ghost use Rattle.bike_migrate.specs.Adoption.{handed};
 ghost use Rattle.bike_migrate.specs.Raising.{handed as handed_back};
 ghost use Rattle.bike_console.specs.Pieces.{Puts, PutsLine};
 ghost use Rattle.bike_console.specs.Ends.{word_of, row_detail, detail_of, fault_status, status_of, line_of};
 ghost use Rattle.bike_console.specs.Ends.{adopt_fault, raise_fault, day_fault, fault_of_desk, feed_fault, import_fault, table_fault};
 
 use crate::pieces::{put, put_key, put_number};
-use bike_adoption::{AdoptCause, AdoptFault};
 use bike_commands::Refusal;
 use bike_days::DayTableFault;
-use bike_desk::DeskFault;
-use bike_feeds::FeedFault;
+use bike_feeds::{DeskFault, FeedFault};
 use bike_fixed::DayFault;
 use bike_imports::ImportFault;
 use bike_json::Output;
 use bike_lines::LinesFault;
-use bike_migrate::{RaiseCause, RaiseFault, UnsoundRow};
+use bike_migrate::{AdoptCause, AdoptFault, RaiseCause, RaiseFault, UnsoundRow};
 use sqlite::{Alter, Connection, ErrorCode};
 use std::alloc::AllocError;
 use std::error::Error;

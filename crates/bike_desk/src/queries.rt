@@ -15,12 +15,11 @@ use bike_attributes::NameKind;
 use bike_catalogue::{MoreName, System};
 use bike_fields::{BicycleNumber, Ident, OrderNumber, RentalNumber, RiderNumber};
 use bike_fixed::Cents;
-use bike_fleet_reads::{find_bike, find_order};
 use bike_office_reads::{find_names, newest_tells};
 use bike_operator::{Bike, MOST_TYPES, Order, Place};
 use bike_queries::{
-    Counts, RentalInfo, RiderInfo, find_balance, find_place, find_rental_info, find_rider_info,
-    find_station_counts, find_system, find_type_ids,
+    Counts, RentalInfo, RiderInfo, find_balance, find_bike, find_order, find_place,
+    find_rental_info, find_rider_info, find_station_counts, find_system, find_type_ids,
 };
 use bike_schema::StatementFault;
 use sqlite::Alter;

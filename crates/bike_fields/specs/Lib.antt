@@ -5,3 +5,4 @@ pub mod Texts
 pub mod Caller
 pub use Rattle.bike_fixed.specs.Whole
 pub use Rattle.bike_fixed.specs.Coordinate
+pub use Rattle.bike_fixed.specs.declared.micro

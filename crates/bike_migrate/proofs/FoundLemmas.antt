@@ -15,9 +15,9 @@ use Rattle.bike_schema.specs.Tables.{HasTables, HasNone}
 use Rattle.bike_recognition.specs.Recognition.{ReadsAny, meta_version}
 use Rattle.bike_recognition.specs.declared.version.MetaVersion.{MetaVersion}
 use Rattle.bike_recognition.specs.declared.version.MetaVersion.TheVariants.{Missing, Version, NotOurs}
-use Rattle.bike_audit.specs.Audit.{row_name, IsAudited, IsBadIn}
-use Rattle.bike_audit.specs.declared.finding.Finding.TheVariants as finding
-use Rattle.bike_audit.specs.declared.tables.BadRow.{BadRow}
+use Rattle.bike_adoption.specs.Audit.{row_name, IsAudited, IsBadIn}
+use Rattle.bike_adoption.specs.Finding.TheVariants as finding
+use Rattle.bike_adoption.specs.BadRow.{BadRow}
 use Rattle.bike_earlier.specs.declared.earlier.Earlier.{Earlier}
 use Rattle.bike_earlier.specs.declared.earlier.Earlier.TheVariants.{First, Second}
 use Rattle.bike_earlier.specs.declared.found.Found.{Found}

@@ -13,8 +13,8 @@ use Rattle.bike_rows.specs.Calls.{ReadsWhere}
 use Rattle.bike_rows.specs.Stands.{Stands}
 use Rattle.bike_schema.specs.Makes.{Continues}
 use Rattle.bike_schema.specs.declared.fault.StatementFault.{StatementFault}
-use Rattle.bike_audit.specs.Audit.{row_name}
-use Rattle.bike_audit.specs.declared.tables.BadRow.{BadRow}
+use Rattle.bike_adoption.specs.Audit.{row_name}
+use Rattle.bike_adoption.specs.BadRow.{BadRow}
 use Rattle.bike_earlier.specs.declared.earlier.Earlier.{Earlier}
 use Rattle.bike_earlier.specs.Earlier.{stations_layout}
 use Rattle.bike_migrate.specs.Calls.{DoesInside}

@@ -7,8 +7,8 @@ use Rattle.sqlite.specs.Effect.{Database}
 use Rattle.sqlite.specs.Held.{Held}
 use Rattle.bike_rows.specs.Calls.{ReadsWhere}
 use Rattle.bike_schema.specs.Tables.{IsOurs, tables_of}
-use Rattle.bike_audit.specs.Audit.{row_name}
-use Rattle.bike_audit.specs.declared.tables.BadRow.{BadRow}
+use Rattle.bike_adoption.specs.Audit.{row_name}
+use Rattle.bike_adoption.specs.BadRow.{BadRow}
 use Rattle.bike_earlier.specs.declared.earlier.Earlier.{Earlier}
 use Rattle.bike_earlier.specs.Earlier.{IsAt}
 use Rattle.bike_migrate.specs.Calls.{DoesInside}

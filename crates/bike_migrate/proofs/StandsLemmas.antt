@@ -28,7 +28,7 @@ use Rattle.bike_earlier.specs.declared.found.Found.TheVariants as found
 use Rattle.bike_earlier.specs.Earlier.{layout_at, tables_at, AreNewerFree, IsAt}
 use Rattle.bike_earlier.specs.Found.{IsNewest, IsOfEarlier, IsByVersion, IsFoundAs}
 use Rattle.bike_earlier.specs.Stores.{StoresAt, StandsForAt, TreesStandForAt}
-use Rattle.bike_desk.proofs.KeepLemmas.{no_meta}
+use Rattle.bike_adoption.proofs.KeepLemmas.{no_meta}
 use Rattle.bike_adoption.proofs.AdoptLemmas.{same_tables}
 
 -- ---- what a database has is told by its tables and trees

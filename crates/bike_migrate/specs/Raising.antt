@@ -15,9 +15,9 @@ use Rattle.bike_schema.specs.Stands.{AllLeft, StandsFor, TreesStandFor}
 use Rattle.bike_schema.specs.Tables.{HasNone}
 use Rattle.bike_schema.specs.declared.fault.StatementFault.{StatementFault}
 use Rattle.bike_schema.specs.declared.fault.StatementFault.TheVariants as statement
-use Rattle.bike_audit.specs.Audit.{row_name, IsAudited, IsBadIn}
-use Rattle.bike_audit.specs.declared.finding.Finding.TheVariants as finding
-use Rattle.bike_audit.specs.declared.tables.BadRow.{BadRow}
+use Rattle.bike_adoption.specs.Audit.{row_name, IsAudited, IsBadIn}
+use Rattle.bike_adoption.specs.Finding.TheVariants as finding
+use Rattle.bike_adoption.specs.BadRow.{BadRow}
 use Rattle.bike_earlier.specs.declared.earlier.Earlier.{Earlier}
 use Rattle.bike_earlier.specs.declared.found.Found.TheVariants as found
 use Rattle.bike_earlier.specs.Earlier.{stations_name}

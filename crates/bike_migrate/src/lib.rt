@@ -13,6 +13,6 @@ mod judge;
 mod raising;
 mod stations;
 
-pub use bike_audit::{BadRow, Unwatched, Watch};
+pub use bike_adoption::{AdoptCause, AdoptFault, BadRow, Unwatched, Watch, adopt};
 pub use fault::{RaiseCause, RaiseFault, UnsoundRow};
 pub use raising::{raise, raise_watched};

@@ -3,7 +3,7 @@
 ghost use Rattle.std.specs.Prelude.{◌≡◌, false, None, option_map, OnOk};
 ghost use Rattle.sqlite.specs.Held.{state};
 ghost use Rattle.sqlite.specs.State.{HasCleanDisk, Survives};
-ghost use Rattle.bike_audit.specs.Audit.{row_name};
+ghost use Rattle.bike_adoption.specs.Audit.{row_name};
 ghost use Rattle.bike_recognition.specs.Recognition.{ReadsAny};
 ghost use Rattle.bike_migrate.specs.Calls.{DoesInside};
 ghost use Rattle.bike_migrate.specs.Raised.{WasRead};
@@ -14,7 +14,7 @@ use crate::build::{build, drop_stations};
 use crate::fault::{RaiseCause, RaiseFault, UnsoundRow};
 use crate::judge::judge;
 use crate::stations::read_stations;
-use bike_audit::{BadRow, Finding, Unwatched, Watch, audit};
+use bike_adoption::{BadRow, Finding, Unwatched, Watch, audit};
 use bike_earlier::{Earlier, Found, find_version_of};
 use bike_recognition::check_open;
 use bike_rows::inside::{begin, commit, is_at_rest, undo};

@@ -10,6 +10,7 @@ pub mod Bounds
 pub use Rattle.bike_commands.specs.Rows
 pub use Rattle.bike_commands.specs.NameKinds
 pub use Rattle.bike_commands.specs.NameKind
+pub use Rattle.bike_commands.specs.numbers
 pub use Rattle.bike_commands.specs.Bytes
 pub use Rattle.bike_commands.specs.Commands
 pub use Rattle.bike_commands.specs.OrderEnd

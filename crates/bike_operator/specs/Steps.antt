@@ -5,7 +5,7 @@ use Rattle.std.specs.FinMap as map
 use Rattle.std.specs.FinSet as set
 use Rattle.std.specs.declared.cmp.Ordering.{Ordering}
 use Rattle.bike_commands.specs.Rows.{StationRow, SystemRow, moved_to, more_docks, system_with}
-use Rattle.bike_fields.specs.declared.numbers.TheConstants.{MOST_DOCKS}
+use Rattle.bike_commands.specs.numbers.TheConstants.{MOST_DOCKS}
 use Rattle.bike_fares.specs.Pricing.{fare_of}
 use Rattle.bike_ledger.specs.declared.entry.EntryKind.{EntryKind}
 use Rattle.bike_ledger.specs.declared.entry.EntryKind.TheVariants as kind

@@ -22,7 +22,7 @@ use Rattle.bike_operator.specs.declared.records.Bike.{Bike}
 use Rattle.bike_operator.specs.declared.records.Order.{Order}
 use Rattle.bike_operator.specs.declared.view.DockedBike.{DockedBike}
 use Rattle.bike_operator.specs.declared.view.RentalView.{RentalView}
-use Rattle.bike_fields.specs.declared.numbers.TheConstants.{MOST_DOCKS}
+use Rattle.bike_operator.specs.numbers.TheConstants.{MOST_DOCKS}
 use Rattle.bike_operator.specs.Operator.{Operator, Station, Kept, texts_cmp, item_numbered}
 use Rattle.bike_operator.specs.Counts.{docked_at}
 use Rattle.bike_operator.specs.Names.{is_own_language}

@@ -5,8 +5,6 @@
 mod copy;
 mod read_only;
 mod source;
-#[cfg(test)]
-mod tests;
 
 pub use copy::{CopyFault, copy_of};
 pub use read_only::ReadOnly;

@@ -12,10 +12,10 @@ ghost use Rattle.bike_recovery.specs.Losses.{IsOnlyWant};
 ghost use Rattle.bike_recovery.specs.SessionsServed.{ServesSessions};
 
 use crate::crash::{Acknowledged, Lost, resume};
-use bike_adoption::adopt;
 use bike_commands::Request;
 use bike_feeds::Desk;
 use bike_fixed::Moment;
+use bike_migrate::adopt;
 use sqlite::{Alter, Connection, MemStore};
 use sqlite_trees::store::Reopen;
 use std::alloc::Global;

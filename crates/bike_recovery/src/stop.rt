@@ -16,11 +16,11 @@ ghost use Rattle.bike_recovery.specs.Files.{MayHold, IsAtSomeFront, IsOnlyStorag
 use crate::crash::Acknowledged;
 use crate::files::stop_and_open;
 use crate::reading::{Reading, read_again};
-use bike_adoption::{AdoptFault, adopt};
 use bike_commands::Request;
 use bike_feeds::Desk;
 use bike_fields::BicycleNumber;
 use bike_fixed::Moment;
+use bike_migrate::{AdoptFault, adopt};
 use sqlite::{Error, FileFrom, FileStore, Leftover, Start};
 use sqlite_disk::Disk;
 use std::io::Write;

@@ -15,9 +15,8 @@ ghost use Rattle.bike_server.specs.Serving.{ServesRequests, StandsAfterRequests}
 use crate::arrivals::{AcceptFault, Arrival, Arrivals};
 use crate::fault::ServerFault;
 use crate::sockets::Sockets;
-use bike_adoption::adopt;
 use bike_connections::Connections;
-use bike_console::Fault;
+use bike_console::{Fault, adopt};
 use bike_heads::Routes;
 use bike_http::{Desk, serve_one};
 use bike_networks::{Loopback, has_descriptors};

@@ -1,6 +1,6 @@
 use Rattle.std.proofs.Common.{rules, subst}
 use Rattle.std.specs.Prelude.{option_map}
-use Rattle.bike_audit.specs.Audit.{row_name}
+use Rattle.bike_adoption.specs.Audit.{row_name}
 use Rattle.bike_migrate.specs.Raised.{tables_raised}
 use Rattle.bike_migrate.specs.Verdicts.{IsVerdictBefore}
 use Rattle.bike_migrate.proofs.StepLemmas.{does_under, does_both, does_as, does_failed}
