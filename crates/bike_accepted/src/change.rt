@@ -1,10 +1,9 @@
 //! Records that are put, added or removed, but for those of bicycles that are there and of docks.
 
-use bike_commands::{
-    Ident, Language, Name, NameKind, OrderEnd, Plan, Position, Region, Settings, Station, System,
-    VehicleType,
+use bike_operator::{
+    Ident, Language, Name, NameKind, Order, OrderEnd, Plan, Position, Region, Settings, Station,
+    System, VehicleType,
 };
-use bike_operator::Order;
 
 /// One record that is put, added or removed. What is added wasn't there. Moments are the operator's `now`.
 #[derive(Clone, Copy)]

@@ -1,5 +1,5 @@
 -- The first bad field of a record, and the first bound that it breaks.
-use Rattle.std.specs.Prelude.{ℕ, ℤ, pos, neg_ℤ, List, [], ◌∷◌, nat_le, nat_lt, int_le, ◌&&◌, if◌then◌else◌, Option, Some, None, Result, Ok, Err}
+use Rattle.std.specs.Prelude.{◌≤◌, ℕ, ℤ, pos, neg_ℤ, List, [], ◌∷◌, nat_le, nat_lt, int_le, ◌&&◌, if◌then◌else◌, Option, Some, None, Result, Ok, Err}
 use Rattle.bike_fields.specs.declared.fault.Bound.{Bound}
 use Rattle.bike_fields.specs.declared.fault.Bound.TheVariants.{Range, Order}
 use Rattle.bike_fields.specs.declared.fault.Field.{Field}
@@ -7,6 +7,7 @@ use Rattle.bike_fields.specs.declared.fault.Field.TheVariants.{Start, Rate, Inte
 use Rattle.bike_fields.specs.declared.fault.FieldFault.{FieldFault}
 use Rattle.bike_fields.specs.declared.fault.FieldFault.TheVariants.{Broken}
 use Rattle.bike_fields.specs.declared.numbers.TheConstants.{LAST_MINUTE}
+use Rattle.bike_fields.specs.micro.TheConstants.{GREATEST_COORDINATE}
 use Rattle.bike_attributes.specs.declared.limits.TheConstants.{GREATEST_RATE}
 use Rattle.bike_fields.specs.Fault.{at_field}
 use Rattle.bike_attributes.specs.Values.{SegmentRow}
@@ -30,6 +31,10 @@ range_fault low high n = if nat_le low n && nat_le n high then None else Some Ra
 
 abbrev pub signed_fault : ℕ → ℤ → Option Bound
 signed_fault size z = if int_le (neg_ℤ (pos size)) z && int_le z (pos size) then None else Some Range
+
+-- a greatest size of coordinates: at most half a turn
+abbrev pub IsCoordinateBound : ℕ → Type 0
+IsCoordinateBound greatest = greatest ≤ GREATEST_COORDINATE
 
 abbrev pub end_fault : ℕ → Option ℕ → Option Bound
 end_fault start None = None

@@ -1,10 +1,9 @@
 //! Numbers of a record's fields, tested against their ranges.
 
-ghost use Rattle.std.specs.Prelude.{◌≡◌, ◌≤◌, ◌≤ℤ◌, pos, neg_ℤ, IfOk};
-ghost use Rattle.bike_fixed.specs.declared.micro.TheConstants.{GREATEST_COORDINATE};
+ghost use Rattle.std.specs.Prelude.{◌≡◌, ◌≤ℤ◌, pos, neg_ℤ, IfOk};
 ghost use Rattle.bike_fields.specs.Fault.{at_field};
 ghost use Rattle.bike_attributes.specs.declared.limits.TheConstants.{GREATEST_RATE};
-ghost use Rattle.bike_attributes.specs.Faults.{value_or_fault, range_fault, signed_fault};
+ghost use Rattle.bike_attributes.specs.Faults.{value_or_fault, range_fault, signed_fault, IsCoordinateBound};
 
 use crate::rate::Rate;
 use bike_fields::{Bound, Field, FieldFault, Micro, Within};
@@ -40,7 +39,7 @@ pub(crate) fn rate_of(hundredths: i32) -> Result<Rate, FieldFault>
 
 /// A coordinate as that field, in microdegrees, where its size is at most `greatest`.
 pub fn coordinate(field: Field, microdegrees: i32, greatest: u32) -> Result<Micro, FieldFault>
-    requires { greatest ≤ GREATEST_COORDINATE }
+    requires { IsCoordinateBound greatest }
     ensures value { result ≡ value_or_fault microdegrees (at_field field (signed_fault greatest microdegrees)) }
     ensures bounds { IfOk result (λ m. (neg_ℤ (pos greatest) ≤ℤ m) × (m ≤ℤ pos greatest)) }
 {

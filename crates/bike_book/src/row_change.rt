@@ -4,9 +4,8 @@ use bike_commands::{
     Ident, Language, Name, NameKind, OrderEnd, Plan, Position, Region, Segment, Settings, Station,
     System, VehicleType,
 };
-use bike_fixed::{Cents, Moment};
 use bike_ledger::Entry;
-use bike_operator::{BikeState, NewPlace};
+use bike_operator::{BikeState, Cents, Moment, NewPlace};
 
 /// One row that is added, under a key that is free, columns that are set in the row of a key, or a row that is removed. Money is in
 /// hundredths, moments in seconds.

@@ -1,6 +1,6 @@
 -- How a command is spelled.
 use Rattle.std.specs.Prelude.{ℕ, List, [], ◌∷◌, ◌++◌, codes}
-use Rattle.bike_fixed.specs.declared.micro.TheConstants.{GREATEST_COORDINATE}
+use Rattle.bike_texts.specs.micro.TheConstants.{GREATEST_COORDINATE}
 use Rattle.bike_catalogue.specs.numbers.TheConstants.{GREATEST_PRICE, LONGEST_TIME_TO_LIVE, MOST_CARRIED}
 use Rattle.bike_catalogue.specs.limits.TheConstants.{GREATEST_LATITUDE}
 use Rattle.bike_catalogue.specs.Vehicle.{form_text, propulsion_text}

@@ -10,8 +10,7 @@ ghost use Rattle.bike_commands.specs.Refusals.{number_of, name_of, refusal_of};
 
 use crate::refusal::Refusal;
 use arrayvec::ArrayString;
-use bike_fixed::{Within, signed_text};
-use bike_texts::{BicycleNumber, Fare, Fields, OrderNumber, RentalNumber};
+use bike_texts::{BicycleNumber, Fare, Fields, OrderNumber, RentalNumber, Within, signed_text};
 use itoa::Buffer;
 
 /// Room in bytes for every reply: the longest word before two numbers is `fare`, and a number of

@@ -6,9 +6,8 @@ ghost use Rattle.bike_fares.specs.declared.elapsed.TheConstants.{MINUTES};
 ghost use Rattle.bike_fares.specs.Pricing.{is_charged, segment_charge, per_min_pricing, reached_charge, fare_of, greatest_fare, most_at_minute};
 
 use crate::elapsed::{MINUTES, elapsed_seconds};
-use bike_attributes::Segment;
+use bike_attributes::{Cents, Moment, Segment};
 use bike_catalogue::Plan;
-use bike_fixed::{Cents, Moment};
 
 /// Whether a segment charges at a minute.
 fn is_charged(segment: &Segment, minute: u32) -> bool

@@ -7,9 +7,8 @@ ghost use Rattle.bike_fares.specs.Pricing.{fare_of, greatest_fare};
 ghost use Rattle.bike_fares.specs.Counting.{count_below, minutes_before, segment_total, segments_total, most_of_segment, most_of_segments};
 
 use crate::elapsed::elapsed_seconds;
-use bike_attributes::Segment;
+use bike_attributes::{Cents, Moment, Segment};
 use bike_catalogue::Plan;
-use bike_fixed::{Cents, Moment};
 
 /// How many of the minutes below `minutes` are the start, or whole intervals after it.
 fn count_below(start: u32, interval: u32, minutes: u32) -> u32

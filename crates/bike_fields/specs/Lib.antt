@@ -6,3 +6,4 @@ pub mod Caller
 pub use Rattle.bike_fixed.specs.Whole
 pub use Rattle.bike_fixed.specs.Coordinate
 pub use Rattle.bike_fixed.specs.declared.micro
+pub use Rattle.bike_fixed.specs.declared.cents

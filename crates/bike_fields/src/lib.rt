@@ -12,7 +12,9 @@ mod text;
 mod text_kind;
 mod text_lengths;
 
-pub use bike_fixed::{GREATEST_COORDINATE, Micro, Within, read_signed};
+pub use bike_fixed::{
+    Cents, GREATEST_COORDINATE, GREATEST_FARE, Micro, Moment, Within, read_signed, signed_text,
+};
 pub use caller::{Caller, CallerName, caller_laws};
 pub use fault::{Bound, Field, FieldFault};
 pub use numbers::{

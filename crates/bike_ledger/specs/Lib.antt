@@ -1,3 +1,4 @@
 pub mod Entries
 pub mod Ledger
 pub mod Money
+pub use Rattle.bike_fields.specs.Whole

@@ -3,8 +3,9 @@
 ghost use Rattle.std.specs.Prelude.{◌≡◌, ◌≤◌, ◌≤ℤ◌, pos};
 ghost use Rattle.bike_ledger.specs.Entries.{IsEntry};
 
-use bike_fields::{GREATEST_SERIAL, Payment, RentalNumber, RiderNumber, kind};
-use bike_fixed::{Cents, GREATEST_FARE, Moment, Within};
+use bike_fields::{
+    Cents, GREATEST_FARE, GREATEST_SERIAL, Moment, Payment, RentalNumber, RiderNumber, Within, kind,
+};
 use std::marker::Model;
 
 /// The number of an entry, 1 to `GREATEST_SERIAL`.

@@ -17,3 +17,6 @@ pub use Rattle.bike_commands.specs.OrderEnd
 pub use Rattle.bike_commands.specs.Side
 pub use Rattle.bike_commands.specs.declared.command.Command
 pub use Rattle.bike_commands.specs.declared.refusal.Refusal
+pub use Rattle.bike_commands.specs.declared.reply.Reply
+pub use Rattle.bike_ledger.specs.Entries
+pub use Rattle.bike_ledger.specs.Ledger

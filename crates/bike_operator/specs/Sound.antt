@@ -2,7 +2,7 @@
 use Rattle.std.specs.Prelude.{◌≡◌, ℕ, ℤ, ◌+◌, ◌≤◌, ◌≤ℤ◌, ◌==◌, ◌&&◌, List, [], ◌∷◌, length, map, filter, Bool, true, false, Option, Some, None, is_some, pos}
 use Rattle.std.specs.FinMap as finmap
 use Rattle.std.specs.FinSet as finset
-use Rattle.bike_fixed.specs.Whole.{last_moment}
+use Rattle.bike_ledger.specs.Whole.{last_moment}
 use Rattle.bike_commands.specs.numbers.TheConstants.{GREATEST_NUMBER, GREATEST_PAYMENT, MOST_CARRIED}
 use Rattle.bike_commands.specs.Bytes.{is_key, is_ident}
 use Rattle.bike_commands.specs.NameKind.{NameKind}

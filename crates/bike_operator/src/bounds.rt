@@ -8,8 +8,7 @@ ghost use Rattle.bike_operator.specs.Counts.{is_open};
 use crate::limits::MOST_ENTRIES;
 use crate::records::Closing;
 use crate::view::{RentalView, View};
-use bike_fixed::{Cents, Moment};
-use bike_ledger::GREATEST_BALANCE;
+use bike_ledger::{Cents, GREATEST_BALANCE, Moment};
 
 /// Whether the balance takes one more entry.
 fn is_balance(balance: Cents) -> bool

@@ -11,6 +11,11 @@ mod limits;
 mod records;
 mod view;
 
+pub use bike_commands::{
+    DockCount, Ident, Language, Name, NameKind, OrderEnd, Plan, Position, Refusal, Region, Reply,
+    Settings, Station, System, VehicleType,
+};
+pub use bike_ledger::{Cents, Entry, Moment};
 pub use bounds::is_bounded;
 pub use change::NewPlace;
 pub use limits::{

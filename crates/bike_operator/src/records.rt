@@ -4,7 +4,7 @@ use bike_commands::{
     BicycleNumber, DockNumber, Ident, OrderEnd, OrderNumber, OrderQuantity, RentalNumber,
     RiderNumber, TruckNumber,
 };
-use bike_fixed::{Cents, Moment};
+use bike_ledger::{Cents, Moment};
 
 /// What a bicycle is good for.
 #[derive(Clone, Copy, Debug, PartialEq, Eq)]

@@ -2,7 +2,7 @@
 
 use crate::records::{Bike, BikeState, Order, Rental};
 use bike_commands::{BicycleNumber, DockCount, Ident, Plan, RentalNumber, TruckCapacity};
-use bike_fixed::Cents;
+use bike_ledger::Cents;
 
 /// What a decision needs to know of a station.
 #[derive(Clone, Copy, Debug)]

@@ -18,6 +18,7 @@ pub use bike_attributes::{NameKind, Position, Segment};
 pub use bike_fields::{
     BicycleNumber, Caller, DockCount, DockNumber, Ident, Language, Name, OrderNumber,
     OrderQuantity, Payment, RentalNumber, RequestKey, RiderNumber, TruckCapacity, TruckNumber,
+    Within, signed_text,
 };
 pub use bounds::{tell_end, tell_segments};
 pub use ends::{EndName, OrderEnd, Side, UnloadDock};
