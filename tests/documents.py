@@ -157,7 +157,7 @@ def test_libraries_of_crates(program):
     assert not unused, unused
 
 
-MOST_WAYS = 480_000
+MOST_WAYS = 240_000
 
 
 def test_ways_through_crates(program):

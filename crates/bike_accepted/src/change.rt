@@ -1,6 +1,6 @@
 //! Records that are put, added or removed, but for those of bicycles that are there and of docks.
 
-use bike_operator::{
+use bike_places::{
     Ident, Language, Name, NameKind, Order, OrderEnd, Plan, Position, Region, Settings, Station,
     System, VehicleType,
 };

@@ -15,8 +15,8 @@ use Rattle.bike_operator.specs.Operator.{Operator, Station, NameKey, name_key}
 use Rattle.bike_operator.specs.Steps.{key_changed, new_station}
 use Rattle.bike_operator.specs.Changes.{text_in}
 use Rattle.bike_operator.specs.Sound.{AreNamesSound}
-use Rattle.bike_places.proofs.MapLemmas.{number_order, text_order, known_added, known_changed}
-use Rattle.bike_places.proofs.CatalogueLemmas.{same_docks, docks_changed, docks_added}
+use Rattle.bike_accepted.proofs.MapLemmas.{number_order, text_order, known_added, known_changed}
+use Rattle.bike_accepted.proofs.CatalogueLemmas.{same_docks, docks_changed, docks_added}
 use Rattle.bike_accepted.specs.declared.change.Change.TheVariants as change
 use Rattle.bike_accepted.specs.Effects.{after_change}
 use Rattle.bike_book.specs.Rows.{number_value, system_row, station_row}

@@ -4,8 +4,8 @@ use Rattle.std.specs.Prelude.{map}
 use Rattle.std.specs.FinMap as fin
 use Rattle.bike_rows.specs.View.{put_row_by}
 use Rattle.bike_ledger.specs.Ledger.{cash_of, revenue_of}
-use Rattle.bike_commands.specs.declared.reply.Reply.{Reply}
-use Rattle.bike_commands.specs.declared.request.Request.{Request}
+use Rattle.bike_operator.specs.Reply.{Reply}
+use Rattle.bike_operator.specs.Request.{Request}
 use Rattle.bike_operator.specs.Operator.{Operator, Kept, Key}
 use Rattle.bike_operator.specs.Changes.{entry_added}
 use Rattle.bike_operator.specs.Runs.{key_in}

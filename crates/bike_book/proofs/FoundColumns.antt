@@ -27,7 +27,7 @@ use Rattle.bike_operator.specs.declared.records.Rental.{Rental}
 use Rattle.bike_operator.specs.Operator.{Operator, NameKey, text_cmp}
 use Rattle.bike_operator.specs.Counts.{is_dock, is_on_truck, is_for_order, is_open}
 use Rattle.bike_operator.specs.Names.{part_at, is_name_of, further_names}
-use Rattle.bike_places.proofs.MapLemmas.{text_order, tied}
+use Rattle.bike_accepted.proofs.MapLemmas.{text_order, tied}
 use Rattle.bike_book.specs.Rows.{number_value, bike_row, segment_row, name_row}
 use Rattle.bike_book.specs.Stored.{numbers_from, with_numbers, segment_rows, plans_segments, stored_bike, stored_rental, stored_name}
 use Rattle.bike_book.specs.Found.{WhereListed, FoundByColumns, segments_in, rows_open}

@@ -9,7 +9,7 @@ use Rattle.bike_ledger.specs.Ledger.{cash_of, revenue_of}
 use Rattle.bike_operator.specs.Operator.{Operator, Key, DockKey, key_of, name_key, dock_key}
 use Rattle.bike_operator.specs.Counts.{is_broken, available_of}
 use Rattle.bike_book.specs.declared.version.TheConstants.{NEWEST}
-use Rattle.bike_places.specs.Numbers.{disabled_of}
+use Rattle.bike_accepted.specs.Numbers.{disabled_of}
 use Rattle.bike_book.specs.Tables.{Docks, Counts}
 use Rattle.bike_book.specs.Rows.{number_value, system_row, dock_row, count_row}
 use Rattle.bike_book.specs.Stored.{Listed, IsListing, system_rows, stored_plan, stored_type, stored_region, stored_station, stored_dock, stored_bike, stored_truck, stored_rider, stored_rental, stored_order, stored_entry, stored_kept, stored_count, stored_name}

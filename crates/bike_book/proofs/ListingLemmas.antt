@@ -9,8 +9,8 @@ use Rattle.bike_operator.specs.declared.records.Bike.{Bike}
 use Rattle.bike_operator.specs.Operator.{Operator, Station, Key, DockKey, text_cmp, texts_cmp}
 use Rattle.bike_operator.specs.Counts.{available_of}
 use Rattle.bike_operator.specs.Sound.{HasDock}
-use Rattle.bike_places.proofs.CatalogueLemmas.{same_docks}
-use Rattle.bike_places.specs.Numbers.{disabled_of}
+use Rattle.bike_accepted.proofs.CatalogueLemmas.{same_docks}
+use Rattle.bike_accepted.specs.Numbers.{disabled_of}
 use Rattle.bike_book.specs.Stored.{Listed, IsListing, IsDockKey, IsCountKey}
 
 -- Docks, stations and types go on being there.

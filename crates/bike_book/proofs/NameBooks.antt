@@ -16,7 +16,7 @@ use Rattle.bike_attributes.specs.Values.{SegmentRow}
 use Rattle.bike_operator.specs.Rows.{PlanRow, TypeRow, RegionRow, SystemRow}
 use Rattle.bike_operator.specs.Operator.{Station, text_cmp, name_key}
 use Rattle.bike_operator.specs.Steps.{found_changed, key_changed, system_named}
-use Rattle.bike_places.proofs.MapLemmas.{text_order, known_changed}
+use Rattle.bike_accepted.proofs.MapLemmas.{text_order, known_changed}
 use Rattle.bike_accepted.specs.declared.change.Change.TheVariants as change
 use Rattle.bike_accepted.specs.Effects.{after_change}
 use Rattle.bike_book.specs.Rows.{system_row}

@@ -13,7 +13,7 @@ use Rattle.bike_rows.specs.View.{by_key, put_row_by}
 use Rattle.bike_attributes.specs.Values.{SegmentRow}
 use Rattle.bike_operator.specs.Rows.{PlanRow}
 use Rattle.bike_operator.specs.Operator.{text_cmp}
-use Rattle.bike_places.proofs.MapLemmas.{text_order}
+use Rattle.bike_accepted.proofs.MapLemmas.{text_order}
 use Rattle.bike_accepted.specs.declared.change.Change.TheVariants as change
 use Rattle.bike_accepted.specs.Effects.{after_change}
 use Rattle.bike_book.specs.Tables.{Tables, Plans, Segments}

@@ -16,9 +16,9 @@ use Rattle.bike_operator.specs.declared.records.Bike.{Bike}
 use Rattle.bike_operator.specs.Operator.{Operator, Station, dock_key, item_at}
 use Rattle.bike_operator.specs.Counts.{count, is_broken, is_working_dock, docks_up_to}
 use Rattle.bike_operator.specs.Sound.{HasDock, IsSound, IsPlace, IsBooking, IsOfRental}
-use Rattle.bike_places.proofs.ItemLemmas.{number_within}
-use Rattle.bike_places.proofs.MapLemmas.{number_order}
-use Rattle.bike_places.proofs.CountLemmas.{none_counted}
+use Rattle.bike_accepted.proofs.ItemLemmas.{number_within}
+use Rattle.bike_accepted.proofs.MapLemmas.{number_order}
+use Rattle.bike_accepted.proofs.CountLemmas.{none_counted}
 use Rattle.bike_book.specs.NotThere.{WhereSound, NoRefundsYet, NoBalanceYet, NoneDockedYet, NoneBrokenYet}
 
 -- a sum over entries of which each adds nothing

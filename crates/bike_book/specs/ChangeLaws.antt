@@ -6,12 +6,12 @@ use Rattle.bike_operator.specs.NameKind.{NameKind}
 use Rattle.bike_attributes.specs.Values.{SegmentRow, PositionRow}
 use Rattle.bike_operator.specs.Rows.{PlanRow, TypeRow, RegionRow, StationRow, SettingsRow, SystemRow}
 use Rattle.bike_ledger.specs.Ledger.{balance_of, refunded_of}
-use Rattle.bike_commands.specs.OrderEnd.{OrderEnd}
+use Rattle.bike_operator.specs.OrderEnd.{OrderEnd}
 use Rattle.bike_operator.specs.declared.records.Order.{Order}
 use Rattle.bike_operator.specs.Operator.{Operator, name_key, item_numbered}
 use Rattle.bike_operator.specs.Counts.{docks_broken}
 use Rattle.bike_operator.specs.Sound.{AreNamesSound}
-use Rattle.bike_places.specs.Numbers.{occupied_docks}
+use Rattle.bike_accepted.specs.Numbers.{occupied_docks}
 use Rattle.bike_accepted.specs.declared.change.Change.{Change}
 use Rattle.bike_accepted.specs.declared.change.Change.TheVariants as change
 use Rattle.bike_accepted.specs.Effects.{after_change}

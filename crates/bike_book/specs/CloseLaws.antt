@@ -2,13 +2,13 @@
 use Rattle.std.specs.Prelude.{◌≡◌, ◌+◌, ◌+ℤ◌, ℕ, ℤ, pos, length, List, [], ◌∷◌, Some}
 use Rattle.std.specs.Borrow.{Bor}
 use Rattle.std.specs.FinMap as fin
-use Rattle.bike_commands.specs.Caller.{caller_text}
+use Rattle.bike_operator.specs.Caller.{caller_text}
 use Rattle.bike_ledger.specs.Entries.{Entry}
 use Rattle.bike_ledger.specs.Ledger.{credit, cash_in, revenue_in, given_back, balance_of, cash_of, revenue_of, refunded_of}
-use Rattle.bike_commands.specs.declared.reply.Reply.{Reply}
-use Rattle.bike_commands.specs.declared.request.Request.{Request}
-use Rattle.bike_commands.specs.Commands.{text_of}
-use Rattle.bike_commands.specs.Replies.{reply_text}
+use Rattle.bike_operator.specs.Reply.{Reply}
+use Rattle.bike_operator.specs.Request.{Request}
+use Rattle.bike_operator.specs.Commands.{text_of}
+use Rattle.bike_operator.specs.Replies.{reply_text}
 use Rattle.bike_operator.specs.Operator.{Operator, Kept, Key}
 use Rattle.bike_operator.specs.Changes.{entry_added}
 use Rattle.bike_operator.specs.Runs.{key_in}

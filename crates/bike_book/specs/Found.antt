@@ -9,8 +9,8 @@ use Rattle.bike_rows.specs.View.{row_with, rows_where, last_of}
 use Rattle.bike_operator.specs.NameKinds.{kind_text}
 use Rattle.bike_operator.specs.NameKind.{NameKind}
 use Rattle.bike_operator.specs.Rows.{PlanRow}
-use Rattle.bike_commands.specs.Commands.{text_of}
-use Rattle.bike_commands.specs.Replies.{reply_text}
+use Rattle.bike_operator.specs.Commands.{text_of}
+use Rattle.bike_operator.specs.Replies.{reply_text}
 use Rattle.bike_ledger.specs.Ledger.{balance_of, cash_of, revenue_of, refunded_of}
 use Rattle.bike_operator.specs.declared.records.Rental.{Rental}
 use Rattle.bike_operator.specs.Operator.{Operator, item_numbered, key_of, name_key, dock_key}
@@ -18,7 +18,7 @@ use Rattle.bike_operator.specs.Counts.{count, is_on_truck, is_for_order, docked_
 use Rattle.bike_operator.specs.Names.{further_names}
 use Rattle.bike_operator.specs.Sound.{IsSound}
 use Rattle.bike_book.specs.declared.version.TheConstants.{NEWEST}
-use Rattle.bike_places.specs.Numbers.{disabled_of}
+use Rattle.bike_accepted.specs.Numbers.{disabled_of}
 use Rattle.bike_book.specs.Tables.{TableName, rows_in, keys_of, Meta, System, Plans, Segments, Types, Regions, Stations, Docks, Bikes, Trucks, Riders, Rentals, Orders, Entries, Kept, Counts, MoreNames}
 use Rattle.bike_book.specs.Rows.{number_value, meta_row, system_row, plan_row, type_row, region_row, station_row, dock_row, bike_row, truck_row, rider_row, rental_row, order_row, entry_row, kept_row, count_row, name_row}
 use Rattle.bike_book.specs.Stored.{Listed, IsListing, with_numbers, segment_rows, stored_bike, stored_rental, tables_for}

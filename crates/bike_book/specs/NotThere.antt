@@ -5,7 +5,7 @@ use Rattle.bike_ledger.specs.Ledger.{balance_of, refunded_of}
 use Rattle.bike_operator.specs.Operator.{Operator}
 use Rattle.bike_operator.specs.Counts.{docks_broken}
 use Rattle.bike_operator.specs.Sound.{IsSound}
-use Rattle.bike_places.specs.Numbers.{occupied_docks}
+use Rattle.bike_accepted.specs.Numbers.{occupied_docks}
 
 -- a rental with a number above the last has no refunds
 abbrev pub NoRefundsYet : Operator → Type 0

@@ -6,8 +6,8 @@ use Rattle.std.specs.FinSet.{FinSet, contains}
 use Rattle.sqlite_value.specs.Order.{Row}
 use Rattle.bike_attributes.specs.Values.{SegmentRow}
 use Rattle.bike_operator.specs.Rows.{PlanRow, TypeRow, RegionRow, SystemRow}
-use Rattle.bike_commands.specs.Commands.{text_of}
-use Rattle.bike_commands.specs.Replies.{reply_text}
+use Rattle.bike_operator.specs.Commands.{text_of}
+use Rattle.bike_operator.specs.Replies.{reply_text}
 use Rattle.bike_ledger.specs.Entries.{Entry}
 use Rattle.bike_ledger.specs.Ledger.{balance_of, cash_of, revenue_of, refunded_of}
 use Rattle.bike_operator.specs.declared.records.Bike.{Bike}
@@ -17,7 +17,7 @@ use Rattle.bike_operator.specs.Operator.{Operator, Station, Truck, Rider, Kept, 
 use Rattle.bike_operator.specs.Counts.{available_of, docks_available, docks_broken}
 use Rattle.bike_operator.specs.Sound.{HasDock}
 use Rattle.bike_book.specs.declared.version.TheConstants.{NEWEST}
-use Rattle.bike_places.specs.Numbers.{disabled_of}
+use Rattle.bike_accepted.specs.Numbers.{disabled_of}
 use Rattle.bike_book.specs.Tables.{Tables}
 use Rattle.bike_book.specs.Rows.{meta_row, system_row, plan_row, segment_row, type_row, region_row, station_row, dock_row, bike_row, truck_row, rider_row, rental_row, order_row, entry_row, kept_row, count_row, name_row, first_text, second_text, second_number}
 

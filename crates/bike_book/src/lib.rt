@@ -10,6 +10,7 @@ mod laws;
 mod row_change;
 mod version;
 
+pub use bike_operator::BikeState;
 pub use laws::{
     books_catalogue, books_close, books_fleet, books_rentals, finds_rows, starts_at_zero,
 };

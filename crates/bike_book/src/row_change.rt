@@ -1,11 +1,10 @@
 //! Changes of one row each. Their numbers and texts are those of an operator's records.
 
-use bike_commands::{
-    Ident, Language, Name, NameKind, OrderEnd, Plan, Position, Region, Segment, Settings, Station,
-    System, VehicleType,
-};
 use bike_ledger::Entry;
-use bike_operator::{BikeState, Cents, Moment, NewPlace};
+use bike_operator::{
+    BikeState, Cents, Ident, Language, Moment, Name, NameKind, NewPlace, OrderEnd, Plan, Position,
+    Region, Segment, Settings, Station, System, VehicleType,
+};
 
 /// One row that is added, under a key that is free, columns that are set in the row of a key, or a row that is removed. Money is in
 /// hundredths, moments in seconds.

@@ -13,7 +13,7 @@ mod view;
 
 pub use bike_commands::{
     DockCount, Ident, Language, Name, NameKind, OrderEnd, Plan, Position, Refusal, Region, Reply,
-    Settings, Station, System, VehicleType,
+    Segment, Settings, Station, System, VehicleType,
 };
 pub use bike_ledger::{Cents, Entry, Moment};
 pub use bounds::is_bounded;

@@ -1,3 +1,19 @@
 pub mod Accepted
 pub mod Numbers
 pub mod Laws
+pub use Rattle.bike_operator.specs.Operator
+pub use Rattle.bike_operator.specs.Counts
+pub use Rattle.bike_operator.specs.View
+pub use Rattle.bike_operator.specs.Steps
+pub use Rattle.bike_operator.specs.Changes
+pub use Rattle.bike_operator.specs.Sound
+pub use Rattle.bike_operator.specs.Rows
+pub use Rattle.bike_operator.specs.Command
+pub use Rattle.bike_operator.specs.Refusal
+pub use Rattle.bike_operator.specs.Reply
+pub use Rattle.bike_operator.specs.Entries
+pub use Rattle.bike_operator.specs.Ledger
+pub use Rattle.bike_operator.specs.declared.records.Bike
+pub use Rattle.bike_operator.specs.declared.records.BikeState
+pub use Rattle.bike_operator.specs.declared.records.Place
+pub use Rattle.bike_operator.specs.declared.view.View as ViewType

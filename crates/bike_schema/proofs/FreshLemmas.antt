@@ -18,7 +18,7 @@ use Rattle.bike_rows.proofs.ListLemmas.{no_list}
 use Rattle.bike_rows.proofs.IndexLaw.{IsOnlyIndex, index_made}
 use Rattle.bike_rows.proofs.CallLaws.{Does}
 use Rattle.bike_rows.proofs.WriteLaws.{Inserts, row_put}
-use Rattle.bike_operator.specs.Operator.{no_operator}
+use Rattle.bike_book.specs.Operator.{no_operator}
 use Rattle.bike_book.specs.Tables.{TableName, Tables, keys_of, rows_in, tables_by, with_rows, Meta, System, Plans, Segments, Types, Regions, Stations, Docks, Bikes, Trucks, Riders, Rentals, Orders, Entries, Kept, Counts, MoreNames}
 use Rattle.bike_book.specs.Rows.{meta_row}
 use Rattle.bike_book.specs.Stored.{none_listed, tables_for, stored_plan, plans_segments, stored_type, stored_region, stored_station, stored_dock, stored_bike, stored_truck, stored_rider, stored_kept, stored_count, stored_name}

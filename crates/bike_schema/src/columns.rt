@@ -8,9 +8,9 @@ ghost use Rattle.bike_schema.specs.Columns.{number_of, moment_of, flag_of, state
 ghost use Rattle.bike_schema.specs.Columns.{whole_in, number_in, moment_in, flag_in, state_in, text_in, ident_in, name_in, language_in};
 
 use crate::fault::StatementFault;
+use bike_book::BikeState;
 use bike_fields::{Ident, Language, Name};
 use bike_fixed::{Cents, Moment, Within};
-use bike_operator::BikeState;
 use sqlite::Row;
 use sqlite::types::ValueRef;
 use std::alloc::Global;

@@ -5,12 +5,12 @@ use Rattle.std.specs.FinMap as map
 use Rattle.bike_operator.specs.Operator.{Operator, Station}
 use Rattle.bike_book.specs.Stored.{Listed}
 use Rattle.bike_accepted.specs.declared.moved.DockAt.{DockAt}
-use Rattle.bike_booking.specs.declared.stored.StoredCounts.{StoredCounts}
-use Rattle.bike_booking.specs.declared.stored.StoredDock.{StoredDock}
-use Rattle.bike_booking.specs.Stored.{counts_in, AreCountsStored, IsDockStored}
-use Rattle.bike_fleet_reads.specs.declared.counts.TypeCounts.{TypeCounts}
-use Rattle.bike_fleet_reads.specs.declared.stations.DockNumbers.{DockNumbers}
-use Rattle.bike_fleet_reads.specs.Fleet as fleet
+use Rattle.bike_views.specs.StoredCounts.{StoredCounts}
+use Rattle.bike_views.specs.StoredDock.{StoredDock}
+use Rattle.bike_views.specs.Stored.{counts_in, AreCountsStored, IsDockStored}
+use Rattle.bike_views.specs.TypeCounts.{TypeCounts}
+use Rattle.bike_views.specs.DockNumbers.{DockNumbers}
+use Rattle.bike_views.specs.Fleet as fleet
 use Rattle.bike_stored.specs.Parts.{counts_read, dock_read}
 
 pub dock_stored : (s : Operator) (m : Listed) (station : List ℕ) (numbers : Option DockNumbers) (listed : Bool) {d : StoredDock} → numbers ≡ fleet.dock_numbers_at s station → d ≡ dock_read numbers listed → IsDockStored s m station d

@@ -1,9 +1,9 @@
 -- What is stored of a dock, from what was read.
 use Rattle.std.specs.Prelude.{Bool, Option, Some, None}
-use Rattle.bike_booking.specs.declared.stored.StoredCounts.{StoredCounts}
-use Rattle.bike_booking.specs.declared.stored.StoredDock.{StoredDock}
-use Rattle.bike_fleet_reads.specs.declared.counts.TypeCounts.{TypeCounts}
-use Rattle.bike_fleet_reads.specs.declared.stations.DockNumbers.{DockNumbers}
+use Rattle.bike_views.specs.StoredCounts.{StoredCounts}
+use Rattle.bike_views.specs.StoredDock.{StoredDock}
+use Rattle.bike_views.specs.TypeCounts.{TypeCounts}
+use Rattle.bike_views.specs.DockNumbers.{DockNumbers}
 
 -- the numbers of a station's docks as they were read, 0 where it has none
 abbrev pub dock_read : Option DockNumbers → Bool → StoredDock

@@ -3,22 +3,23 @@
 ghost use Rattle.std.specs.Prelude.{◌≡◌, Bool, IfOk, IfSome, IsTrue, Option, is_some, option_map};
 ghost use Rattle.bike_operator.specs.Operator.{Operator};
 ghost use Rattle.bike_book.specs.Stored.{Listed};
-ghost use Rattle.bike_fleet_reads.specs.declared.stations.DockNumbers.{DockNumbers};
+ghost use Rattle.bike_views.specs.DockNumbers.{DockNumbers};
 ghost use Rattle.bike_schema.specs.Answers.{Answers};
-ghost use Rattle.bike_booking.specs.Stored.{AreCountsStored, AreHeldStored, IsDockStored, IsListedAt, IsMovedStored};
+ghost use Rattle.bike_views.specs.Stored.{AreCountsStored, AreHeldStored, IsDockStored, IsListedAt, IsMovedStored};
 ghost use Rattle.bike_views.specs.Open.{AnswersOpen};
 ghost use Rattle.bike_stored.specs.Parts.{counts_read, dock_read};
 ghost use Rattle.bike_views.specs.Sight.{IsDockRead, IsSideRead, IsSight};
 
 use bike_accepted::{DockAt, Held, Moved};
-use bike_booking::{Stored, StoredCounts, StoredDock, Sums, Total};
 use bike_commands::Command;
 use bike_fields::Ident;
-use bike_fleet_reads::{DockNumbers, TypeCounts, find_counts, find_dock_numbers, find_mark};
 use bike_operator::Order;
 use bike_schema::StatementFault;
 use bike_texts::{OrderEnd, Side};
-use bike_views::{Sight, end_at};
+use bike_views::{
+    DockNumbers, Sight, Stored, StoredCounts, StoredDock, Sums, Total, TypeCounts, end_at,
+    find_counts, find_dock_numbers, find_mark,
+};
 use sqlite::{Alter, Connection};
 
 /// A stored number. `StoreFailed` where it is above the most docks of a station: then it is nobody's.

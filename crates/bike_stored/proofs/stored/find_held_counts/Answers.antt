@@ -1,5 +1,5 @@
 use Rattle.std.proofs.Common.{None, sym, subst}
-use Rattle.bike_booking.specs.Stored.{AreHeldStored}
+use Rattle.bike_views.specs.Stored.{AreHeldStored}
 use Rattle.bike_schema.proofs.AnswerLemmas.{reads_weaker}
 use Rattle.bike_views.proofs.OpenLaws.{open_none, open_of}
 use Rattle.bike_stored.proofs.stored.find_held_counts.Goals as goal

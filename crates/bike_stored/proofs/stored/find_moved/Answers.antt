@@ -1,5 +1,5 @@
 use Rattle.std.proofs.Common.{rules, None, sym, subst}
-use Rattle.bike_booking.specs.Stored.{IsMovedStored}
+use Rattle.bike_views.specs.Stored.{IsMovedStored}
 use Rattle.bike_views.proofs.OpenLaws.{open_as, open_failed, open_none, open_of, open_then}
 use Rattle.bike_stored.proofs.stored.find_moved.Goals as goal
 
