@@ -1,7 +1,7 @@
 //! Where a station stands.
 
 ghost use Rattle.std.specs.Prelude.{◌≡◌};
-ghost use Rattle.bike_attributes.specs.Values.{IsPosition, position_of_fields, position_within};
+ghost use Rattle.bike_attributes.specs.Values.{IsLatitude, position_of_fields, position_within};
 
 use crate::limits::GREATEST_LATITUDE;
 use bike_fields::Micro;
@@ -35,16 +35,10 @@ impl Position {
         Some(Position { lat, lon })
     }
 
-    /// Tells the bounds of a position to a proof.
-    pub fn bounds(&self)
-        ensures { IsPosition self.now }
-    {
-        let _lon = self.lon.microdegrees();
-    }
-
     /// The latitude, within 90 degrees.
     pub fn lat(&self) -> Micro
-        ensures { result ≡ self.now.lat }
+        ensures value { result ≡ self.now.lat }
+        ensures bounds { IsLatitude result }
     {
         self.lat
     }

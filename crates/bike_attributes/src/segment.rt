@@ -136,9 +136,10 @@ impl Segment {
         let _opened = self.start;
     }
 
-    /// The first minute that is charged.
+    /// The first minute that is charged, and the segment's bounds.
     pub fn start(&self) -> u32
-        ensures { result ≡ self.now.start }
+        ensures value { result ≡ self.now.start }
+        ensures bounds { IsSegment self.now }
     {
         self.start.get()
     }

@@ -2,7 +2,6 @@
 use Rattle.std.specs.Prelude.{◌≡◌, ℕ, List, Ok, None, IfSome}
 use Rattle.std.specs.FinMap as fin
 use Rattle.bike_fields.specs.Caller.{caller_text}
-use Rattle.bike_ledger.specs.Ledger.{cash_of, revenue_of, IsBalance}
 use Rattle.bike_commands.specs.declared.request.Request.{Request}
 use Rattle.bike_commands.specs.Commands.{text_of}
 use Rattle.bike_commands.specs.Replies.{reply_text}
@@ -18,6 +17,7 @@ use Rattle.bike_accepted.specs.declared.accepted.Accepted.{Accepted}
 use Rattle.bike_accepted.specs.Effects.{Decides}
 use Rattle.bike_accepted.specs.Found.{AreFound}
 use Rattle.bike_booking.specs.Stored.{IsStored}
+use Rattle.bike_booking.specs.Sums.{AreBounded, sums_of}
 use Rattle.bike_booking.specs.Writes.{writes_of_accepted}
 use Rattle.bike_booking.specs.declared.stored.Stored.{Stored}
 use Rattle.bike_booking.specs.declared.texts.KeptTexts.{KeptTexts}
@@ -60,4 +60,4 @@ MayBeWritten =
 abbrev pub SumsTakeOneMore : Type 0
 SumsTakeOneMore =
     (s : Operator) (now : ℕ) (q : Request) (a : Accepted) → IsSound s → Decides s now q.command (Ok a) → IsSound (after_acceptance s now q)
-    → IfSome a.entry (λ _. IsBalance (cash_of s.entries) × IsBalance (revenue_of s.entries))
+    → IfSome a.entry (λ _. AreBounded (sums_of s))

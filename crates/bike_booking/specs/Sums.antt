@@ -1,12 +1,16 @@
 -- The operator's sums, and an entry added to them.
 use Rattle.std.specs.Prelude.{◌+ℤ◌, Option, Some, None}
-use Rattle.bike_ledger.specs.Ledger.{cash_in, cash_of, revenue_in, revenue_of}
+use Rattle.bike_ledger.specs.Ledger.{IsBalance, cash_in, cash_of, revenue_in, revenue_of}
 use Rattle.bike_operator.specs.Operator.{Operator}
 use Rattle.bike_accepted.specs.declared.accepted.Booked.{Booked}
 use Rattle.bike_booking.specs.declared.stored.Sums.{Sums}
 
 abbrev pub sums_of : Operator → Sums
 sums_of s = record { cash = cash_of s.entries; revenue = revenue_of s.entries }
+
+-- one more entry can be added to both
+abbrev pub AreBounded : Sums → Type 0
+AreBounded sums = IsBalance sums.cash × IsBalance sums.revenue
 
 -- with the entry, where there is one
 abbrev pub sums_after : Sums → Option Booked → Sums

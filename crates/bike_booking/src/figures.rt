@@ -1,8 +1,8 @@
 //! The operator's figures, which a request needs beside what its command names.
 
-ghost use Rattle.std.specs.Prelude.{◌≡◌, IfSome, IsSome};
-ghost use Rattle.bike_ledger.specs.Ledger.{IsBalance};
+ghost use Rattle.std.specs.Prelude.{◌≡◌, IfSome};
 ghost use Rattle.bike_booking.specs.Figures.{entries_after, figures_after, orders_after, rentals_after};
+ghost use Rattle.bike_booking.specs.Sums.{AreBounded};
 
 use crate::stored::Sums;
 use bike_accepted::{Accepted, Booked, Change};
@@ -54,23 +54,17 @@ fn entries_after(entries: u32, entry: &Option<Booked>) -> u32
 }
 
 impl Figures {
-    /// The figures with an accepted command. None where its entry can't be added to the sums: then they are no sound
-    /// operator's.
-    pub fn after(&self, now: Moment, accepted: &Accepted<'_>) -> Option<Figures>
-        ensures figures { IfSome result (λ figures. figures ≡ figures_after self.entry.now now accepted.now) }
-        ensures some { IfSome accepted.now.entry
-            (λ _. IsBalance self.entry.now.sums.cash × IsBalance self.entry.now.sums.revenue)
-            → IsSome result }
+    /// The figures with an accepted command. Sums to which its entry can't be added stay as they are.
+    pub fn after(&self, now: Moment, accepted: &Accepted<'_>) -> Figures
+        ensures { IfSome accepted.now.entry (λ _. AreBounded self.entry.now.sums)
+            → result ≡ figures_after self.entry.now now accepted.now }
     {
-        let Some(sums) = self.sums.with(&accepted.entry) else {
-            return None;
-        };
-        Some(Figures {
+        Figures {
             now,
-            sums,
+            sums: self.sums.with(&accepted.entry),
             rentals: rentals_after(self.rentals, &accepted.change),
             orders: orders_after(self.orders, &accepted.change),
             entries: entries_after(self.entries, &accepted.entry),
-        })
+        }
     }
 }

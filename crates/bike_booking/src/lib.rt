@@ -13,5 +13,5 @@ mod texts;
 pub use figures::Figures;
 pub use laws::books_accepted;
 pub use rows::{MOST_ROW_CHANGES, Rows, rows_of};
-pub use stored::{Stored, StoredCounts, StoredDock, Sums, Total};
+pub use stored::{Stored, StoredCounts, StoredDock, Sums};
 pub use texts::KeptTexts;

@@ -234,7 +234,6 @@ fn push_change<'a>(rows: &mut Rows<'a>, change: &Change<'a>, now: Moment)
 {
     add(rows, &[change_row(change, now)]);
     if let Change::AddPlan(plan) = change {
-        plan.bounds();
         push_segments(rows, plan.plan_id(), plan.segments());
     }
 }

@@ -1,24 +1,20 @@
 //! What the tables store of what an accepted command touches.
 
-ghost use Rattle.std.specs.Prelude.{◌≡◌, ◌↔◌, IsTrue, IfSome, IsSome};
-ghost use Rattle.bike_ledger.specs.Ledger.{IsBalance};
-ghost use Rattle.bike_booking.specs.Sums.{sums_after};
+ghost use Rattle.std.specs.Prelude.{◌≡◌, ◌↔◌, IfSome, IsTrue};
+ghost use Rattle.bike_booking.specs.Sums.{AreBounded, sums_after};
 
 use bike_accepted::Booked;
-use bike_fields::MOST_DOCKS;
-use bike_fixed::{Cents, Within};
-use bike_ledger::{GREATEST_BALANCE, cash_after, revenue_after};
-
-/// How many docks of a station, or bicycles in its docks.
-pub type Total = Within<0, MOST_DOCKS>;
+use bike_fields::DockTotal;
+use bike_fixed::Cents;
+use bike_ledger::{cash_after, is_balance, revenue_after};
 
 /// What is stored of a dock and its station.
 #[derive(Clone, Copy)]
 pub struct StoredDock {
     /// How many docks of the station are available.
-    pub free: Total,
+    pub free: DockTotal,
     /// How many docks of the station are broken.
-    pub broken: Total,
+    pub broken: DockTotal,
     /// Whether the dock has a row.
     pub is_listed: bool,
 }
@@ -27,9 +23,9 @@ pub struct StoredDock {
 #[derive(Clone, Copy)]
 pub struct StoredCounts {
     /// How many bicycles of the type can be rented there.
-    pub available: Total,
+    pub available: DockTotal,
     /// How many bicycles of the type in its docks can't.
-    pub disabled: Total,
+    pub disabled: DockTotal,
 }
 
 /// The operator's sums over its entries.
@@ -41,31 +37,25 @@ pub struct Sums {
     pub revenue: Cents,
 }
 
-/// Whether one more entry can be added to a sum.
-fn is_balance(sum: Cents) -> bool
-    ensures { IsTrue result ↔ IsBalance sum }
-{
-    let hundredths = sum.hundredths();
-    -GREATEST_BALANCE <= hundredths && hundredths <= GREATEST_BALANCE
-}
-
 impl Sums {
-    /// The sums with the entry of a request, where it has one. None where they are out of bounds for one more entry: then
-    /// they are no sound operator's.
-    pub fn with(self, entry: &Option<Booked>) -> Option<Sums>
-        ensures sums { IfSome result (λ sums. sums ≡ sums_after self entry.now) }
-        ensures some { IfSome entry.now (λ _. IsBalance self.cash × IsBalance self.revenue) → IsSome result }
+    /// Whether one more entry can be added to both.
+    pub(crate) fn are_bounded(&self) -> bool
+        ensures { IsTrue result ↔ AreBounded self.now }
     {
-        let Some(booked) = entry else {
-            return Some(self);
-        };
-        if is_balance(self.cash) && is_balance(self.revenue) {
-            return Some(Sums {
+        is_balance(self.cash) && is_balance(self.revenue)
+    }
+
+    /// The sums with the entry of a request, where it has one. Sums to which none can be added stay as they are.
+    pub(crate) fn with(self, entry: &Option<Booked>) -> Sums
+        ensures { IfSome entry.now (λ _. AreBounded self) → result ≡ sums_after self entry.now }
+    {
+        match entry {
+            Some(booked) if self.are_bounded() => Sums {
                 cash: cash_after(self.cash, &booked.entry),
                 revenue: revenue_after(self.revenue, &booked.entry),
-            });
+            },
+            _ => self,
         }
-        None
     }
 }
 

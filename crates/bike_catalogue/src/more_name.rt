@@ -1,7 +1,7 @@
 //! Names in further languages.
 
 ghost use Rattle.std.specs.Prelude.{◌≡◌};
-ghost use Rattle.bike_catalogue.specs.Rows.{IsMoreName, more_name_of_fields};
+ghost use Rattle.bike_catalogue.specs.Rows.{more_name_of_fields};
 
 use bike_fields::{Language, Name};
 use std::marker::Model;
@@ -27,14 +27,6 @@ impl MoreName {
         ensures { result ≡ more_name_of_fields language name }
     {
         MoreName { language, name }
-    }
-
-    /// Tells the bounds of its fields to a proof.
-    pub fn bounds(&self)
-        ensures { IsMoreName self.now }
-    {
-        let _language = self.language.as_str();
-        let _name = self.name.as_str();
     }
 
     /// The language.

@@ -1,7 +1,8 @@
 //! Pricing plans.
 
-ghost use Rattle.std.specs.Prelude.{◌≡◌, IfOk};
+ghost use Rattle.std.specs.Prelude.{◌≡◌, ◌≤◌, length, IfOk};
 ghost use Rattle.bike_fields.specs.Fault.{Tests};
+ghost use Rattle.bike_attributes.specs.declared.limits.TheConstants.{MOST_SEGMENTS};
 ghost use Rattle.bike_catalogue.specs.RowFaults.{MakesPlan, plan_fault};
 ghost use Rattle.bike_catalogue.specs.Rows.{IsPlan, plan_of_fields, plan_within};
 
@@ -137,16 +138,6 @@ impl Plan {
         None
     }
 
-    /// Tells the bounds of a plan to a proof.
-    pub fn bounds(&self)
-        ensures { IsPlan self.now }
-    {
-        let _plan_id = self.plan_id.as_str();
-        let _name = self.name.as_str();
-        let _price = self.price.get();
-        let _description = self.description.as_str();
-    }
-
     /// The plan's identifier.
     pub fn plan_id(&self) -> &Ident
         ensures { result.now ≡ self.now.plan_id }
@@ -184,7 +175,8 @@ impl Plan {
 
     /// The plan's segments, at most `MOST_SEGMENTS`.
     pub fn segments(&self) -> &[Segment]
-        ensures { result.now ≡ self.now.segments }
+        ensures value { result.now ≡ self.now.segments }
+        ensures bounds { length result.now ≤ MOST_SEGMENTS }
     {
         self.segments.as_slice()
     }

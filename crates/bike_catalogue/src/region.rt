@@ -63,14 +63,6 @@ impl Region {
         Region { region_id, name }
     }
 
-    /// Tells the bounds of a region to a proof.
-    pub fn bounds(&self)
-        ensures { IsRegion self.now }
-    {
-        let _region_id = self.region_id.as_str();
-        let _name = self.name.as_str();
-    }
-
     /// The region's identifier.
     pub fn region_id(&self) -> &Ident
         ensures { result.now ≡ self.now.region_id }

@@ -1,7 +1,7 @@
 //! What of a system may change once it is set.
 
 ghost use Rattle.std.specs.Prelude.{◌≡◌};
-ghost use Rattle.bike_catalogue.specs.Rows.{IsSettings, settings_of_fields};
+ghost use Rattle.bike_catalogue.specs.Rows.{settings_of_fields};
 
 use bike_fields::{Ascii, Name, TimeToLive};
 use std::marker::Model;
@@ -53,18 +53,6 @@ impl Settings {
             base_url,
             ttl,
         }
-    }
-
-    /// Tells the bounds of settings to a proof.
-    pub fn bounds(&self)
-        ensures { IsSettings self.now }
-    {
-        let _name = self.name.as_str();
-        let _opening_hours = self.opening_hours.as_str();
-        let _feed_contact_email = self.feed_contact_email.as_str();
-        let _timezone = self.timezone.as_str();
-        let _base_url = self.base_url.as_str();
-        let _ttl = self.ttl.get();
     }
 
     /// The system's name.

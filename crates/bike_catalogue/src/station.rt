@@ -2,6 +2,7 @@
 
 ghost use Rattle.std.specs.Prelude.{◌≡◌, IfOk};
 ghost use Rattle.bike_fields.specs.Fault.{Tests};
+ghost use Rattle.bike_attributes.specs.Values.{IsLatitude};
 ghost use Rattle.bike_catalogue.specs.RowFaults.{MakesStation, station_fault};
 ghost use Rattle.bike_catalogue.specs.Rows.{IsStation, station_of_fields, station_within};
 
@@ -147,7 +148,8 @@ impl Station {
 
     /// The latitude, within 90 degrees.
     pub fn lat(&self) -> Micro
-        ensures { result ≡ self.now.lat }
+        ensures value { result ≡ self.now.lat }
+        ensures bounds { IsLatitude result }
     {
         self.lat
     }

@@ -3,7 +3,7 @@
 ghost use Rattle.std.specs.Prelude.{◌≡◌, true, IfOk};
 ghost use Rattle.bike_fields.specs.Bytes.{is_ident, is_name, is_ascii_field, is_language, is_currency};
 ghost use Rattle.bike_catalogue.specs.RowFaults.{MakesSystem};
-ghost use Rattle.bike_catalogue.specs.Rows.{IsSystem, system_of_fields};
+ghost use Rattle.bike_catalogue.specs.Rows.{system_of_fields};
 
 use bike_attributes::in_range;
 use bike_fields::{Ascii, Currency, Field, FieldFault, Ident, Language, Name, TimeToLive};
@@ -150,21 +150,6 @@ impl System {
             base_url,
             ttl,
         }
-    }
-
-    /// Tells the bounds of a system to a proof.
-    pub fn bounds(&self)
-        ensures { IsSystem self.now }
-    {
-        let _system_id = self.system_id.as_str();
-        let _language = self.language.as_str();
-        let _name = self.name.as_str();
-        let _opening_hours = self.opening_hours.as_str();
-        let _feed_contact_email = self.feed_contact_email.as_str();
-        let _timezone = self.timezone.as_str();
-        let _currency = self.currency.as_str();
-        let _base_url = self.base_url.as_str();
-        let _ttl = self.ttl.get();
     }
 
     /// The system's identifier.

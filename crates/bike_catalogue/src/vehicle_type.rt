@@ -4,7 +4,7 @@ ghost use Rattle.std.specs.Prelude.{◌≡◌, IfOk};
 ghost use Rattle.bike_fields.specs.Fault.{Tests, at_field};
 ghost use Rattle.bike_attributes.specs.Faults.{value_or_fault};
 ghost use Rattle.bike_catalogue.specs.RowFaults.{MakesType, type_fault, max_range_fault};
-ghost use Rattle.bike_attributes.specs.Values.{is_range};
+ghost use Rattle.bike_attributes.specs.Values.{IsRange, is_range};
 ghost use Rattle.bike_catalogue.specs.Rows.{IsType, type_of_fields, type_within};
 
 use bike_attributes::{Form, Propulsion, in_range};
@@ -156,15 +156,6 @@ impl VehicleType {
         })
     }
 
-    /// Tells the bounds of a vehicle type to a proof.
-    pub fn bounds(&self)
-        ensures { IsType self.now }
-    {
-        let _type_id = self.type_id.as_str();
-        let _name = self.name.as_str();
-        let _plan_id = self.plan_id.as_str();
-    }
-
     /// The type's identifier.
     pub fn type_id(&self) -> &Ident
         ensures { result.now ≡ self.now.type_id }
@@ -195,7 +186,8 @@ impl VehicleType {
 
     /// The greatest range of its vehicles in metres, 0 with human propulsion.
     pub fn max_range(&self) -> MaxRange
-        ensures { result ≡ self.now.max_range }
+        ensures value { result ≡ self.now.max_range }
+        ensures bounds { IsRange self.now.propulsion result }
     {
         self.max_range
     }

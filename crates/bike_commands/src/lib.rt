@@ -4,7 +4,6 @@
 //! a reply has one, and is read exactly where a text spells it.
 #![tactic(auto)]
 
-mod bounds;
 mod command;
 mod refusal;
 mod reply;

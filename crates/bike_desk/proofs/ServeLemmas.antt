@@ -36,8 +36,8 @@ use Rattle.bike_booking.specs.declared.texts.KeptTexts.{KeptTexts}
 use Rattle.bike_booking.specs.Stored.{IsMovedStored}
 use Rattle.bike_booking.specs.declared.figures.Figures.{Figures}
 use Rattle.bike_booking.specs.Figures.{figures_of, figures_after, FiguresFollow}
-use Rattle.bike_booking.specs.Sums.{sums_after}
-use Rattle.bike_booking.specs.Booking.{IsAccepted, AreTexts, Books}
+use Rattle.bike_booking.specs.Sums.{AreBounded, sums_after}
+use Rattle.bike_booking.specs.Booking.{IsAccepted, AreTexts, Books, SumsTakeOneMore}
 use Rattle.bike_desk.specs.Serving.{IsNextBy, IsReadFor, Accepts}
 
 module _ (s : Operator) (t : ℕ) (q : Request) where
@@ -91,6 +91,14 @@ accepts_stored s m now q a sums texts n sound listing it moved is = record {
   texts_are = it.texts_are;
   sound_after = it.sound_after;
 }
+
+-- the sums that were read take the entry of an accepted request
+pub later_read : (db : Database) (s : Operator) (t now : ℕ) (q : Request) (figures : Figures) (x : Sight) (a : Accepted) {later : Figures}
+    → SumsTakeOneMore → IsSound s → IsReadFor db s t now q figures x → IsRequest q → Decides s now q.command (Ok a)
+    → (IfSome a.entry (λ _. AreBounded figures.sums) → later ≡ figures_after figures now a) → later ≡ figures_after figures now a
+later_read db s t now q figures x a take sound it good decides after =
+    let sound_after = accepted_sound s t q now it.later it.anew it.in_time good sound decides.0 in
+    after (subst (λ (f : Figures). IfSome a.entry (λ _. AreBounded f.sums)) (sym it.figures_are) (take s now q a sound decides sound_after))
 
 -- the operator accepts a request by the decision on what was read for it
 pub accepts_read : (db : Database) (s : Operator) (t now : ℕ) (q : Request) (figures : Figures) (x : Sight) (a : Accepted) (later : Figures) (texts : KeptTexts) → IsSound s → IsReadFor db s t now q figures x → IsRequest q

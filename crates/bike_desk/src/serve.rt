@@ -6,7 +6,7 @@ ghost use Rattle.std.specs.FinMap as map;
 ghost use Rattle.sqlite.specs.State.{HasCleanDisk};
 ghost use Rattle.sqlite.specs.Held.{state};
 ghost use Rattle.sqlite_trees.specs.View.{doubt};
-ghost use Rattle.bike_commands.specs.Commands.{text_of};
+ghost use Rattle.bike_commands.specs.Commands.{IsCommand, text_of};
 ghost use Rattle.bike_commands.specs.declared.request.Request.{Request};
 ghost use Rattle.bike_operator.specs.Operator.{Operator};
 ghost use Rattle.bike_operator.specs.Runs.{step, after_acceptance, key_in};
@@ -113,7 +113,6 @@ fn serve_read<'a, S: Alter>(
 {
     let request = asked.request;
     let view = &sight.view;
-    request.bounds();
     // Every view of a sound operator is bounded: else what is stored is nobody's.
     if !is_bounded(view, now) {
         return Err(StatementFault::StoreFailed);
@@ -125,10 +124,7 @@ fn serve_read<'a, S: Alter>(
         }),
         Ok(accepted) => {
             books_accepted();
-            // A sound operator's sums take the entry: else what is stored is nobody's.
-            let Some(after) = figures.after(now, &accepted) else {
-                return Err(StatementFault::StoreFailed);
-            };
+            let after = figures.after(now, &accepted);
             let reply = accepted.reply;
             let spelled = reply.text();
             let key = request.key.as_str();
@@ -191,7 +187,8 @@ fn serve_anew<'a, S: Alter>(
     serve_read(conn, &figures, &sight, now, asked)
 }
 
-/// Serves one request, of whose command `text` is the text, by what is remembered of the operator.
+/// Serves one request, of whose command `text` is the text, by what is remembered of the operator. The command keeps its
+/// bounds, as its text tells.
 pub(crate) fn serve<S: Alter>(
     alloc: Global,
     conn: &mut Connection<S>,
@@ -202,6 +199,7 @@ pub(crate) fn serve<S: Alter>(
 ) -> Result<Served, StatementFault>
     requires outside { conn.old.in_transaction ≡ false }
     requires text { text.now ≡ text_of request.now.command }
+    requires good { IsCommand request.now.command }
     ensures ended { conn.new.in_transaction ≡ false }
     ensures clean { doubt (state S.Store conn.old).is_clean ≤ doubt (state S.Store conn.new).is_clean }
     ensures ok { HasCleanDisk (state S.Store conn.new) → (s : Operator) → Keeps (state S.Store conn.old) s

@@ -75,7 +75,6 @@ pub fn fare_by_minutes(plan: &Plan, start: Moment, end: Moment) -> Cents
     ensures low { pos 0 ≤ℤ result }
     ensures high { result ≤ℤ greatest_fare }
 {
-    plan.bounds();
     let seconds = elapsed_seconds(&start, &end);
     let mut cost = i64::from(plan.price().get());
     for minute in 0..MINUTES {

@@ -42,7 +42,6 @@ fn segment_total(segment: &Segment, minutes: u32) -> i64
     ensures low { neg_ℤ (pos most_of_segment) ≤ℤ result }
     ensures high { result ≤ℤ pos most_of_segment }
 {
-    segment.bounds();
     let minutes = minutes_before(segment.end(), minutes);
     let count = count_below(segment.start(), segment.interval(), minutes);
     i64::from(segment.rate()) * i64::from(count)
@@ -74,7 +73,6 @@ pub fn fare(plan: &Plan, start: Moment, end: Moment) -> Cents
     ensures low { pos 0 ≤ℤ result }
     ensures high { result ≤ℤ greatest_fare }
 {
-    plan.bounds();
     let minutes = elapsed_seconds(&start, &end) / 60 + 1;
     let cost = i64::from(plan.price().get()) + segments_total(plan.segments(), minutes);
     Cents::new(cost.max(0))

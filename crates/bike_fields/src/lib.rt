@@ -18,10 +18,10 @@ pub use bike_fixed::{
 pub use caller::{Caller, CallerName, caller_laws};
 pub use fault::{Bound, Field, FieldFault};
 pub use numbers::{
-    BicycleNumber, DockCount, DockNumber, GREATEST_NUMBER, GREATEST_PAYMENT, GREATEST_PRICE,
-    GREATEST_RANGE, GREATEST_SERIAL, LAST_MINUTE, LONGEST_TIME_TO_LIVE, MOST_CARRIED, MOST_DOCKS,
-    MaxRange, OrderNumber, OrderQuantity, Payment, Price, RentalNumber, RiderNumber, SegmentMinute,
-    TimeToLive, TruckCapacity, TruckNumber, kind,
+    BicycleNumber, DockCount, DockNumber, DockTotal, GREATEST_NUMBER, GREATEST_PAYMENT,
+    GREATEST_PRICE, GREATEST_RANGE, GREATEST_SERIAL, LAST_MINUTE, LONGEST_TIME_TO_LIVE,
+    MOST_CARRIED, MOST_DOCKS, MaxRange, OrderNumber, OrderQuantity, Payment, Price, RentalNumber,
+    RiderNumber, SegmentMinute, TimeToLive, TruckCapacity, TruckNumber, kind,
 };
 pub use text::{Ascii, Currency, Ident, Language, Name, RequestKey, Text};
 pub use text_kind::TextKind;

@@ -55,6 +55,9 @@ pub type DockNumber = Within<1, MOST_DOCKS, kind::Dock>;
 /// How many docks a station has, at least 1.
 pub type DockCount = Within<1, MOST_DOCKS>;
 
+/// How many docks of a station are in some state, or how many bicycles stand in its docks.
+pub type DockTotal = Within<0, MOST_DOCKS>;
+
 /// The most bicycles that a truck holds or an order moves.
 pub const MOST_CARRIED: u32 = 60;
 

@@ -116,10 +116,11 @@ impl Micro {
         self.microdegrees
     }
 
-    /// The coordinate in degrees with exactly six decimals, as `-0.000001`; zero has no sign.
+    /// The coordinate in degrees with exactly six decimals, as `-0.000001`, zero without a sign; and its bounds.
     #[tactic(auto, using(crate::proofs::Rooms::length_decimal_4))]
     pub fn text(&self) -> ArrayString<12>
-        ensures { result.bytes ≡ micro_text self.now }
+        ensures text { result.bytes ≡ micro_text self.now }
+        ensures bounds { IsMicro self.now }
     {
         let mut out = ArrayString::new();
         push_sign(&mut out, i64::from(self.microdegrees));

@@ -6,6 +6,7 @@ ghost use Rattle.sqlite_sql.specs.Aggregate.{count};
 ghost use Rattle.bike_book.specs.Rows.{number_value};
 ghost use Rattle.bike_book.specs.Found.{IsLast};
 
+use bike_fields::DockTotal;
 use bike_fixed::Within;
 use bike_schema::{StatementFault, number_at};
 use sqlite::Row;
@@ -16,6 +17,23 @@ pub(crate) fn whole_at(row: &Row, at: usize) -> Result<u32, StatementFault>
 {
     let number: Within<0, 4_294_967_295> = number_at(row, at)?;
     Ok(number.get())
+}
+
+/// The column as a number of docks, or of bicycles in docks: at most as many as a station has docks.
+pub fn dock_total_at(row: &Row, at: usize) -> Result<DockTotal, StatementFault>
+    ensures { IfOk result (λ n. column row.now at ≡ number_value n) }
+{
+    number_at(row, at)
+}
+
+/// No dock, or no bicycle.
+pub(crate) fn no_docks() -> DockTotal
+    ensures { result ≡ 0 }
+{
+    match DockTotal::new(0) {
+        Some(none) => none,
+        None => unreachable!(),
+    }
 }
 
 /// The number with which the last row begins, 0 where there is none.

@@ -5,12 +5,12 @@ ghost use Rattle.sqlite.specs.declared.types.Value.TheVariants.{Text};
 ghost use Rattle.bike_book.specs.Tables.{Counts};
 ghost use Rattle.bike_book.specs.Found.{row_under};
 ghost use Rattle.bike_schema.specs.Answers.{Answers};
-ghost use Rattle.bike_fleet_reads.specs.Fleet.{AreCounts};
+ghost use Rattle.bike_fleet_reads.specs.Fleet.{AreCounts, no_counts};
 ghost use Rattle.bike_fleet_reads.specs.Holds.{HoldsAny, HoldsCounts};
 
-use crate::columns::whole_at;
+use crate::columns::{dock_total_at, no_docks};
 use bike_book::columns::counts;
-use bike_fields::Ident;
+use bike_fields::{DockTotal, Ident};
 use bike_rows::lookup::first_row;
 use bike_schema::StatementFault;
 use sqlite::{Alter, Connection, Row, params};
@@ -19,9 +19,21 @@ use sqlite::{Alter, Connection, Row, params};
 #[derive(Clone, Copy, Debug, PartialEq, Eq)]
 pub struct TypeCounts {
     /// How many can be rented.
-    pub available: u32,
+    pub available: DockTotal,
     /// How many can't.
-    pub disabled: u32,
+    pub disabled: DockTotal,
+}
+
+impl TypeCounts {
+    /// No bicycle of the type stands at the station.
+    pub fn none() -> TypeCounts
+        ensures { result ≡ no_counts }
+    {
+        TypeCounts {
+            available: no_docks(),
+            disabled: no_docks(),
+        }
+    }
 }
 
 /// The row of a type's counts at a station.
@@ -46,8 +58,8 @@ fn counts_of(row: &Option<Row>) -> Result<Option<TypeCounts>, StatementFault>
 {
     match row {
         Some(row) => {
-            let available = whole_at(row, counts::AVAILABLE)?;
-            let disabled = whole_at(row, counts::DISABLED)?;
+            let available = dock_total_at(row, counts::AVAILABLE)?;
+            let disabled = dock_total_at(row, counts::DISABLED)?;
             Ok(Some(TypeCounts {
                 available,
                 disabled,

@@ -18,6 +18,7 @@ mod trucks;
 mod types;
 
 pub use bikes::{NumberedBike, are_bikes_full, find_bike, find_docked, truck_load};
+pub use columns::dock_total_at;
 pub use counts::{TypeCounts, find_counts};
 pub use docks::find_mark;
 pub use orders::{find_order, order_count, order_load};

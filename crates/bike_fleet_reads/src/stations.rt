@@ -12,9 +12,9 @@ ghost use Rattle.bike_schema.specs.Answers.{Answers};
 ghost use Rattle.bike_fleet_reads.specs.Fleet.{dock_numbers_at, station_row_at};
 ghost use Rattle.bike_fleet_reads.specs.Holds.{HoldsAny, HoldsStation, HoldsDockNumbers};
 
-use crate::columns::{is_full, whole_at};
+use crate::columns::{dock_total_at, is_full, no_docks};
 use bike_book::columns::stations;
-use bike_fields::Ident;
+use bike_fields::{DockTotal, Ident};
 use bike_operator::{MOST_STATIONS, StationView};
 use bike_rows::lookup::first_row;
 use bike_schema::{StatementFault, flag_at, number_at};
@@ -24,9 +24,21 @@ use sqlite::{Alter, Connection, Row, params};
 #[derive(Clone, Copy, Debug, PartialEq, Eq)]
 pub struct DockNumbers {
     /// How many are available: empty and not broken.
-    pub free: u32,
+    pub free: DockTotal,
     /// How many are broken.
-    pub broken: u32,
+    pub broken: DockTotal,
+}
+
+impl DockNumbers {
+    /// No dock is available, and none is broken.
+    pub fn none() -> DockNumbers
+        ensures { (result.free ≡ 0) × (result.broken ≡ 0) }
+    {
+        DockNumbers {
+            free: no_docks(),
+            broken: no_docks(),
+        }
+    }
 }
 
 /// A station as a command sees it, and the numbers of its docks, both of its row; `None` where there is no such station.
@@ -80,8 +92,8 @@ fn dock_numbers_of(row: &Option<Row>) -> Result<Option<DockNumbers>, StatementFa
 {
     match row {
         Some(row) => {
-            let free = whole_at(row, stations::FREE)?;
-            let broken = whole_at(row, stations::BROKEN)?;
+            let free = dock_total_at(row, stations::FREE)?;
+            let broken = dock_total_at(row, stations::BROKEN)?;
             Ok(Some(DockNumbers { free, broken }))
         }
         None => Ok(None),

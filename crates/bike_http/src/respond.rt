@@ -2,10 +2,12 @@
 
 ghost use Rattle.std.specs.Prelude.{◌≡◌, ◌≤◌, IsTrue};
 ghost use Rattle.sqlite_trees.specs.View.{doubt};
+ghost use Rattle.bike_commands.specs.Requests.{IsRequest};
 ghost use Rattle.bike_operator.specs.Sound.{IsCall};
 ghost use Rattle.bike_feeds.specs.Desk.{desk_state, OfOperator, KeepsWhereGoing};
 ghost use Rattle.bike_feeds.specs.Queries.{Queries};
 ghost use Rattle.bike_feeds.specs.Publishing.{IsLength};
+ghost use Rattle.bike_incoming.specs.Asked.{KeepsBounds};
 ghost use Rattle.bike_http.specs.Shown.{shown_of};
 ghost use Rattle.bike_http.specs.Exchange.{answered, IsGood};
 ghost use Rattle.bike_http.specs.Telling.{Tells, TellsReply, RestsAfter, SendsAnswer, SendsText, Publishes, RespondsTo, refusal_of};
@@ -48,6 +50,7 @@ pub(crate) fn send<W: Write>(writer: &mut W, answer: &Answer) -> Result<u16, Sen
 
 /// Asks the desk to act.
 fn act<S: Alter>(alloc: Global, desk: &mut Desk<S>, moment: Moment, request: &Request) -> Answer
+    requires { IsRequest request.now }
     ensures clean { doubt (desk_state S.Store desk.old).is_clean ≤ doubt (desk_state S.Store desk.new).is_clean }
     ensures told { OfOperator S.Store desk.old desk.new (λ s.
         TellsReply S.Store desk.new s moment request.now result) }
@@ -58,7 +61,6 @@ fn act<S: Alter>(alloc: Global, desk: &mut Desk<S>, moment: Moment, request: &Re
     ensures refuses { IsTrue desk.old.is_stopped → result ≡ Answer.Unavailable }
 {
     // What is booked is a good request at a moment of the program.
-    request.bounds();
     moment.bounds();
     match desk.apply(alloc, moment, request) {
         Ok(reply) => Answer::Replied(reply),
@@ -190,6 +192,7 @@ pub(crate) fn respond<S: Alter, W: Write>(
     asked: Asked,
     writer: &mut W,
 ) -> Result<u16, SendFault>
+    requires { KeepsBounds asked }
     ensures clean { doubt (desk_state S.Store desk.old).is_clean ≤ doubt (desk_state S.Store desk.new).is_clean }
     ensures sent { OfOperator S.Store desk.old desk.new (λ s.
         RespondsTo S.Store desk.new s moment asked (W.contents writer.old) (W.contents writer.new) result) }

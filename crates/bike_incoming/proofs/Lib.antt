@@ -3,3 +3,4 @@ pub mod Receiving
 pub mod Spelled
 pub mod Objects
 pub mod Keys
+pub mod Bounds

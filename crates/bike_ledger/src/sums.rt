@@ -1,6 +1,6 @@
 //! What one more entry does to the sums.
 
-ghost use Rattle.std.specs.Prelude.{◌≡◌, ◌≢◌, ◌<◌, ◌++◌, ◌∷◌, [], ◌+ℤ◌, ◌-ℤ◌, ◌≤ℤ◌, pos, length, List, ℕ, ℤ};
+ghost use Rattle.std.specs.Prelude.{◌≡◌, ◌≢◌, ◌<◌, ◌↔◌, ◌++◌, ◌∷◌, [], ◌+ℤ◌, ◌-ℤ◌, ◌≤ℤ◌, pos, length, IsTrue, List, ℕ, ℤ};
 ghost use Rattle.bike_fields.specs.declared.numbers.TheConstants.{GREATEST_SERIAL};
 ghost use Rattle.bike_ledger.specs.Entries.{Entry};
 ghost use Rattle.bike_ledger.specs.Ledger.{total, credit, cash_in, revenue_in, given_back_of, share, balance_of, cash_of, revenue_of, refunded_of, IsAmount, IsBalance, AreAmounts};
@@ -11,6 +11,14 @@ use bike_fields::Cents;
 
 /// What one entry fewer than `GREATEST_SERIAL`, each of `GREATEST_FARE`, come to, in hundredths.
 pub const GREATEST_BALANCE: i64 = 3_456_179_965_438_200_000;
+
+/// Whether one more entry can be added to a balance, to the cash or to the revenue.
+pub fn is_balance(sum: Cents) -> bool
+    ensures { IsTrue result ↔ IsBalance sum }
+{
+    let hundredths = sum.hundredths();
+    -GREATEST_BALANCE <= hundredths && hundredths <= GREATEST_BALANCE
+}
 
 /// The balance of the entry's rider after the entry.
 pub fn balance_after(balance: Cents, entry: &Entry) -> Cents

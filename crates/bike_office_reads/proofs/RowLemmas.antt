@@ -21,7 +21,7 @@ use Rattle.bike_ledger.specs.Entries.{Entry}
 use Rattle.bike_ledger.specs.Ledger.{balance_of, refunded_of}
 use Rattle.bike_operator.specs.declared.records.Rental.{Rental}
 use Rattle.bike_operator.specs.declared.records.Closing.{Closing}
-use Rattle.bike_operator.specs.Operator.{Rider, Kept, item_numbered}
+use Rattle.bike_operator.specs.Operator.{Operator, Rider, Kept, item_numbered}
 use Rattle.bike_operator.specs.View.{rider_view, rider_at}
 use Rattle.bike_operator.specs.declared.view.RiderView.{RiderView}
 use Rattle.bike_book.specs.Tables.{Riders, Rentals}
@@ -48,6 +48,13 @@ rider_found rider s m sound listing = (found_by_key s m sound listing).riders ri
     shown : (o : Option Rider) → option_map (λ (r : Rider). rider_row rider r.is_blocked (balance_of rider s.entries)) o ≡ option_map (λ (v : RiderView). rider_row rider v.is_blocked v.balance) (rider_view s rider o)
     shown None = refl
     shown (Some r) = refl
+
+-- the balance of a rider who was read
+pub balance_read : (s : Operator) (rider : ℕ) (o : Option Rider) {x : Option RiderView} {found : RiderView} → x ≡ rider_view s rider o → x ≡ Some found → found.balance ≡ balance_of rider s.entries
+balance_read s rider None read some = absurd cc
+balance_read s rider (Some r) {found = found} read some =
+    let view : RiderView = record { is_blocked = r.is_blocked; balance = balance_of rider s.entries } in
+    let same : view ≡ found = cc in ap (λ v. v.balance) (sym same)
 
 both_true : (a b : Bool) → T (a && b) → T a × T b
 both_true true true t = (tt, tt)

@@ -27,4 +27,4 @@ pub use plans::{are_plans_full, find_plan, find_plan_row_from, has_plan, has_sys
 pub use rentals::{
     StoredRental, find_open_rental, find_rental, is_riding, open_rental_count, rental_count,
 };
-pub use riders::{are_riders_full, find_rider, has_rider};
+pub use riders::{are_riders_full, find_rider, find_rider_balance, has_rider};

@@ -3,6 +3,7 @@
 ghost use Rattle.std.specs.Prelude.{◌≡◌, ◌≤◌, [], ◌∷◌, Some};
 ghost use Rattle.std.specs.FinMap as map;
 ghost use Rattle.sqlite_sql.specs.Aggregate.{count};
+ghost use Rattle.bike_ledger.specs.Ledger.{balance_of};
 ghost use Rattle.bike_operator.specs.declared.limits.TheConstants.{MOST_RIDERS};
 ghost use Rattle.bike_operator.specs.View.{is_at_limit, rider_at};
 ghost use Rattle.bike_book.specs.Tables.{Riders};
@@ -13,6 +14,7 @@ ghost use Rattle.bike_schema.specs.Answers.{Answers, IsReadOf};
 use crate::numbers::{last_number, reaches};
 use bike_book::columns::riders;
 use bike_fields::RiderNumber;
+use bike_fixed::Cents;
 use bike_operator::{MOST_RIDERS, RiderView};
 use bike_rows::lookup::first_row;
 use bike_schema::{StatementFault, cents_at, flag_at};
@@ -115,5 +117,19 @@ pub fn find_rider<S: Alter>(
     match find_rider_row(conn, rider)? {
         Some(row) => Ok(Some(read_rider(&row)?)),
         None => Ok(None),
+    }
+}
+
+/// The balance of the rider of a rental. `StoreFailed` where there is no rider of this number, as no rental lacks its rider;
+/// every other fault is the database's.
+pub fn find_rider_balance<S: Alter>(
+    conn: &mut Connection<S>,
+    rider: RiderNumber,
+) -> Result<Cents, StatementFault>
+    ensures { Answers S.Store conn.old conn.new result (λ s m balance. balance ≡ balance_of rider s.entries) }
+{
+    match find_rider(conn, rider)? {
+        Some(view) => Ok(view.balance),
+        None => Err(StatementFault::StoreFailed),
     }
 }

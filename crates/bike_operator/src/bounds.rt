@@ -8,15 +8,7 @@ ghost use Rattle.bike_operator.specs.Counts.{is_open};
 use crate::limits::MOST_ENTRIES;
 use crate::records::Closing;
 use crate::view::{RentalView, View};
-use bike_ledger::{Cents, GREATEST_BALANCE, Moment};
-
-/// Whether the balance takes one more entry.
-fn is_balance(balance: Cents) -> bool
-    ensures { IsTrue result ↔ IsBalance balance }
-{
-    let hundredths = balance.hundredths();
-    -GREATEST_BALANCE <= hundredths && hundredths <= GREATEST_BALANCE
-}
+use bike_ledger::{Moment, is_balance};
 
 /// Whether one more rental has a number, where the ledger isn't full.
 fn has_rental_number(view: &View) -> bool

@@ -13,14 +13,13 @@ ghost use Rattle.bike_fleet_reads.specs.Fleet.{type_counts_of};
 ghost use Rattle.bike_fleet_reads.specs.Holds.{HoldsAny, HoldsCounts};
 ghost use Rattle.bike_queries.specs.StationCounts.{Adds, AreCountRows, AreCountsAt, IsTally, counts_with, is_of};
 
-use crate::columns::whole_at;
 use crate::pages::OwnedRow;
 use crate::types::find_type_ids;
 use arrayvec::ArrayString;
 use bike_book::columns::counts;
 use bike_feed_texts::TypeCount;
-use bike_fields::{Ident, LONGEST_IDENT};
-use bike_fleet_reads::{DockNumbers, TypeCounts, find_dock_numbers};
+use bike_fields::{DockTotal, Ident, LONGEST_IDENT};
+use bike_fleet_reads::{DockNumbers, TypeCounts, dock_total_at, find_dock_numbers};
 use bike_office_reads::{ReadRow, collect_rows, short_text_at};
 use bike_schema::StatementFault;
 use sqlite::{Alter, Connection, Error, Row, Rows, params};
@@ -55,8 +54,8 @@ pub(crate) struct Tally {
 pub(crate) struct CountRow {
     station_id: ArrayString<LONGEST_IDENT>,
     type_id: ArrayString<LONGEST_IDENT>,
-    available: u32,
-    disabled: u32,
+    available: DockTotal,
+    disabled: DockTotal,
 }
 
 impl Model for CountRow {
@@ -84,8 +83,8 @@ impl ReadRow for CountRow {
         }
         let station_id = short_text_at(row, counts::STATION_ID)?;
         let type_id = short_text_at(row, counts::TYPE_ID)?;
-        let available = whole_at(row, counts::AVAILABLE)?;
-        let disabled = whole_at(row, counts::DISABLED)?;
+        let available = dock_total_at(row, counts::AVAILABLE)?;
+        let disabled = dock_total_at(row, counts::DISABLED)?;
         Ok(CountRow {
             station_id,
             type_id,
@@ -168,11 +167,7 @@ fn counts_among(rows: &[CountRow], type_id: &Ident) -> Option<TypeCounts>
 fn type_counts(rows: &[CountRow], type_id: &Ident) -> TypeCounts
     ensures { (s : _) (station : _) → AreCountRows s station rows.now → result ≡ type_counts_of s station type_id.now }
 {
-    let none = TypeCounts {
-        available: 0,
-        disabled: 0,
-    };
-    counts_among(rows, type_id).unwrap_or(none)
+    counts_among(rows, type_id).unwrap_or(TypeCounts::none())
 }
 
 impl Tally {
@@ -180,14 +175,14 @@ impl Tally {
     fn add(&mut self, type_id: Ident, counts: TypeCounts) -> Result<(), StatementFault>
         ensures { OnOk result (Adds self.old type_id counts self.new) }
     {
-        let available = self.available.checked_add(counts.available);
-        let disabled = self.disabled.checked_add(counts.disabled);
+        let available = self.available.checked_add(counts.available.get());
+        let disabled = self.disabled.checked_add(counts.disabled.get());
         let (Some(available), Some(disabled)) = (available, disabled) else {
             return Err(StatementFault::StoreFailed);
         };
         let one = TypeCount {
             type_id,
-            count: counts.available,
+            count: counts.available.get(),
         };
         if self.by_type.push(one).is_err() {
             return Err(StatementFault::NoMemory);
@@ -209,8 +204,8 @@ impl Tally {
             available,
             by_type,
             disabled,
-            docks_available: docks.free,
-            docks_disabled: docks.broken,
+            docks_available: docks.free.get(),
+            docks_disabled: docks.broken.get(),
         }
     }
 }

@@ -11,14 +11,14 @@ ghost use Rattle.bike_queries.specs.After.{HoldsStation, begins_from, station_of
 ghost use Rattle.bike_queries.specs.Pages.{AreNamedStations, ArePage, ReadsNamed, ReadsStation, id_of, page_after};
 
 use crate::after::start_of;
-use crate::columns::{micro_at, whole_at};
+use crate::columns::micro_at;
 use crate::pages::{OwnedRow, OwnerReader, last_id, read_page};
 use bike_attributes::NameKind;
 use bike_book::columns::stations;
 use bike_catalogue::{MoreName, Station};
 use bike_fields::Ident;
 use bike_fixed::Moment;
-use bike_fleet_reads::DockNumbers;
+use bike_fleet_reads::{DockNumbers, dock_total_at};
 use bike_office_reads::{NameRow, ReadRow, collect_rows, read_names, select_names};
 use bike_schema::{
     StatementFault, flag_at, ident_at, moment_at, name_at, number_at, optional_ident_at,
@@ -124,8 +124,8 @@ fn read_station(alloc: Global, row: &Row) -> Result<Station, StatementFault>
 fn read_docks(row: &Row) -> Result<DockNumbers, StatementFault>
     ensures { IfOk result (HoldsDockNumbers row.now) }
 {
-    let free = whole_at(row, stations::FREE)?;
-    let broken = whole_at(row, stations::BROKEN)?;
+    let free = dock_total_at(row, stations::FREE)?;
+    let broken = dock_total_at(row, stations::BROKEN)?;
     Ok(DockNumbers { free, broken })
 }
 

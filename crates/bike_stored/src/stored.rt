@@ -17,51 +17,34 @@ use bike_operator::Order;
 use bike_schema::StatementFault;
 use bike_texts::{OrderEnd, Side};
 use bike_views::{
-    DockNumbers, Sight, Stored, StoredCounts, StoredDock, Sums, Total, TypeCounts, end_at,
-    find_counts, find_dock_numbers, find_mark,
+    DockNumbers, Sight, Stored, StoredCounts, StoredDock, Sums, TypeCounts, end_at, find_counts,
+    find_dock_numbers, find_mark,
 };
 use sqlite::{Alter, Connection};
 
-/// A stored number. `StoreFailed` where it is above the most docks of a station: then it is nobody's.
-fn total(number: u32) -> Result<Total, StatementFault>
-    ensures { IfOk result (λ total. total ≡ number) }
+/// The numbers of a station's docks, all 0 where it has none.
+fn stored_dock(numbers: &Option<DockNumbers>, is_listed: bool) -> StoredDock
+    ensures { result ≡ dock_read numbers.now is_listed }
 {
-    match Total::new(number) {
-        Some(total) => Ok(total),
-        None => Err(StatementFault::StoreFailed),
+    let numbers = match numbers {
+        Some(numbers) => *numbers,
+        None => DockNumbers::none(),
+    };
+    StoredDock {
+        free: numbers.free,
+        broken: numbers.broken,
+        is_listed,
     }
 }
 
-/// The numbers of a station's docks, all 0 where it has none.
-fn stored_dock(numbers: &Option<DockNumbers>, is_listed: bool) -> Result<StoredDock, StatementFault>
-    ensures { IfOk result (λ dock. dock ≡ dock_read numbers.now is_listed) }
-{
-    let (free, broken) = match numbers {
-        Some(numbers) => (numbers.free, numbers.broken),
-        None => (0, 0),
-    };
-    let free = total(free)?;
-    let broken = total(broken)?;
-    Ok(StoredDock {
-        free,
-        broken,
-        is_listed,
-    })
-}
-
 /// The counts of a type, where they have a row.
-fn stored_counts(counts: &Option<TypeCounts>) -> Result<Option<StoredCounts>, StatementFault>
-    ensures { IfOk result (λ stored. stored ≡ option_map counts_read counts.now) }
+fn stored_counts(counts: Option<TypeCounts>) -> Option<StoredCounts>
+    ensures { result ≡ option_map counts_read counts }
 {
-    let Some(counts) = counts else {
-        return Ok(None);
-    };
-    let available = total(counts.available)?;
-    let disabled = total(counts.disabled)?;
-    Ok(Some(StoredCounts {
-        available,
-        disabled,
-    }))
+    counts.map(|counts| StoredCounts {
+        available: counts.available,
+        disabled: counts.disabled,
+    })
 }
 
 /// Whether this is the dock.
@@ -102,8 +85,8 @@ fn is_read(command: &Command, sight: &Sight, at: &DockAt<'_>) -> bool
 }
 
 /// The numbers of a dock's station, and whether the dock has a row, as both were read with the view.
-fn dock_of_sight(sight: &Sight) -> Result<StoredDock, StatementFault>
-    ensures { IfOk result (λ dock. dock ≡ dock_read sight.now.numbers (is_some sight.now.mark)) }
+fn dock_of_sight(sight: &Sight) -> StoredDock
+    ensures { result ≡ dock_read sight.now.numbers (is_some sight.now.mark) }
 {
     stored_dock(&sight.numbers, sight.mark.is_some())
 }
@@ -116,7 +99,7 @@ fn find_station_docks<S: Alter>(
     ensures { Answers S.Store conn.old conn.new result (λ s m dock. IsDockStored s m station.now dock) }
 {
     let numbers = find_dock_numbers(conn, station)?;
-    stored_dock(&numbers, false)
+    Ok(stored_dock(&numbers, false))
 }
 
 /// The numbers of a dock's station, of the view's read or of one more.
@@ -130,7 +113,7 @@ fn find_dock<S: Alter>(
         (λ s m dock. IsSight s m command.now sight.now → IsDockStored s m at.now.station.now dock) }
 {
     if is_read(command, sight, at) {
-        return dock_of_sight(sight);
+        return Ok(dock_of_sight(sight));
     }
     find_station_docks(conn, at.station)
 }
@@ -146,11 +129,11 @@ fn find_listed_dock<S: Alter>(
         → IsDockStored s m at.now.station.now dock × IsListedAt s m at.now dock) }
 {
     if is_read(command, sight, at) {
-        return dock_of_sight(sight);
+        return Ok(dock_of_sight(sight));
     }
     let numbers = find_dock_numbers(conn, at.station)?;
     let mark = find_mark(conn, at.station, at.dock)?;
-    stored_dock(&numbers, mark.is_some())
+    Ok(stored_dock(&numbers, mark.is_some()))
 }
 
 /// The counts of a type at a dock's station.
@@ -162,7 +145,7 @@ fn find_counts_at<S: Alter>(
     ensures { Answers S.Store conn.old conn.new result (λ s m counts. AreCountsStored s m at.now type_id.now counts) }
 {
     let counts = find_counts(conn, at.station, type_id)?;
-    stored_counts(&counts)
+    Ok(stored_counts(counts))
 }
 
 /// The counts of the type of the bicycle in a dock, where there is one.
@@ -179,25 +162,12 @@ fn find_held_counts<S: Alter>(
     }
 }
 
-/// No docks, and no bicycles.
-fn none() -> Total {
-    match Total::new(0) {
-        Some(none) => none,
-        None => unreachable!(),
-    }
-}
-
 /// What is stored where no dock is touched.
 fn untouched(sums: Sums) -> Stored
     ensures { result.sums ≡ sums }
 {
-    let dock = StoredDock {
-        free: none(),
-        broken: none(),
-        is_listed: false,
-    };
     Stored {
-        dock,
+        dock: stored_dock(&None, false),
         counts: None,
         sums,
     }
@@ -243,8 +213,7 @@ fn find_moved<S: Alter>(
 /// read for the command: a dock that was read for it isn't read again. Where no dock is touched, nothing is read.
 ///
 /// `NoMemory` comes where the engine wants memory that is refused, and `StoreFailed` where it fails otherwise, or a row
-/// holds what the product never writes: a number above the most docks of a station, say. In each case the tables are as
-/// before the call, or as before the transaction.
+/// holds what the product never writes. In each case the tables are as before the call, or as before the transaction.
 pub fn find_stored<S: Alter>(
     conn: &mut Connection<S>,
     command: &Command,

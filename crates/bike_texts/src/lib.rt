@@ -6,7 +6,6 @@
 //! both directions: a value is answered where the part spells one, and nothing only where it spells none.
 #![tactic(auto)]
 
-mod bounds;
 mod ends;
 mod escapes;
 mod fare;
@@ -20,7 +19,6 @@ pub use bike_fields::{
     OrderQuantity, Payment, RentalNumber, RequestKey, RiderNumber, TruckCapacity, TruckNumber,
     Within, signed_text,
 };
-pub use bounds::{tell_end, tell_segments};
 pub use ends::{EndName, OrderEnd, Side, UnloadDock};
 pub use escapes::{AsciiText, NameText};
 pub use fare::Fare;

@@ -1,6 +1,6 @@
 -- Reads one after another, of which a later one may read nothing.
 use Rattle.std.proofs.lemmas.Result.{on_ok_weaker}
-use Rattle.std.proofs.Common.{inl, Result, Ok, Err, IfOk, IsErr, refl, sym, subst, arith}
+use Rattle.std.proofs.Common.{inl, Result, Ok, Err, IsErr, refl, sym, subst, arith}
 use Rattle.sqlite_trees.specs.declared.store.Store.{Ghosts}
 use Rattle.sqlite.specs.Effect.{Database}
 use Rattle.sqlite.specs.Held.{Held, state}
@@ -37,15 +37,6 @@ module _ {S : Type 0} {g : Ghosts S} where
     answers = λ is_open. record { found = λ clean has s stores. fact s stores.listed; same = λ clean has. unchanged (state g h) is_open; failed = λ clean has. tt; quiet = quiet_same g IsOurs h };
     quiet = quiet_same g IsOurs h;
     ours = λ clean has. has;
-  }
-
-  -- the same of what was made of nothing that was read
-  pub open_made : {A E : Type 0} {h : Held S} {result : Result A E} (says : Operator → Listed → A → Type 0) → ((s : Operator) (m : Listed) → IfOk result (says s m)) → AnswersOpen g h h result says
-  open_made {result = Ok x} says fact = open_none says fact
-  open_made {h = h} {result = Err e} says fact = record {
-    answers = λ is_open. record { found = λ clean has. tt; same = λ clean has. tt; failed = λ clean has. inl (unchanged (state g h) is_open); quiet = quiet_same g IsOurs h };
-    quiet = quiet_same g IsOurs h;
-    ours = λ clean has. tt;
   }
 
   -- the same of every sound operator

@@ -6,9 +6,8 @@ use Rattle.bike_ledger.specs.Entries.{Entry}
 use Rattle.bike_ledger.specs.Ledger.{balance_of, refunded_of}
 use Rattle.bike_operator.specs.declared.records.Bike.{Bike}
 use Rattle.bike_operator.specs.declared.records.Rental.{Rental}
-use Rattle.bike_operator.specs.declared.view.RiderView.{RiderView}
-use Rattle.bike_operator.specs.Operator.{Operator, Rider}
-use Rattle.bike_operator.specs.View.{planned_rental, rider_view, typed_bike}
+use Rattle.bike_operator.specs.Operator.{Operator}
+use Rattle.bike_operator.specs.View.{planned_rental, typed_bike}
 use Rattle.bike_office_reads.specs.declared.rentals.StoredRental.{StoredRental}
 
 -- ---- the bicycle in a dock
@@ -35,13 +34,6 @@ rental_read number entries (Some r) {stored = stored} read some =
 pub rental_lacks : (number : ℕ) (entries : List Entry) (o : Option Rental) {x : Option StoredRental} → x ≡ option_map (λ r. record { rental = r; refunded = refunded_of number entries }) o → x ≡ None → None ≡ o
 rental_lacks number entries None read none = refl
 rental_lacks number entries (Some r) read none = absurd cc
-
--- the balance of a rider who was read
-pub balance_read : (s : Operator) (rider : ℕ) (o : Option Rider) {x : Option RiderView} {found : RiderView} → x ≡ rider_view s rider o → x ≡ Some found → found.balance ≡ balance_of rider s.entries
-balance_read s rider None read some = absurd cc
-balance_read s rider (Some r) {found = found} read some =
-    let view : RiderView = record { is_blocked = r.is_blocked; balance = balance_of rider s.entries } in
-    let same : view ≡ found = cc in ap (λ v. v.balance) (sym same)
 
 pub planned_some : (s : Operator) (number : ℕ) (r : Rental) (o : Option PlanRow) {x : Option PlanRow} {plan : PlanRow} {refunded balance : ℤ} → x ≡ o → x ≡ Some plan → refunded ≡ refunded_of number s.entries → balance ≡ balance_of r.rider s.entries
     → Some (record { number = number; rental = r; plan = plan; refunded = refunded; balance = balance }) ≡ planned_rental s number r o

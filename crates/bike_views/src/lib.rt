@@ -16,7 +16,7 @@ mod sight;
 mod stations;
 mod view;
 
-pub use bike_booking::{Stored, StoredCounts, StoredDock, Sums, Total};
+pub use bike_booking::{Stored, StoredCounts, StoredDock, Sums};
 pub use bike_fleet_reads::{DockNumbers, TypeCounts, find_counts, find_dock_numbers, find_mark};
 pub use figures::{Known, know_figures};
 pub use orders::end_at;

@@ -18,7 +18,7 @@ use crate::sight::Sight;
 use bike_fields::{BicycleNumber, DockNumber, Ident, RentalNumber, RiderNumber};
 use bike_fixed::Cents;
 use bike_fleet_reads::find_bike;
-use bike_office_reads::{find_plan, find_rental, find_rider, is_riding};
+use bike_office_reads::{find_plan, find_rental, find_rider, find_rider_balance, is_riding};
 use bike_operator::{Bike, Place, Rental, RentalView, View};
 use bike_schema::StatementFault;
 use sqlite::{Alter, Connection};
@@ -31,7 +31,7 @@ pub(crate) struct RentalBike {
     pub(crate) rental: Option<RentalView>,
 }
 
-/// The rental with its plan and its rider's balance. A rental's rider is there, or the store has failed.
+/// The rental with its plan and its rider's balance.
 fn find_planned_rental<S: Alter>(
     alloc: Global,
     conn: &mut Connection<S>,
@@ -42,9 +42,7 @@ fn find_planned_rental<S: Alter>(
     ensures { Answers S.Store conn.old conn.new result (λ s m found. refunded ≡ refunded_of number s.entries
         → found ≡ planned_rental s number rental (map.get s.plans rental.plan)) }
 {
-    let Some(rider) = find_rider(conn, rental.rider)? else {
-        return Err(StatementFault::StoreFailed);
-    };
+    let balance = find_rider_balance(conn, rental.rider)?;
     match find_plan(alloc, conn, &rental.plan)? {
         None => Ok(None),
         Some(plan) => Ok(Some(RentalView {
@@ -52,7 +50,7 @@ fn find_planned_rental<S: Alter>(
             rental,
             plan,
             refunded,
-            balance: rider.balance,
+            balance,
         })),
     }
 }

@@ -12,7 +12,7 @@ use Rattle.bike_desk.specs.Desk.{TreesStandForEither}
 use Rattle.bike_desk.specs.Serving.{Serves}
 use Rattle.bike_desk.proofs.KeepLemmas.{on_err, kept_stores}
 use Rattle.bike_desk.proofs.OtherLemmas.{others_same}
-use Rattle.bike_desk.proofs.ServeLemmas.{acceptance_moves, step_refused, step_accepted, accepts_read, figures_read}
+use Rattle.bike_desk.proofs.ServeLemmas.{acceptance_moves, step_refused, step_accepted, accepts_read, figures_read, later_read}
 use Rattle.bike_desk.proofs.serve.serve_read.Goals as goal
 
 pub returns-in-Err-clause-ok : goal.returns-in-Err-clause-ok
@@ -30,7 +30,8 @@ returns-in_err-store_accepted-in-Ok-clause-failed g c clean s t keeps it =
     let found = c.in-Ok.ensures.found s sound it.view_is in
     let told : AreTexts s c.args.now q (record { caller = c.args.asked.caller; key = c.as_str-key.result; command = c.args.asked.text; reply = c.as_str.result }) =
     record { caller = c.requires.asked.caller; key = c.as_str-key.ensures.text; command = c.requires.asked.text; reply = c.as_str.ensures.value ∙ c.text-spelled.ensures ∙ ap reply_text decides.1 } in
-    let accepts = accepts_read (state g.S.Store c.args.conn.now).now s t c.args.now q c.args.figures.now c.args.sight.now c.in-Ok.accepted c.in-Some.after _ sound it c.bounds.ensures decides found c.in-Some.ensures.figures told in
+    let after = later_read (state g.S.Store c.args.conn.now).now s t c.args.now q c.args.figures.now c.args.sight.now c.in-Ok.accepted c.books_accepted.ensures.sums sound it c.requires.asked.good decides c.after-after.ensures in
+    let accepts = accepts_read (state g.S.Store c.args.conn.now).now s t c.args.now q c.args.figures.now c.args.sight.now c.in-Ok.accepted c.after-after.result _ sound it c.requires.asked.good decides found after told in
     let left = c.store_accepted.ensures.left clean s q keeps it.sight accepts in
     on_err _ (subst (λ (p : Reply × Operator). AllLeft (state g.S.Store c.store_accepted.new.conn) (TreesStandForEither s p.1)) (sym (step_accepted s t q c.args.now it.later it.anew decides.0)) left)
 
@@ -42,11 +43,12 @@ returns-in_ok-store_accepted-in-Ok-clause-ok g c clean s t keeps it =
     let found = c.in-Ok.ensures.found s sound it.view_is in
     let told : AreTexts s c.args.now q (record { caller = c.args.asked.caller; key = c.as_str-key.result; command = c.args.asked.text; reply = c.as_str.result }) =
     record { caller = c.requires.asked.caller; key = c.as_str-key.ensures.text; command = c.requires.asked.text; reply = c.as_str.ensures.value ∙ c.text-spelled.ensures ∙ ap reply_text decides.1 } in
-    let accepts = accepts_read (state g.S.Store c.args.conn.now).now s t c.args.now q c.args.figures.now c.args.sight.now c.in-Ok.accepted c.in-Some.after _ sound it c.bounds.ensures decides found c.in-Some.ensures.figures told in
+    let after = later_read (state g.S.Store c.args.conn.now).now s t c.args.now q c.args.figures.now c.args.sight.now c.in-Ok.accepted c.books_accepted.ensures.sums sound it c.requires.asked.good decides c.after-after.ensures in
+    let accepts = accepts_read (state g.S.Store c.args.conn.now).now s t c.args.now q c.args.figures.now c.args.sight.now c.in-Ok.accepted c.after-after.result _ sound it c.requires.asked.good decides found after told in
     let made = c.in_ok-store_accepted-in-Ok.ensures.made clean s q keeps it.sight accepts in
-    let figures = figures_read s c.args.now q c.in-Ok.accepted c.books_accepted.ensures.figures it.figures_are decides found c.in-Some.ensures.figures in
+    let figures = figures_read s c.args.now q c.in-Ok.accepted c.books_accepted.ensures.figures it.figures_are decides found after in
     let step_is = step_accepted s t q c.args.now it.later it.anew decides.0 in
-    let served : Served = record { reply = c.in-Ok.accepted.reply; figures = Some c.in-Some.after } in
+    let served : Served = record { reply = c.in-Ok.accepted.reply; figures = Some c.after-after.result } in
     subst (λ (p : Reply × Operator). Serves (state g.S.Store c.store_accepted.new.conn) p served) (sym step_is) (record { reply = decides.1; keeps = made; figures = figures })
 
 pub returns-in-Err-clause-others : goal.returns-in-Err-clause-others
@@ -60,7 +62,8 @@ returns-in_ok-store_accepted-in-Ok-clause-others g c clean s t keeps it =
     let found = c.in-Ok.ensures.found s sound it.view_is in
     let told : AreTexts s c.args.now q (record { caller = c.args.asked.caller; key = c.as_str-key.result; command = c.args.asked.text; reply = c.as_str.result }) =
     record { caller = c.requires.asked.caller; key = c.as_str-key.ensures.text; command = c.requires.asked.text; reply = c.as_str.ensures.value ∙ c.text-spelled.ensures ∙ ap reply_text decides.1 } in
-    let accepts = accepts_read (state g.S.Store c.args.conn.now).now s t c.args.now q c.args.figures.now c.args.sight.now c.in-Ok.accepted c.in-Some.after _ sound it c.bounds.ensures decides found c.in-Some.ensures.figures told in
+    let after = later_read (state g.S.Store c.args.conn.now).now s t c.args.now q c.args.figures.now c.args.sight.now c.in-Ok.accepted c.books_accepted.ensures.sums sound it c.requires.asked.good decides c.after-after.ensures in
+    let accepts = accepts_read (state g.S.Store c.args.conn.now).now s t c.args.now q c.args.figures.now c.args.sight.now c.in-Ok.accepted c.after-after.result _ sound it c.requires.asked.good decides found after told in
     c.in_ok-store_accepted-in-Ok.ensures.others clean s q keeps it.sight accepts
 
 pub returns-in-Err-clause-rests : goal.returns-in-Err-clause-rests

@@ -19,7 +19,7 @@ loop-minute-preserved c = record {
       let seconds = c.elapsed_seconds-seconds.result in
       let minute = c.loop-minute.minute in
       let next = sum_below-next minute (reached_charge c.args.plan.now.segments seconds) in
-      let added = c.reached_charge-cost.ensures.value ∙ ap (λ ss. reached_charge ss seconds minute) c.segments.ensures in
+      let added = c.reached_charge-cost.ensures.value ∙ ap (λ ss. reached_charge ss seconds minute) c.segments.ensures.value in
       let before = c.loop-minute.invariant.value in
       omega (arith, ints, next, added, before);
   low = omega (arith, ints);

@@ -10,7 +10,7 @@ pub returns-clause-value : goal.returns-clause-value
 returns-clause-value c =
     let plan = c.args.plan.now in
     let seconds = c.elapsed_seconds.result in
-    let charges = c.segments_total.ensures.value ∙ ap (λ ss. segments_total ss (seconds / 60 + 1)) c.segments.ensures in
+    let charges = c.segments_total.ensures.value ∙ ap (λ ss. segments_total ss (seconds / 60 + 1)) c.segments.ensures.value in
     let division = cost_of-division plan seconds c.elapsed_seconds.ensures.high in
     let price = c.price.ensures in
     let got = c.get.ensures.value in

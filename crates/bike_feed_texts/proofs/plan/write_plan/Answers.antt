@@ -14,5 +14,5 @@ returns-clause-wrote g c =
     (member_then price c.cents_member.ensures.place.0
     (member_then (rw c.taxable.ensures at c.flag_member.ensures.wrote) c.flag_member.ensures.place.0
     (member_then (rw c.description.ensures at c.localized_member-2.ensures.wrote) c.localized_member-2.ensures.place.0
-    (rw c.segments.ensures at c.pricing_member.ensures.wrote)))))))
+    (rw c.segments.ensures.value at c.pricing_member.ensures.wrote)))))))
     c.end_object.ensures.wrote

@@ -22,7 +22,7 @@ returns-in-Err-clause-rests g c clean s at leaves =
     (λ e. h.stops (ap (λ (x : DeskFault). Err x) e)) (λ e. h.stopped (ap (λ (x : DeskFault). Err x) e))
 
 pub returns-in-Ok-clause-good : goal.returns-in-Ok-clause-good
-returns-in-Ok-clause-good g c = record { moment = c.bounds-2.ensures; request = c.bounds.ensures }
+returns-in-Ok-clause-good g c = record { moment = c.bounds.ensures; request = c.requires }
 
 pub returns-in-Err-clause-good : goal.returns-in-Err-clause-good
-returns-in-Err-clause-good g c = record { moment = c.bounds-2.ensures; request = c.bounds.ensures }
+returns-in-Err-clause-good g c = record { moment = c.bounds.ensures; request = c.requires }
