@@ -1,6 +1,5 @@
 -- What the records of the catalogue are made of, as contracts see it.
 use Rattle.std.specs.Prelude.{◌≡◌, ℕ, ℤ, pos, neg_ℤ, ◌≤◌, ◌<◌, ◌≤ℤ◌, Bool, true, Option, None, Some, nat_lt, nat_le, int_le, ◌==◌, ◌&&◌, if◌then◌else◌}
-use Rattle.bike_fields.specs.Coordinate.{IsMicro}
 use Rattle.bike_attributes.specs.declared.vehicle.Propulsion.{Propulsion}
 use Rattle.bike_attributes.specs.declared.vehicle.Propulsion.TheVariants.{Human, ElectricAssist}
 use Rattle.bike_fields.specs.declared.numbers.TheConstants.{LAST_MINUTE, GREATEST_RANGE}
@@ -59,11 +58,6 @@ IsLatitude z = (neg_ℤ (pos GREATEST_LATITUDE) ≤ℤ z) × (z ≤ℤ pos GREAT
 
 abbrev pub is_latitude : ℤ → Bool
 is_latitude z = int_le (neg_ℤ (pos GREATEST_LATITUDE)) z && int_le z (pos GREATEST_LATITUDE)
-
--- a latitude and a longitude that there are
-pub record IsPosition (p : PositionRow) : Type 0 where
-  pub lat : IsLatitude p.lat
-  pub lon : IsMicro p.lon
 
 -- the position, where its latitude is one
 abbrev pub position_within : PositionRow → Option PositionRow
