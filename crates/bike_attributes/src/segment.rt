@@ -128,14 +128,6 @@ impl Segment {
         })
     }
 
-    /// Tells the bounds of a segment to a proof.
-    pub fn bounds(&self)
-        ensures { IsSegment self.now }
-    {
-        // a value that is opened tells its invariant
-        let _opened = self.start;
-    }
-
     /// The first minute that is charged, and the segment's bounds.
     pub fn start(&self) -> u32
         ensures value { result ≡ self.now.start }
@@ -144,9 +136,10 @@ impl Segment {
         self.start.get()
     }
 
-    /// What is charged, in hundredths.
+    /// What is charged, in hundredths, and the segment's bounds.
     pub fn rate(&self) -> i32
-        ensures { result ≡ self.now.rate }
+        ensures value { result ≡ self.now.rate }
+        ensures bounds { IsSegment self.now }
     {
         self.rate.hundredths()
     }

@@ -1,6 +1,6 @@
 //! Stations.
 
-ghost use Rattle.std.specs.Prelude.{◌≡◌, IfOk};
+ghost use Rattle.std.specs.Prelude.{◌≡◌, IfOk, IfSome};
 ghost use Rattle.bike_fields.specs.Fault.{Tests};
 ghost use Rattle.bike_attributes.specs.Values.{IsLatitude};
 ghost use Rattle.bike_catalogue.specs.RowFaults.{MakesStation, station_fault};
@@ -100,7 +100,7 @@ impl Station {
         })
     }
 
-    /// The station of these fields, where the latitude is within 90 degrees.
+    /// The station of these fields, which keeps its bounds, where the latitude is within 90 degrees.
     pub fn from_fields(
         station_id: Ident,
         name: Name,
@@ -108,7 +108,8 @@ impl Station {
         lon: Micro,
         docks: DockCount,
     ) -> Option<Station>
-        ensures { result ≡ station_within (station_of_fields station_id name lat lon docks) }
+        ensures value { result ≡ station_within (station_of_fields station_id name lat lon docks) }
+        ensures bounds { IfSome result IsStation }
     {
         if lat.microdegrees().unsigned_abs() > GREATEST_LATITUDE {
             return None;
@@ -120,16 +121,6 @@ impl Station {
             lon,
             docks,
         })
-    }
-
-    /// Tells the bounds of a station to a proof.
-    pub fn bounds(&self)
-        ensures { IsStation self.now }
-    {
-        let _station_id = self.station_id.as_str();
-        let _name = self.name.as_str();
-        let _lon = self.lon.microdegrees();
-        let _docks = self.docks.get();
     }
 
     /// The station's identifier.

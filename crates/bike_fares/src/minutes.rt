@@ -30,7 +30,6 @@ fn segment_charge(segment: &Segment, minute: u32) -> i64
     ensures low { neg_ℤ (pos GREATEST_RATE) ≤ℤ result }
     ensures high { result ≤ℤ pos GREATEST_RATE }
 {
-    segment.bounds();
     if is_charged(segment, minute) {
         i64::from(segment.rate())
     } else {

@@ -1,8 +1,9 @@
 //! The request that a row is.
 
-ghost use Rattle.std.specs.Prelude.{◌≡◌, true, IfOk};
+ghost use Rattle.std.specs.Prelude.{◌≡◌, true, IfOk, IfSome};
 ghost use Rattle.csv.specs.Records.{fields_of};
 ghost use Rattle.bike_fields.specs.Bytes.{is_key};
+ghost use Rattle.bike_catalogue.specs.Rows.{IsStation};
 ghost use Rattle.bike_commands.specs.Requests.{IsRequest};
 ghost use Rattle.bike_imports.specs.Rows.{key_of, request_of, station_of};
 ghost use Rattle.bike_imports.specs.Serving.{MakesRequest};
@@ -25,7 +26,8 @@ const KEY_LENGTH: usize = 24;
 /// The station of a row, where every field is good.
 #[tactic(auto, unfolding(crate::specs::Rows::station_of))]
 fn read_station(alloc: Global, row: &Columns<'_>) -> Result<Option<Station>, AllocError>
-    ensures { IfOk result (λ station. station ≡ station_of (texts_of row.now)) }
+    ensures value { IfOk result (λ station. station ≡ station_of (texts_of row.now)) }
+    ensures bounds { IfOk result (λ station. IfSome station IsStation) }
 {
     let Some(station_id) = Ident::checked(row.station_id) else {
         return Ok(None);
@@ -66,10 +68,10 @@ fn request_of(
     number: u64,
     station: Station,
 ) -> Result<Request, AllocError>
+    requires { IsStation station }
     ensures made { IfOk result (λ request. request ≡ request_of name.now number station) }
     ensures good { IfOk result (λ request. IsRequest request) }
 {
-    station.bounds();
     Ok(Request {
         caller: Caller::Import(name.try_clone(alloc)?),
         key: RequestKey::of(alloc, row_key(number).as_str())?,

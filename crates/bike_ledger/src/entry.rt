@@ -1,7 +1,6 @@
 //! Entries of the ledger.
 
 ghost use Rattle.std.specs.Prelude.{◌≡◌, ◌≤◌, ◌≤ℤ◌, pos};
-ghost use Rattle.bike_ledger.specs.Entries.{IsEntry};
 
 use bike_fields::{
     Cents, GREATEST_FARE, GREATEST_SERIAL, Moment, Payment, RentalNumber, RiderNumber, Within, kind,
@@ -145,13 +144,6 @@ impl Entry {
             amount: Cents::new(i64::from(amount.get())),
             at,
         }
-    }
-
-    /// Tells the bounds of an entry to a proof.
-    pub fn bounds(&self)
-        ensures { IsEntry self.now }
-    {
-        let _ = &self.number;
     }
 
     /// Its number: entries are numbered 1, 2, 3, ..

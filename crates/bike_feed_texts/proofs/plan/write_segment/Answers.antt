@@ -7,7 +7,7 @@ pub returns-clause-wrote : goal.returns-clause-wrote
 returns-clause-wrote g c =
     let narrow : FitsSigned w32 c.rate.result = search rules in
     let wide : FitsSigned w64 c.from.result = search rules in
-    let rate = rw (c.new.ensures, to_z-of_z w64 c.from.result wide, c.from.ensures, to_z-of_z w32 c.rate.result narrow, c.rate.ensures) at c.cents_member.ensures.wrote in
+    let rate = rw (c.new.ensures, to_z-of_z w64 c.from.result wide, c.from.ensures, to_z-of_z w32 c.rate.result narrow, c.rate.ensures.value) at c.cents_member.ensures.wrote in
     object_then c.begin_object.ensures.wrote c.begin_object.ensures.place.0
     (member_then (rw c.start.ensures.value at c.whole_member.ensures.wrote) c.whole_member.ensures.place.0
     (member_then rate c.cents_member.ensures.place.0
