@@ -100,7 +100,7 @@ impl Station {
         })
     }
 
-    /// The station of these fields, which keeps its bounds, where the latitude is within 90 degrees.
+    /// The station of these fields, which keeps its bounds, where the latitude is within 90 degrees; else None.
     pub fn from_fields(
         station_id: Ident,
         name: Name,
