@@ -2,6 +2,7 @@ pub mod Refusals
 pub mod Commands
 pub mod Replies
 pub mod ReplyReaders
+pub mod RequestFields
 pub mod Requests
 pub use Rattle.bike_catalogue.specs.Rows
 pub use Rattle.bike_catalogue.specs.Vehicle

@@ -1,17 +1,11 @@
 -- How a request line is spelled.
-use Rattle.std.specs.Prelude.{◌≡◌, ℕ, ◌≤◌, List, ◌∷◌, ◌++◌, length, true, decimal}
+use Rattle.std.specs.Prelude.{◌≡◌, ℕ, ◌≤◌, List, ◌∷◌, ◌++◌, length, decimal}
 use Rattle.std.specs.Str.{IsUtf8}
-use Rattle.bike_texts.specs.Bytes.{is_key}
-use Rattle.bike_texts.specs.Caller.{IsCaller, caller_text}
+use Rattle.bike_texts.specs.Caller.{caller_text}
 use Rattle.bike_commands.specs.declared.request.Request.{Request}
 use Rattle.bike_commands.specs.declared.request.TheConstants.{LINE_LENGTH}
-use Rattle.bike_commands.specs.Commands.{IsCommand, IsSpelling}
-
--- caller, key and command keep their bounds, as those of every request of the program do
-pub record IsRequest (q : Request) : Type 0 where
-  pub caller : IsCaller q.caller
-  pub key : is_key q.key ≡ true
-  pub command : IsCommand q.command
+use Rattle.bike_commands.specs.Commands.{IsSpelling}
+pub use Rattle.bike_commands.specs.RequestFields.{IsRequest}
 
 -- the greatest length of a line in bytes, its LF not counted
 abbrev pub line_length : ℕ

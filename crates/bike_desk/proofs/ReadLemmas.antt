@@ -6,6 +6,7 @@ use Rattle.sqlite_trees.specs.declared.store.Store.{Ghosts}
 use Rattle.sqlite.specs.State.{HasCleanDisk}
 use Rattle.sqlite.specs.Held.{Held, state}
 use Rattle.bike_fixed.specs.Whole.{last_moment}
+use Rattle.bike_commands.specs.declared.command.Command.{Command}
 use Rattle.bike_commands.specs.declared.request.Request.{Request}
 use Rattle.bike_operator.specs.Operator.{Operator}
 use Rattle.bike_operator.specs.Runs.{key_in}
@@ -25,14 +26,20 @@ use Rattle.bike_desk.specs.Desk.{AreFigures, IsRemembered}
 use Rattle.bike_desk.specs.Serving.{IsReadFor, IsSightOf}
 use Rattle.bike_desk.proofs.KeepLemmas.{kept_ours, kept_stores, still}
 
+-- equal requests have one command
+pub asked_command : {p q : Request} → p ≡ q → p.command ≡ q.command
+asked_command same = ap (λ (r : Request). r.command) same
+
 module _ {S : Type 0} (g : Ghosts S) (old mid new : Held S) (s : Operator) (moment now : ℕ) (q : Request) (r : Remembered) (figures : Figures) (x : Sight) where
   abbrev known : Known
   known = record { figures = figures; newest_tells = r.newest_tells }
 
-  -- after both reads the connection keeps the operator, whose figures and view they are
-  pub both_read : Keeps (state g old) s → HasCleanDisk (state g new) → AnswersOpen g old mid {E = StatementFault} (Ok figures) (λ s m x. AreFigures r.figures s → x ≡ figures_of s) → Answers g mid new {E = StatementFault} (Ok x) (λ s m x. IsKnown s known → IsSight s m q.command x)
+  -- after both reads the connection keeps the operator, whose figures and view of the request's command they are
+  pub both_read : (command : Command) → command ≡ q.command → Keeps (state g old) s → HasCleanDisk (state g new) → AnswersOpen g old mid {E = StatementFault} (Ok figures) (λ s m x. AreFigures r.figures s → x ≡ figures_of s)
+      → Answers g mid new {E = StatementFault} (Ok x) (λ s m x. IsKnown s known → IsSight s m command x)
       → IsRemembered s r → moment ≤ last_moment → now ≡ max moment figures.now → map.get s.kept (key_in q) ≡ None → Keeps (state g new) s × IsReadFor (state g new).now s moment now q figures x
-  both_read keeps clean one two remembers in_time later anew =
+  both_read command is keeps clean one seen remembers in_time later anew =
+      let two = subst (λ (c : Command). Answers g mid new {E = StatementFault} (Ok x) (λ s m x. IsKnown s known → IsSight s m c x)) is seen in
       let first = one.answers keeps.is_open in
       let early : HasCleanDisk (state g mid) = omega (arith, clean, two.quiet.survives.clean) in
       let are = first.found early (kept_ours (state g old) s keeps) s (kept_stores (state g old) s keeps) remembers.figures in

@@ -9,7 +9,6 @@ use Rattle.bike_commands.specs.declared.command.Command.{Command}
 use Rattle.bike_commands.specs.declared.reply.Reply.{Reply}
 use Rattle.bike_commands.specs.declared.request.Request.{Request}
 use Rattle.bike_commands.specs.Commands.{text_of}
-use Rattle.bike_commands.specs.Requests.{IsRequest}
 use Rattle.bike_operator.specs.Operator.{Operator}
 use Rattle.bike_operator.specs.View.{view_of}
 use Rattle.bike_operator.specs.Runs.{key_in, after_acceptance}
@@ -35,9 +34,8 @@ use Rattle.bike_desk.specs.declared.serve.Asked.{Asked}
 use Rattle.bike_desk.specs.declared.serve.Served.{Served}
 use Rattle.bike_desk.specs.Desk.{AreFigures}
 
--- the request keeps its bounds, and the texts are those of its caller and command
+-- the texts are those of the request's caller and command
 pub record IsAsked (asked : Asked) : Type 0 where
-  pub good : IsRequest asked.request.now
   pub caller : asked.caller.now ≡ caller_text asked.request.now.caller
   pub text : asked.text.now ≡ text_of asked.request.now.command
 

@@ -6,7 +6,7 @@ ghost use Rattle.std.specs.FinMap as map;
 ghost use Rattle.sqlite.specs.State.{HasCleanDisk};
 ghost use Rattle.sqlite.specs.Held.{state};
 ghost use Rattle.sqlite_trees.specs.View.{doubt};
-ghost use Rattle.bike_commands.specs.Commands.{IsCommand, text_of};
+ghost use Rattle.bike_commands.specs.Commands.{text_of};
 ghost use Rattle.bike_commands.specs.declared.request.Request.{Request};
 ghost use Rattle.bike_operator.specs.Operator.{Operator};
 ghost use Rattle.bike_operator.specs.Runs.{step, after_acceptance, key_in};
@@ -182,13 +182,13 @@ fn serve_anew<'a, S: Alter>(
         figures,
         newest_tells: remembered.newest_tells,
     };
-    let sight = find_view(alloc, conn, &asked.request.command, &known)?;
+    let request = asked.request;
+    let sight = find_view(alloc, conn, &request.command, &known)?;
     let now = moment.later(&figures.now);
     serve_read(conn, &figures, &sight, now, asked)
 }
 
-/// Serves one request, of whose command `text` is the text, by what is remembered of the operator. The command keeps its
-/// bounds, as its text tells.
+/// Serves one request, of whose command `text` is the text, by what is remembered of the operator.
 pub(crate) fn serve<S: Alter>(
     alloc: Global,
     conn: &mut Connection<S>,
@@ -199,7 +199,6 @@ pub(crate) fn serve<S: Alter>(
 ) -> Result<Served, StatementFault>
     requires outside { conn.old.in_transaction ≡ false }
     requires text { text.now ≡ text_of request.now.command }
-    requires good { IsCommand request.now.command }
     ensures ended { conn.new.in_transaction ≡ false }
     ensures clean { doubt (state S.Store conn.old).is_clean ≤ doubt (state S.Store conn.new).is_clean }
     ensures ok { HasCleanDisk (state S.Store conn.new) → (s : Operator) → Keeps (state S.Store conn.old) s

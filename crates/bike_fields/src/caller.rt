@@ -1,9 +1,7 @@
 //! Callers.
 
-ghost use Rattle.std.specs.Prelude.{◌≡◌, ◌≤◌, ◌++◌, List, ℕ, IfOk, IfErr, IfSome, Some, decimal, true};
+ghost use Rattle.std.specs.Prelude.{◌≡◌, ◌≤◌, ◌++◌, List, ℕ, IfOk, IfErr, IfSome, Some, decimal};
 ghost use Rattle.arrayvec.specs.ArrayString.{array_string_len};
-ghost use Rattle.bike_fields.specs.declared.numbers.TheConstants.{GREATEST_NUMBER};
-ghost use Rattle.bike_fields.specs.Bytes.{is_ident};
 ghost use Rattle.bike_fields.specs.Caller.{IsCaller, HasIdent, HoldsIdent, caller_meant, caller_text, caller_of, caller_named};
 ghost use Rattle.bike_fields.specs.Reads.{Gives, IsReadAs};
 ghost use Rattle.bike_fields.specs.declared.caller.Caller.{Caller};
@@ -88,10 +86,9 @@ impl Caller {
         Ok(Some(name.keep(alloc)?))
     }
 
-    /// The caller's text, and the bounds of what it names.
+    /// The caller's text.
     pub fn text(&self) -> ArrayString<43>
         ensures text { result.bytes ≡ caller_text self.now }
-        ensures good { IsCaller self.now }
     {
         let mut out = ArrayString::new();
         match self {
@@ -135,8 +132,7 @@ fn named<'a>(kind: &str, name: &'a str) -> Option<CallerName<'a>>
 /// Appends a rider's or a truck's number.
 fn push_number<K>(out: &mut ArrayString<43>, number: &Within<1, GREATEST_NUMBER, K>)
     requires { array_string_len out.old ≤ 7 }
-    ensures text { out.new.bytes ≡ out.old.bytes ++ decimal number.now }
-    ensures good { (1 ≤ number.now) × (number.now ≤ GREATEST_NUMBER) }
+    ensures { out.new.bytes ≡ out.old.bytes ++ decimal number.now }
 {
     let mut buffer = Buffer::new();
     out.push_str(buffer.format(number.get()));
@@ -146,8 +142,7 @@ fn push_number<K>(out: &mut ArrayString<43>, number: &Within<1, GREATEST_NUMBER,
 #[tactic(auto, using(crate::proofs::Lengths::ident_length))]
 fn push_ident(out: &mut ArrayString<43>, ident: &Ident)
     requires { array_string_len out.old ≤ 7 }
-    ensures text { out.new.bytes ≡ out.old.bytes ++ ident.now }
-    ensures good { is_ident ident.now ≡ true }
+    ensures { out.new.bytes ≡ out.old.bytes ++ ident.now }
 {
     out.push_str(ident.as_str());
 }

@@ -116,11 +116,10 @@ impl Micro {
         self.microdegrees
     }
 
-    /// The coordinate in degrees with exactly six decimals, as `-0.000001`, zero without a sign; and its bounds.
+    /// The coordinate in degrees with exactly six decimals, as `-0.000001`; zero has no sign.
     #[tactic(auto, using(crate::proofs::Rooms::length_decimal_4))]
     pub fn text(&self) -> ArrayString<12>
         ensures text { result.bytes ≡ micro_text self.now }
-        ensures bounds { IsMicro self.now }
     {
         let mut out = ArrayString::new();
         push_sign(&mut out, i64::from(self.microdegrees));

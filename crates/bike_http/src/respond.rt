@@ -2,12 +2,10 @@
 
 ghost use Rattle.std.specs.Prelude.{◌≡◌, ◌≤◌, IsTrue};
 ghost use Rattle.sqlite_trees.specs.View.{doubt};
-ghost use Rattle.bike_commands.specs.Requests.{IsRequest};
 ghost use Rattle.bike_operator.specs.Sound.{IsCall};
 ghost use Rattle.bike_feeds.specs.Desk.{desk_state, OfOperator, KeepsWhereGoing};
 ghost use Rattle.bike_feeds.specs.Queries.{Queries};
 ghost use Rattle.bike_feeds.specs.Publishing.{IsLength};
-ghost use Rattle.bike_incoming.specs.Asked.{KeepsBounds};
 ghost use Rattle.bike_http.specs.Shown.{shown_of};
 ghost use Rattle.bike_http.specs.Exchange.{answered, IsGood};
 ghost use Rattle.bike_http.specs.Telling.{Tells, TellsReply, RestsAfter, SendsAnswer, SendsText, Publishes, RespondsTo, refusal_of};
@@ -50,7 +48,6 @@ pub(crate) fn send<W: Write>(writer: &mut W, answer: &Answer) -> Result<u16, Sen
 
 /// Asks the desk to act.
 fn act<S: Alter>(alloc: Global, desk: &mut Desk<S>, moment: Moment, request: &Request) -> Answer
-    requires { IsRequest request.now }
     ensures clean { doubt (desk_state S.Store desk.old).is_clean ≤ doubt (desk_state S.Store desk.new).is_clean }
     ensures told { OfOperator S.Store desk.old desk.new (λ s.
         TellsReply S.Store desk.new s moment request.now result) }
@@ -62,6 +59,7 @@ fn act<S: Alter>(alloc: Global, desk: &mut Desk<S>, moment: Moment, request: &Re
 {
     // What is booked is a good request at a moment of the program.
     moment.bounds();
+    let _command = &request.command;
     match desk.apply(alloc, moment, request) {
         Ok(reply) => Answer::Replied(reply),
         Err(_) => Answer::Unavailable,
@@ -192,7 +190,6 @@ pub(crate) fn respond<S: Alter, W: Write>(
     asked: Asked,
     writer: &mut W,
 ) -> Result<u16, SendFault>
-    requires { KeepsBounds asked }
     ensures clean { doubt (desk_state S.Store desk.old).is_clean ≤ doubt (desk_state S.Store desk.new).is_clean }
     ensures sent { OfOperator S.Store desk.old desk.new (λ s.
         RespondsTo S.Store desk.new s moment asked (W.contents writer.old) (W.contents writer.new) result) }

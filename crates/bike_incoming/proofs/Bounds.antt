@@ -1,7 +1,5 @@
--- A request to act keeps the bounds of its fields.
-use Rattle.std.proofs.Common.{◌≡◌, ℕ, ◌<◌, ◌≤◌, ◌^◌, List, Bool, true, false, ◌&&◌, if◌then◌else◌, nat_le, Option, Some, None, Result, Ok, Err, IfOk, refl, sym, subst, leb-true, lit<, codes}
-use Rattle.std.specs.declared.alloc.AllocError.{AllocError}
-use Rattle.std.proofs.lemmas.Bool.{cond_both}
+-- What a request to act is made of keeps its bounds.
+use Rattle.std.proofs.Common.{◌≡◌, ℕ, ◌<◌, ◌≤◌, ◌^◌, List, Bool, true, false, ◌&&◌, if◌then◌else◌, nat_le, Option, Some, None, option_map, refl, subst, leb-true, lit<, codes}
 use Rattle.std.proofs.lemmas.Option.{option_and_then_some, cond_some, same_Some}
 use Rattle.serde_json.specs.Data.{Data}
 use Rattle.serde_json.specs.Find.{get, as_number, as_u64}
@@ -17,19 +15,13 @@ use Rattle.bike_texts.specs.Reading.{◌>>=◌}
 use Rattle.bike_texts.specs.declared.ends.Side.{Side}
 use Rattle.bike_texts.specs.declared.ends.Side.TheVariants.{From, To}
 use Rattle.bike_commands.specs.declared.command.Command.{Command}
-use Rattle.bike_commands.specs.declared.request.Request.{Request}
 use Rattle.bike_commands.specs.Commands.{IsCommand}
 use Rattle.bike_commands.specs.Requests.{IsRequest}
 use Rattle.bike_requests.proofs.CommandLaws.{command_sound}
-use Rattle.bike_heads.specs.declared.rejection.Allow.TheVariants.{Get, Post}
 use Rattle.bike_heads.specs.declared.routes.Route.{Route}
 use Rattle.bike_heads.specs.declared.routes.Route.TheVariants as route
-use Rattle.bike_heads.specs.declared.shown.Shown.{Shown}
-use Rattle.bike_incoming.specs.declared.asked.Asked.{Asked}
-use Rattle.bike_incoming.specs.declared.asked.Asked.TheVariants.{Show, Publish}
 use Rattle.bike_incoming.specs.Members.{text_in, number_in, key_in, ident_in, choice_in, side_in}
-use Rattle.bike_incoming.specs.Bodies.{bike_in, dock_in, order_in, rider_in, start_of, end_of, mark_dock_of, mark_bike_of, load_of, unload_of, office_command}
-use Rattle.bike_incoming.specs.Asked.{object_of, is_method, request_of, application_of, posted_object, posted_by, posted, got, shown, asked_at, KeepsBounds}
+use Rattle.bike_incoming.specs.Bodies.{bike_in, dock_in, order_in, rider_in, start_of, end_of, mark_dock_of, mark_bike_of, load_of, unload_of, office_command, dock_command, crew_command, command_by, caller_at}
 
 -- ---- what reading gives
 
@@ -91,8 +83,8 @@ side_good From = refl
 side_good To = refl
 
 -- a rider's number, or a truck's
-named_good : (part : List ℕ) → Keeps (λ n. (1 ≤ n) × (n ≤ GREATEST_NUMBER)) (rider_in part)
-named_good part = record { value = λ n e. let s = number_sound 1 GREATEST_NUMBER part n e in (s.low_le, s.le_high) }
+number_named : (part : List ℕ) → Keeps (λ n. (1 ≤ n) × (n ≤ GREATEST_NUMBER)) (rider_in part)
+number_named part = record { value = λ n e. let s = number_sound 1 GREATEST_NUMBER part n e in (s.low_le, s.le_high) }
 
 -- ---- commands
 
@@ -146,53 +138,43 @@ office_good body =
     next (any (text_in (codes "command") body)) (λ text h.
     record { value = λ c e. (command_sound text c e).good })
 
--- ---- what is asked
+dock_command_good : (route : Route) (station : List ℕ) → IsCaller (caller.Dock station) → (body : Data) → GivesCommand (dock_command route station body)
+dock_command_good route.End station known body = end_good station known body
+dock_command_good route.MarkDock station known body = mark_dock_good station known body
+dock_command_good _ station known body = mark_bike_good body
 
-applied_keeps : (o : Option Request) → Keeps IsRequest o → KeepsBounds (application_of o)
-applied_keeps None good = tt
-applied_keeps (Some q) good = good.value q refl
+crew_command_good : (route : Route) (truck : ℕ) → IsCaller (caller.Crew truck) → (body : Data) → GivesCommand (crew_command route truck body)
+crew_command_good route.Load truck known body = load_good truck known body
+crew_command_good route.Unload truck known body = unload_good truck known body
+crew_command_good _ truck known body = mark_bike_good body
 
-object_keeps : (caller : Caller) (command : Data → Option Command) (o : Option Data) → IsCaller caller
-    → ((body : Data) → GivesCommand (command body)) → KeepsBounds (posted_object caller command o)
-unfolding request_of
-object_keeps caller command None sent good = tt
-object_keeps caller command (Some body) sent good =
-    applied_keeps _ (next (good body) (λ given g.
-    next (key_good body) (λ key k. made (record { caller = sent; key = k; command = g }))))
+command_good : (route : Route) (c : Caller) → IsCaller c → (body : Data) → GivesCommand (command_by route c body)
+command_good route (caller.Rider rider) known body = start_good rider known body
+command_good route (caller.Dock station) known body = dock_command_good route station known body
+command_good route (caller.Crew truck) known body = crew_command_good route truck known body
+command_good route caller.Office known body = office_good body
+command_good route (caller.Import name) known body = office_good body
 
-by_keeps : (method : List ℕ) (caller : Caller) (command : Data → Option Command) (body : List ℕ) → IsCaller caller
-    → ((body : Data) → GivesCommand (command body)) → KeepsBounds (posted_by method caller command body)
-by_keeps method caller command body sent good =
-    cond_both (is_method method Post) _ _ KeepsBounds (λ is. object_keeps caller command (object_of body) sent good) (λ is. tt)
+-- ---- the request
 
-posted_keeps : {A : Type 0} {named : Option A} (method : List ℕ) (caller : A → Caller) (command : A → Data → Option Command)
-    (body : List ℕ) → Keeps (λ a. IsCaller (caller a)) named
-    → ((a : A) → IsCaller (caller a) → (body : Data) → GivesCommand (command a body))
-    → KeepsBounds (posted method named caller command body)
-posted_keeps {named = None} method caller command body sent good = tt
-posted_keeps {named = Some a} method caller command body sent good =
-    let known = sent.value a refl in by_keeps method (caller a) (command a) body known (good a known)
+named : {A : Type 0} (call : A → Caller) (o : Option A) → Keeps (λ a. IsCaller (call a)) o → Keeps IsCaller (option_map call o)
+named call None good = record { value = λ c e. absurd cc }
+named call (Some a) good = made (good.value a refl)
 
-got_keeps : (method : List ℕ) (asked : Asked) → KeepsBounds asked → KeepsBounds (got method asked)
-got_keeps method asked keeps = cond_both (is_method method Get) _ _ KeepsBounds (λ is. keeps) (λ is. tt)
+caller_good : (route : Route) (part : List ℕ) → Keeps IsCaller (caller_at route part)
+caller_good route.Start part = named caller.Rider _ (number_named part)
+caller_good route.End part = named caller.Dock _ (ident_good part)
+caller_good route.MarkDock part = named caller.Dock _ (ident_good part)
+caller_good route.MarkStationBike part = named caller.Dock _ (ident_good part)
+caller_good route.Load part = named caller.Crew _ (number_named part)
+caller_good route.Unload part = named caller.Crew _ (number_named part)
+caller_good route.MarkTruckBike part = named caller.Crew _ (number_named part)
+caller_good route.Office part = made tt
+caller_good _ part = record { value = λ c e. absurd cc }
 
-shown_keeps : (method : List ℕ) (row : Option Shown) → KeepsBounds (shown method row)
-shown_keeps method None = tt
-shown_keeps method (Some row) = got_keeps method (Show row) tt
-
-at_keeps : (route : Route) (method part body : List ℕ) → KeepsBounds (asked_at route method part body)
-at_keeps route.Start method part body = posted_keeps method caller.Rider start_of body (named_good part) start_good
-at_keeps route.End method part body = posted_keeps method caller.Dock end_of body (ident_good part) end_good
-at_keeps route.MarkDock method part body = posted_keeps method caller.Dock mark_dock_of body (ident_good part) mark_dock_good
-at_keeps route.MarkStationBike method part body = posted_keeps method caller.Dock _ body (ident_good part) (λ i h. mark_bike_good)
-at_keeps route.Load method part body = posted_keeps method caller.Crew load_of body (named_good part) load_good
-at_keeps route.Unload method part body = posted_keeps method caller.Crew unload_of body (named_good part) unload_good
-at_keeps route.MarkTruckBike method part body = posted_keeps method caller.Crew _ body (named_good part) (λ n h. mark_bike_good)
-at_keeps route.Office method part body = by_keeps method caller.Office office_command body tt office_good
-at_keeps (route.Publish feed) method part body = got_keeps method (Publish feed) tt
-at_keeps _ method part body = shown_keeps method _
-
-pub asked_keeps : (route : Route) (method part body : List ℕ) (r : Result Asked AllocError)
-    → IfOk r (λ asked. asked ≡ asked_at route method part body) → IfOk r KeepsBounds
-asked_keeps route method part body (Ok asked) is = subst KeepsBounds (sym is) (at_keeps route method part body)
-asked_keeps route method part body (Err refused) is = tt
+pub request_good : (route : Route) (part : List ℕ) (body : Data) (c : Caller) (key : List ℕ) (given : Command)
+    → caller_at route part ≡ Some c → key_in body ≡ Some key → command_by route c body ≡ Some given
+    → IsRequest (record { caller = c; key = key; command = given })
+request_good route part body c key given from with_key gives =
+    let sent = (caller_good route part).value c from in
+    record { caller = sent; key = (key_good body).value key with_key; command = (command_good route c sent body).value given gives }

@@ -13,7 +13,6 @@ use Rattle.bike_fields.specs.declared.caller.Caller.TheVariants as caller
 use Rattle.bike_texts.specs.Reading.{◌>>=◌}
 use Rattle.bike_commands.specs.declared.command.Command.{Command}
 use Rattle.bike_commands.specs.declared.request.Request.{Request}
-use Rattle.bike_commands.specs.Requests.{IsRequest}
 use Rattle.bike_heads.specs.declared.rejection.Allow.{Allow}
 use Rattle.bike_heads.specs.declared.rejection.Allow.TheVariants.{Get, Post}
 use Rattle.bike_heads.specs.declared.rejection.Rejection.TheVariants.{BadRequest, BadField, NotFound, MethodNotAllowed, TooLarge}
@@ -109,13 +108,6 @@ asked_found (Some found) method body = asked_at found.0 method found.1 body
 -- what a request asks for, by its method, its target and its body
 unfoldable pub asked_for : List ℕ → List ℕ → List ℕ → Asked
 asked_for method target body = asked_found (found_at (path_of target)) method body
-
--- a request to act keeps the bounds of its fields
-abbrev pub KeepsBounds : Asked → Type 0
-KeepsBounds (Reject rejection) = Unit {0}
-KeepsBounds (Apply q) = IsRequest q
-KeepsBounds (Show row) = Unit {0}
-KeepsBounds (Publish feed) = Unit {0}
 
 -- ---- memory: a request to act alone asks for it, whose path and method are good
 

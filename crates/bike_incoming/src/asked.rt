@@ -3,7 +3,7 @@
 ghost use Rattle.std.specs.Prelude.{◌≡◌, IfOk, IfSome, OnErr, option_map};
 ghost use Rattle.serde_json.specs.View.{view};
 ghost use Rattle.serde_json.specs.Data.{Data};
-ghost use Rattle.bike_incoming.specs.Asked.{object_of, application_of, request_of, is_method, posted, shown, got, asked_at, asked_for, MayAct, ActsAt, IsToAct, KeepsBounds};
+ghost use Rattle.bike_incoming.specs.Asked.{object_of, application_of, request_of, is_method, posted, shown, got, asked_at, asked_for, MayAct, ActsAt, IsToAct};
 ghost use Rattle.bike_fields.specs.Caller.{HasIdent, caller_meant};
 ghost use Rattle.bike_fields.specs.Reads.{Gives};
 ghost use Rattle.bike_incoming.specs.Bodies.{caller_at, command_by};
@@ -182,7 +182,6 @@ pub fn ask(
     body: &[u8],
 ) -> Result<Asked, AllocError>
     ensures asked { IfOk result (λ asked. asked ≡ asked_for method.now target.now body.now) }
-    ensures good { IfOk result KeepsBounds }
     ensures memory { OnErr result (IsToAct method.now target.now) }
 {
     match routes.find(path_of(target)) {

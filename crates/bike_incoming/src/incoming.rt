@@ -1,7 +1,7 @@
 //! Reading what an input asks for.
 
 ghost use Rattle.std.specs.Prelude.{◌≡◌, ◌≤◌, ◌++◌, [], length, Err, IfOk, IfSome, OnOk};
-ghost use Rattle.bike_incoming.specs.Asked.{Asks, KeepsBounds};
+ghost use Rattle.bike_incoming.specs.Asked.{Asks};
 ghost use Rattle.bike_incoming.specs.Received.{Grew, IsOpened, Opens, Fills, Received, WantsMemory};
 
 use crate::asked::{Asked, ask};
@@ -103,7 +103,6 @@ fn receive_body<R: Read>(
 ) -> Result<Asked, ReceiveFault>
     requires { IsOpened input.old head }
     ensures asks { IfOk result (λ asked. IfSome (R.remaining reader.old) (λ left. Asks (input.old ++ left) asked)) }
-    ensures good { IfOk result KeepsBounds }
     ensures memory { result ≡ Err ReceiveFault.NoMemory
         → IfSome (R.remaining reader.old) (λ left. WantsMemory (input.old ++ left)) }
 {
@@ -132,7 +131,6 @@ pub fn receive<R: Read>(
     reader: &mut R,
 ) -> Result<Option<Asked>, ReceiveFault>
     ensures received { IfOk result (λ asked. IfSome (R.remaining reader.old) (λ input. Received input asked)) }
-    ensures good { IfOk result (λ asked. IfSome asked KeepsBounds) }
     ensures memory { result ≡ Err ReceiveFault.NoMemory → IfSome (R.remaining reader.old) WantsMemory }
 {
     let mut input = Input::new();

@@ -9,7 +9,8 @@ use Rattle.std.proofs.lemmas.List.Splits.{join_with_byte-slice_split}
 use Rattle.bike_fixed.specs.Whole.{number_of, last_moment}
 use Rattle.bike_fixed.proofs.Numbers.{number_sound, number_full}
 use Rattle.bike_fields.specs.Bytes.{is_key, key_of, is_key_byte, is_ident, is_ident_byte, has_length}
-use Rattle.bike_fields.specs.Caller.{IsCaller, caller_text, caller_of}
+use Rattle.bike_fields.specs.Caller.{IsCaller, caller_text, caller_of, caller_meant}
+use Rattle.bike_fields.specs.declared.caller.CallerName.{CallerName}
 use Rattle.bike_fields.specs.declared.caller.Caller.{Caller}
 use Rattle.bike_fields.specs.declared.caller.Caller.TheVariants.{Office, Rider, Dock, Crew, Import}
 use Rattle.bike_fields.proofs.Callers.{caller_sound, caller_full}
@@ -69,6 +70,14 @@ taken read [] x e = absurd cc
 taken {A = A} read (p ∷ ps) x e = option_and_then_some (λ a. Some (a, ps)) (read p) x e (λ a r s.
     let same : (a, ps) ≡ x = same_Some (a, ps) x s in
     record { part = p; first = ap (λ (y : A × Parts). p ∷ y.1) same; value = r ∙ ap (λ (y : A × Parts). Some y.0) same })
+
+-- a caller that was read keeps its bounds, with memory of its own too
+pub kept_good : (ps rest : Parts) (named : CallerName) (r : Result Caller AllocError) → field_at caller_of ps ≡ Some (caller_meant named, rest)
+    → IfOk r (λ c. c ≡ caller_meant named) → IfOk r IsCaller
+kept_good ps rest named (Ok c) read is =
+    let first = taken caller_of ps (caller_meant named, rest) read in
+    subst IsCaller (sym is) (caller_sound first.part (caller_meant named) first.value).0
+kept_good ps rest named (Err refused) read is = tt
 
 -- the parts spell moment, caller, key and command
 pub record IsRequestOf (ps : Parts) (t : ℕ) (q : Request) : Type 0 where

@@ -1,9 +1,8 @@
 -- The text of a plan's segments, as it is written one after the other.
-use Rattle.std.proofs.Common.{◌≡◌, ℕ, List, [], ◌∷◌, ◌++◌, sym, ap, ◌∙◌, subst, ◌+◌, ◌<◌, length, get_or, take, map, append-nil, append_assoc}
-use Rattle.std.proofs.lemmas.List.{take_more}
+use Rattle.std.proofs.Common.{◌≡◌, ℕ, List, [], ◌∷◌, ◌++◌, sym, ap, ◌∙◌, map, append-nil, append_assoc}
 use Rattle.std.specs.List.{join_with_byte}
-use Rattle.bike_attributes.specs.Values.{SegmentRow, IsSegment}
-use Rattle.bike_texts.specs.Fields.{segment_text, segments_text, AreSegments}
+use Rattle.bike_attributes.specs.Values.{SegmentRow}
+use Rattle.bike_texts.specs.Fields.{segment_text, segments_text}
 use Rattle.bike_requests.specs.Writing.{others_text}
 
 joined : (s : SegmentRow) (ss : List SegmentRow) → join_with_byte 59 (map segment_text (s ∷ ss)) ≡ segment_text s ++ others_text ss
@@ -17,14 +16,3 @@ segments_written s ss segments start e =
     append_assoc (start ++ 9 ∷ []) (segment_text s) (others_text ss)
     ∙ (append_assoc start (9 ∷ []) (segment_text s ++ others_text ss)
     ∙ ap (λ (text : List ℕ). start ++ 9 ∷ text) (sym (joined s ss) ∙ ap segments_text (sym e)))
-
-behind : (segments : List SegmentRow) (s : SegmentRow) → AreSegments segments → IsSegment s → AreSegments (segments ++ s ∷ [])
-behind [] s h g = (g, tt)
-behind (t ∷ segments) s h g = (h.0, behind segments s h.1 g)
-
--- the step of a loop over segments
-pub one_more : (segments : List SegmentRow) (i : ℕ) (s : SegmentRow) → s ≡ get_or segments i s → i < length segments
-    → AreSegments (take i segments) → IsSegment s → AreSegments (take (i + 1) segments)
-one_more segments i s is within h g =
-    subst AreSegments (sym (take_more segments i s within))
-    (behind (take i segments) (get_or segments i s) h (subst IsSegment is g))

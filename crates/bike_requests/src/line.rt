@@ -3,11 +3,13 @@
 ghost use Rattle.std.specs.Prelude.{◌≡◌, ◌≤◌, ℕ, IfOk, IfErr, IfSome, Some, Ok, true};
 ghost use Rattle.bike_fixed.specs.Whole.{last_moment};
 ghost use Rattle.bike_commands.specs.declared.request.Request.{Request};
+ghost use Rattle.bike_commands.specs.Commands.{IsCommand};
 ghost use Rattle.bike_commands.specs.Requests.{IsRequest, IsLine};
 ghost use Rattle.bike_requests.specs.Unread.{IsReading};
 ghost use Rattle.bike_requests.specs.RequestReaders.{request_at};
 ghost use Rattle.bike_requests.specs.Spelling.{SpellsRequest};
 ghost use Rattle.bike_fields.specs.Bytes.{is_key};
+ghost use Rattle.bike_fields.specs.Caller.{IsCaller};
 
 use crate::reading::read_rest;
 use crate::unread::{Unread, none_if_bad};
@@ -38,14 +40,22 @@ fn keep_request(
     key: &str,
     command: Command,
 ) -> Result<Request, AllocError>
-    requires { is_key key.now ≡ true }
+    requires caller { IfOk caller IsCaller }
+    requires key { is_key key.now ≡ true }
+    requires command { IsCommand command }
     ensures { IfOk result (λ q. (caller ≡ Ok q.caller) × (q.key ≡ key.now) × (q.command ≡ command)) }
 {
-    keep_names(alloc, caller, key).map(move |(caller, key)| Request {
-        caller,
-        key,
-        command,
-    })
+    keep_names(alloc, caller, key).map(
+        move |(caller, key)|
+            requires { IsRequest (record { caller = caller; key = key; command = command }) }
+        {
+            Request {
+                caller,
+                key,
+                command,
+            }
+        },
+    )
 }
 
 #[tactic(auto, unfolding(crate::specs::RequestReaders::request_at))]

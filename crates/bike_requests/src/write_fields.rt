@@ -1,13 +1,10 @@
 //! Writing fields: each is appended behind a TAB.
 
-ghost use Rattle.std.specs.Prelude.{◌≡◌, ◌≤◌, ◌++◌, ◌∷◌, true, decimal, OnOk, string_bytes, if◌then◌else◌};
+ghost use Rattle.std.specs.Prelude.{◌≡◌, ◌++◌, ◌∷◌, decimal, OnOk, string_bytes, if◌then◌else◌};
 ghost use Rattle.std.specs.Char.{encode_utf8};
 ghost use Rattle.std.specs.Fmt.{signed_decimal};
-ghost use Rattle.bike_fixed.specs.Coordinate.{IsMicro};
 ghost use Rattle.bike_fixed.specs.Text.{micro_text};
-ghost use Rattle.bike_fields.specs.Bytes.{is_ident};
-ghost use Rattle.bike_attributes.specs.Values.{IsSegment};
-ghost use Rattle.bike_texts.specs.Fields.{escapes_of, segment_end_text, segment_text, segments_text, end_text, IdOrNone, field_text, AreSegments, IsEnd, IsGood};
+ghost use Rattle.bike_texts.specs.Fields.{escapes_of, segment_end_text, segment_text, segments_text, end_text, IdOrNone, field_text};
 ghost use Rattle.bike_requests.specs.Writing.{others_text};
 
 use bike_attributes::Segment;
@@ -22,8 +19,7 @@ pub fn put_number<const LO: u32, const HI: u32, K>(
     out: &mut String,
     number: &Within<LO, HI, K>,
 ) -> Result<(), AllocError>
-    ensures text { OnOk result (string_bytes out.new ≡ string_bytes out.old ++ 9 ∷ decimal number.now) }
-    ensures good { OnOk result ((LO ≤ number.now) × (number.now ≤ HI)) }
+    ensures { OnOk result (string_bytes out.new ≡ string_bytes out.old ++ 9 ∷ decimal number.now) }
 {
     out.push('\t')?;
     let mut buffer = Buffer::new();
@@ -40,8 +36,7 @@ pub fn put_text(out: &mut String, text: &str) -> Result<(), AllocError>
 
 /// The identifier as it stands.
 pub fn put_ident(out: &mut String, ident: &Ident) -> Result<(), AllocError>
-    ensures text { OnOk result (string_bytes out.new ≡ string_bytes out.old ++ 9 ∷ ident.now) }
-    ensures good { is_ident ident.now ≡ true }
+    ensures { OnOk result (string_bytes out.new ≡ string_bytes out.old ++ 9 ∷ ident.now) }
 {
     put_text(out, ident.as_str())
 }
@@ -55,16 +50,14 @@ pub fn put_choice(out: &mut String, word: &str, other: &str, holds: bool) -> Res
 
 /// The degrees with six decimals.
 pub fn put_degrees(out: &mut String, coordinate: &Micro) -> Result<(), AllocError>
-    ensures text { OnOk result (string_bytes out.new ≡ string_bytes out.old ++ 9 ∷ micro_text coordinate.now) }
-    ensures good { IsMicro coordinate.now }
+    ensures { OnOk result (string_bytes out.new ≡ string_bytes out.old ++ 9 ∷ micro_text coordinate.now) }
 {
     put_text(out, coordinate.text().as_str())
 }
 
 /// `*` for the depot, else the station's identifier.
 pub fn put_end(out: &mut String, end: &OrderEnd) -> Result<(), AllocError>
-    ensures text { OnOk result (string_bytes out.new ≡ string_bytes out.old ++ 9 ∷ end_text end.now) }
-    ensures good { IsEnd end.now }
+    ensures { OnOk result (string_bytes out.new ≡ string_bytes out.old ++ 9 ∷ end_text end.now) }
 {
     match end {
         OrderEnd::Depot => put_text(out, "*"),
@@ -74,8 +67,7 @@ pub fn put_end(out: &mut String, end: &OrderEnd) -> Result<(), AllocError>
 
 /// `*` for none, else the identifier.
 pub fn put_ident_or_none(out: &mut String, ident: &Option<Ident>) -> Result<(), AllocError>
-    ensures text { OnOk result (string_bytes out.new ≡ string_bytes out.old ++ 9 ∷ field_text (IdOrNone ident.now)) }
-    ensures good { IsGood (IdOrNone ident.now) }
+    ensures { OnOk result (string_bytes out.new ≡ string_bytes out.old ++ 9 ∷ field_text (IdOrNone ident.now)) }
 {
     match ident {
         None => put_text(out, "*"),
@@ -144,8 +136,7 @@ fn push_segment_end(out: &mut String, segment: &Segment) -> Result<(), AllocErro
 
 /// `START:RATE:INTERVAL:END`.
 fn push_segment(out: &mut String, segment: &Segment) -> Result<(), AllocError>
-    ensures text { OnOk result (string_bytes out.new ≡ string_bytes out.old ++ segment_text segment.now) }
-    ensures good { IsSegment segment.now }
+    ensures { OnOk result (string_bytes out.new ≡ string_bytes out.old ++ segment_text segment.now) }
 {
     push_decimal(out, segment.start())?;
     push_rate(out, segment)?;
@@ -155,16 +146,14 @@ fn push_segment(out: &mut String, segment: &Segment) -> Result<(), AllocError>
 
 /// A segment behind a semicolon.
 fn push_other(out: &mut String, segment: &Segment) -> Result<(), AllocError>
-    ensures text { OnOk result (string_bytes out.new ≡ string_bytes out.old ++ 59 ∷ segment_text segment.now) }
-    ensures good { OnOk result (IsSegment segment.now) }
+    ensures { OnOk result (string_bytes out.new ≡ string_bytes out.old ++ 59 ∷ segment_text segment.now) }
 {
     out.push(';')?;
     push_segment(out, segment)
 }
 
 fn push_others(out: &mut String, segments: &[Segment]) -> Result<(), AllocError>
-    ensures text { OnOk result (string_bytes out.new ≡ string_bytes out.old ++ others_text segments.now) }
-    ensures good { OnOk result (AreSegments segments.now) }
+    ensures { OnOk result (string_bytes out.new ≡ string_bytes out.old ++ others_text segments.now) }
 {
     for segment in segments {
         push_other(out, segment)?;
@@ -174,8 +163,7 @@ fn push_others(out: &mut String, segments: &[Segment]) -> Result<(), AllocError>
 
 /// The segments with a semicolon between them, or `-` for none.
 pub fn put_segments(out: &mut String, segments: &[Segment]) -> Result<(), AllocError>
-    ensures text { OnOk result (string_bytes out.new ≡ string_bytes out.old ++ 9 ∷ segments_text segments.now) }
-    ensures good { OnOk result (AreSegments segments.now) }
+    ensures { OnOk result (string_bytes out.new ≡ string_bytes out.old ++ 9 ∷ segments_text segments.now) }
 {
     out.push('\t')?;
     match segments.split_first() {

@@ -2,7 +2,7 @@
 
 ghost use Rattle.std.specs.Prelude.{◌≡◌, ◌++◌, ◌∷◌, [], OnOk, string_bytes};
 ghost use Rattle.bike_fields.specs.declared.numbers.TheConstants.{LONGEST_TIME_TO_LIVE};
-ghost use Rattle.bike_texts.specs.Fields.{Number, Currency, Ascii, fields_text, AreGood};
+ghost use Rattle.bike_texts.specs.Fields.{Number, Currency, Ascii, fields_text};
 ghost use Rattle.bike_commands.specs.declared.command.Command.TheVariants.{SetSystem, AddPlan, AddType, AddStation, AddRegion, AddName, RemoveName, ChangeSystem, MoveStation};
 ghost use Rattle.bike_commands.specs.Commands.{fields_of};
 
@@ -17,10 +17,8 @@ use std::alloc::AllocError;
 /// The system's opening hours, contact and time zone.
 #[tactic(auto, unfolding(bike_texts::specs::Fields::fields_text))]
 fn put_service(out: &mut String, system: &System) -> Result<(), AllocError>
-    ensures text { OnOk result (string_bytes out.new ≡ string_bytes out.old
+    ensures { OnOk result (string_bytes out.new ≡ string_bytes out.old
         ++ fields_text (Ascii system.now.opening_hours ∷ Ascii system.now.feed_contact_email
-        ∷ Ascii system.now.timezone ∷ [])) }
-    ensures good { OnOk result (AreGood (Ascii system.now.opening_hours ∷ Ascii system.now.feed_contact_email
         ∷ Ascii system.now.timezone ∷ [])) }
 {
     put_escaped(out, system.opening_hours().as_str())?;
@@ -31,10 +29,8 @@ fn put_service(out: &mut String, system: &System) -> Result<(), AllocError>
 /// The system's currency, URL and time to live.
 #[tactic(auto, unfolding(bike_texts::specs::Fields::fields_text))]
 fn put_publication(out: &mut String, system: &System) -> Result<(), AllocError>
-    ensures text { OnOk result (string_bytes out.new ≡ string_bytes out.old
+    ensures { OnOk result (string_bytes out.new ≡ string_bytes out.old
         ++ fields_text (Currency system.now.currency ∷ Ascii system.now.base_url
-        ∷ Number 0 LONGEST_TIME_TO_LIVE system.now.ttl ∷ [])) }
-    ensures good { OnOk result (AreGood (Currency system.now.currency ∷ Ascii system.now.base_url
         ∷ Number 0 LONGEST_TIME_TO_LIVE system.now.ttl ∷ [])) }
 {
     put_text(out, system.currency().as_str())?;
@@ -44,9 +40,8 @@ fn put_publication(out: &mut String, system: &System) -> Result<(), AllocError>
 
 #[tactic(auto, unfolding(bike_texts::specs::Fields::fields_text))]
 pub fn put_system(out: &mut String, system: &System) -> Result<(), AllocError>
-    ensures text { OnOk result (string_bytes out.new ≡ string_bytes out.old
+    ensures { OnOk result (string_bytes out.new ≡ string_bytes out.old
         ++ fields_text (fields_of (SetSystem system.now))) }
-    ensures good { OnOk result (AreGood (fields_of (SetSystem system.now))) }
 {
     put_ident(out, system.system_id())?;
     put_text(out, system.language().as_str())?;
@@ -57,8 +52,7 @@ pub fn put_system(out: &mut String, system: &System) -> Result<(), AllocError>
 
 #[tactic(auto, unfolding(bike_texts::specs::Fields::fields_text))]
 pub fn put_plan(out: &mut String, plan: &Plan) -> Result<(), AllocError>
-    ensures text { OnOk result (string_bytes out.new ≡ string_bytes out.old ++ fields_text (fields_of (AddPlan plan.now))) }
-    ensures good { OnOk result (AreGood (fields_of (AddPlan plan.now))) }
+    ensures { OnOk result (string_bytes out.new ≡ string_bytes out.old ++ fields_text (fields_of (AddPlan plan.now))) }
 {
     put_ident(out, plan.plan_id())?;
     put_escaped(out, plan.name().as_str())?;
@@ -70,9 +64,8 @@ pub fn put_plan(out: &mut String, plan: &Plan) -> Result<(), AllocError>
 
 #[tactic(auto, unfolding(bike_texts::specs::Fields::fields_text))]
 pub fn put_type(out: &mut String, vehicle_type: &VehicleType) -> Result<(), AllocError>
-    ensures text { OnOk result (string_bytes out.new ≡ string_bytes out.old
+    ensures { OnOk result (string_bytes out.new ≡ string_bytes out.old
         ++ fields_text (fields_of (AddType vehicle_type.now))) }
-    ensures good { OnOk result (AreGood (fields_of (AddType vehicle_type.now))) }
 {
     put_ident(out, vehicle_type.type_id())?;
     put_escaped(out, vehicle_type.name().as_str())?;
@@ -84,9 +77,8 @@ pub fn put_type(out: &mut String, vehicle_type: &VehicleType) -> Result<(), Allo
 
 #[tactic(auto, unfolding(bike_texts::specs::Fields::fields_text))]
 pub fn put_station(out: &mut String, station: &Station) -> Result<(), AllocError>
-    ensures text { OnOk result (string_bytes out.new ≡ string_bytes out.old
+    ensures { OnOk result (string_bytes out.new ≡ string_bytes out.old
         ++ fields_text (fields_of (AddStation station.now))) }
-    ensures good { OnOk result (AreGood (fields_of (AddStation station.now))) }
 {
     put_ident(out, station.station_id())?;
     put_escaped(out, station.name().as_str())?;
@@ -97,9 +89,8 @@ pub fn put_station(out: &mut String, station: &Station) -> Result<(), AllocError
 
 #[tactic(auto, unfolding(bike_texts::specs::Fields::fields_text))]
 pub fn put_region(out: &mut String, region: &Region) -> Result<(), AllocError>
-    ensures text { OnOk result (string_bytes out.new ≡ string_bytes out.old
+    ensures { OnOk result (string_bytes out.new ≡ string_bytes out.old
         ++ fields_text (fields_of (AddRegion region.now))) }
-    ensures good { OnOk result (AreGood (fields_of (AddRegion region.now))) }
 {
     put_ident(out, region.region_id())?;
     put_escaped(out, region.name().as_str())
@@ -113,9 +104,8 @@ pub fn put_named(
     id: &Ident,
     language: &Language,
 ) -> Result<(), AllocError>
-    ensures text { OnOk result (string_bytes out.new ≡ string_bytes out.old
+    ensures { OnOk result (string_bytes out.new ≡ string_bytes out.old
         ++ fields_text (fields_of (RemoveName kind id.now language.now))) }
-    ensures good { OnOk result (AreGood (fields_of (RemoveName kind id.now language.now))) }
 {
     put_text(out, kind.as_str())?;
     put_ident(out, id)?;
@@ -131,9 +121,8 @@ pub fn put_name(
     language: &Language,
     name: &Name,
 ) -> Result<(), AllocError>
-    ensures text { OnOk result (string_bytes out.new ≡ string_bytes out.old
+    ensures { OnOk result (string_bytes out.new ≡ string_bytes out.old
         ++ fields_text (fields_of (AddName kind id.now language.now name.now))) }
-    ensures good { OnOk result (AreGood (fields_of (AddName kind id.now language.now name.now))) }
 {
     put_named(out, kind, id, language)?;
     put_escaped(out, name.as_str())
@@ -141,9 +130,8 @@ pub fn put_name(
 
 #[tactic(auto, unfolding(bike_texts::specs::Fields::fields_text))]
 pub fn put_settings(out: &mut String, settings: &Settings) -> Result<(), AllocError>
-    ensures text { OnOk result (string_bytes out.new ≡ string_bytes out.old
+    ensures { OnOk result (string_bytes out.new ≡ string_bytes out.old
         ++ fields_text (fields_of (ChangeSystem settings.now))) }
-    ensures good { OnOk result (AreGood (fields_of (ChangeSystem settings.now))) }
 {
     put_escaped(out, settings.name().as_str())?;
     put_escaped(out, settings.opening_hours().as_str())?;
@@ -159,9 +147,8 @@ pub fn put_position(
     station: &Ident,
     position: &Position,
 ) -> Result<(), AllocError>
-    ensures text { OnOk result (string_bytes out.new ≡ string_bytes out.old
+    ensures { OnOk result (string_bytes out.new ≡ string_bytes out.old
         ++ fields_text (fields_of (MoveStation station.now position.now))) }
-    ensures good { OnOk result (AreGood (fields_of (MoveStation station.now position.now))) }
 {
     put_ident(out, station)?;
     put_degrees(out, &position.lat())?;

@@ -1,7 +1,7 @@
 //! Writing the text of a command.
 
 ghost use Rattle.std.specs.Prelude.{◌≡◌, ◌++◌, ℕ, List, IfOk, OnOk, string_bytes};
-ghost use Rattle.bike_texts.specs.Fields.{fields_text, side_text, AreGood};
+ghost use Rattle.bike_texts.specs.Fields.{fields_text, side_text};
 ghost use Rattle.bike_commands.specs.declared.command.Command.{Command};
 ghost use Rattle.bike_commands.specs.declared.command.Command.TheVariants.{SetStation, MarkDock, Start, End, OpenOrder, Load, Unload};
 ghost use Rattle.bike_commands.specs.Commands.{text_of, word_of, fields_of, IsCommand, IsSpelling, IsWrittenSpelling};
@@ -75,9 +75,8 @@ fn put_flags(
     renting: bool,
     returning: bool,
 ) -> Result<(), AllocError>
-    ensures text { OnOk result (string_bytes out.new ≡ string_bytes out.old
+    ensures { OnOk result (string_bytes out.new ≡ string_bytes out.old
         ++ fields_text (fields_of (SetStation station.now installed renting returning))) }
-    ensures good { OnOk result (AreGood (fields_of (SetStation station.now installed renting returning))) }
 {
     put_ident(out, station)?;
     put_choice(out, "true", "false", installed)?;
@@ -94,9 +93,8 @@ fn put_order(
     type_id: &Ident,
     count: &OrderQuantity,
 ) -> Result<(), AllocError>
-    ensures text { OnOk result (string_bytes out.new ≡ string_bytes out.old
+    ensures { OnOk result (string_bytes out.new ≡ string_bytes out.old
         ++ fields_text (fields_of (OpenOrder truck.now from_end.now to_end.now type_id.now count.now))) }
-    ensures good { OnOk result (AreGood (fields_of (OpenOrder truck.now from_end.now to_end.now type_id.now count.now))) }
 {
     put_number(out, truck)?;
     put_end(out, from_end)?;
@@ -114,9 +112,8 @@ fn put_unloading(
     side: Side,
     dock: &UnloadDock,
 ) -> Result<(), AllocError>
-    ensures text { OnOk result (string_bytes out.new ≡ string_bytes out.old
+    ensures { OnOk result (string_bytes out.new ≡ string_bytes out.old
         ++ fields_text (fields_of (Unload truck.now order.now bike.now side dock.now))) }
-    ensures good { OnOk result (AreGood (fields_of (Unload truck.now order.now bike.now side dock.now))) }
 {
     put_number(out, truck)?;
     put_number(out, order)?;
@@ -137,7 +134,6 @@ fn put_at_dock<K>(
         ++ fields_text (fields_of (Start number.now station.now dock.now))) }
     ensures end { OnOk result (string_bytes out.new ≡ string_bytes out.old
         ++ fields_text (fields_of (End number.now station.now dock.now))) }
-    ensures good { OnOk result (AreGood (fields_of (Start number.now station.now dock.now))) }
 {
     put_number(out, number)?;
     put_ident(out, station)?;
@@ -151,9 +147,8 @@ fn put_mark(
     dock: &DockNumber,
     broken: bool,
 ) -> Result<(), AllocError>
-    ensures text { OnOk result (string_bytes out.new ≡ string_bytes out.old
+    ensures { OnOk result (string_bytes out.new ≡ string_bytes out.old
         ++ fields_text (fields_of (MarkDock station.now dock.now broken))) }
-    ensures good { OnOk result (AreGood (fields_of (MarkDock station.now dock.now broken))) }
 {
     put_ident(out, station)?;
     put_number(out, dock)?;
@@ -167,9 +162,8 @@ fn put_loading(
     order: &OrderNumber,
     bike: &BicycleNumber,
 ) -> Result<(), AllocError>
-    ensures text { OnOk result (string_bytes out.new ≡ string_bytes out.old
+    ensures { OnOk result (string_bytes out.new ≡ string_bytes out.old
         ++ fields_text (fields_of (Load truck.now order.now bike.now))) }
-    ensures good { OnOk result (AreGood (fields_of (Load truck.now order.now bike.now))) }
 {
     put_number(out, truck)?;
     put_number(out, order)?;
@@ -178,8 +172,7 @@ fn put_loading(
 
 #[tactic(auto, unfolding(bike_texts::specs::Fields::fields_text))]
 fn put_fields(out: &mut String, command: &Command) -> Result<(), AllocError>
-    ensures text { OnOk result (string_bytes out.new ≡ string_bytes out.old ++ fields_text (fields_of command.now)) }
-    ensures good { OnOk result (AreGood (fields_of command.now)) }
+    ensures { OnOk result (string_bytes out.new ≡ string_bytes out.old ++ fields_text (fields_of command.now)) }
 {
     match command {
         Command::SetSystem(system) => put_system(out, system),
@@ -284,8 +277,7 @@ fn put_fields(out: &mut String, command: &Command) -> Result<(), AllocError>
 /// The command's text: its word and its fields, joined by TABs. Coordinates have six decimals. An error
 /// where memory was refused.
 pub fn command_text(alloc: Global, command: &Command) -> Result<String, AllocError>
-    ensures text { IfOk result (λ text. string_bytes text ≡ text_of command.now) }
-    ensures good { OnOk result (IsCommand command.now) }
+    ensures { IfOk result (λ text. string_bytes text ≡ text_of command.now) }
 {
     let mut out = String::new(alloc);
     out.push_str(word(command))?;

@@ -1,4 +1,4 @@
-use Rattle.std.proofs.Common.{◌≡◌, OnOk, inl, Some, None, refl, ap₂, ◌∙◌, subst, subst₂, arith}
+use Rattle.std.proofs.Common.{◌≡◌, OnOk, inl, Some, None, refl, ap, ap₂, ◌∙◌, subst, subst₂, arith}
 use Rattle.std.specs.FinMap as map
 use Rattle.sqlite.specs.State.{HasCleanDisk}
 use Rattle.sqlite.specs.Held.{state}
@@ -23,7 +23,7 @@ returns-in-Some-clause-ok g c clean s keeps remembers =
     let q = c.args.request.now in
     let old = state g.S.Store c.args.conn.now in
     let ours = kept_ours old s keeps in
-    let key : key_of c.as_str-caller.result.now c.as_str.result.now ≡ key_in q = ap₂ key_of (c.as_str-caller.ensures.value ∙ c.text-caller.ensures.text) c.as_str.ensures.text in
+    let key : key_of c.as_str-caller.result.now c.as_str.result.now ≡ key_in q = ap₂ key_of (c.as_str-caller.ensures.value ∙ c.text-caller.ensures.text) c.as_str.ensures.text ∙ ap key_in c.request.view_is in
     let found = c.in_ok-kept.ensures.found clean ours s (kept_stores old s keeps) in
     let same : KeepsSame (map.get s.kept (key_in q)) (Some c.in-Some.kept) = subst₂ (λ k o. KeepsSame (map.get s.kept k) o) key c.in-Some.is found in
     let it = step_kept s c.args.moment q (map.get s.kept (key_in q)) c.in-Some.kept c.args.text.now refl same c.requires.text in
@@ -38,7 +38,7 @@ returns-in-None-clause-ok g c clean s keeps remembers =
     let q = c.args.request.now in
     let old = state g.S.Store c.args.conn.now in
     let ours = kept_ours old s keeps in
-    let key : key_of c.as_str-caller.result.now c.as_str.result.now ≡ key_in q = ap₂ key_of (c.as_str-caller.ensures.value ∙ c.text-caller.ensures.text) c.as_str.ensures.text in
+    let key : key_of c.as_str-caller.result.now c.as_str.result.now ≡ key_in q = ap₂ key_of (c.as_str-caller.ensures.value ∙ c.text-caller.ensures.text) c.as_str.ensures.text ∙ ap key_in c.request.view_is in
     let seen : HasCleanDisk (state g.S.Store c.find_kept.new.conn) = omega (arith, clean, c.serve_anew.ensures.clean) in
     let found = c.in_ok-kept.ensures.found seen ours s (kept_stores old s keeps) in
     let same : KeepsSame (map.get s.kept (key_in q)) None = subst₂ (λ k o. KeepsSame (map.get s.kept k) o) key c.in-None.is found in
@@ -49,7 +49,7 @@ returns-in-None-clause-failed g c clean s keeps remembers =
     let q = c.args.request.now in
     let old = state g.S.Store c.args.conn.now in
     let ours = kept_ours old s keeps in
-    let key : key_of c.as_str-caller.result.now c.as_str.result.now ≡ key_in q = ap₂ key_of (c.as_str-caller.ensures.value ∙ c.text-caller.ensures.text) c.as_str.ensures.text in
+    let key : key_of c.as_str-caller.result.now c.as_str.result.now ≡ key_in q = ap₂ key_of (c.as_str-caller.ensures.value ∙ c.text-caller.ensures.text) c.as_str.ensures.text ∙ ap key_in c.request.view_is in
     let seen : HasCleanDisk (state g.S.Store c.find_kept.new.conn) = omega (arith, clean, c.serve_anew.ensures.clean) in
     let found = c.in_ok-kept.ensures.found seen ours s (kept_stores old s keeps) in
     let same : KeepsSame (map.get s.kept (key_in q)) None = subst₂ (λ k o. KeepsSame (map.get s.kept k) o) key c.in-None.is found in
@@ -63,7 +63,7 @@ returns-in-None-clause-others g c clean s keeps remembers =
     let q = c.args.request.now in
     let old = state g.S.Store c.args.conn.now in
     let ours = kept_ours old s keeps in
-    let key : key_of c.as_str-caller.result.now c.as_str.result.now ≡ key_in q = ap₂ key_of (c.as_str-caller.ensures.value ∙ c.text-caller.ensures.text) c.as_str.ensures.text in
+    let key : key_of c.as_str-caller.result.now c.as_str.result.now ≡ key_in q = ap₂ key_of (c.as_str-caller.ensures.value ∙ c.text-caller.ensures.text) c.as_str.ensures.text ∙ ap key_in c.request.view_is in
     let seen : HasCleanDisk (state g.S.Store c.find_kept.new.conn) = omega (arith, clean, c.serve_anew.ensures.clean) in
     let read = c.in_ok-kept.ensures.same seen ours in
     let found = c.in_ok-kept.ensures.found seen ours s (kept_stores old s keeps) in
@@ -79,7 +79,7 @@ returns-in-None-clause-rests g c clean s keeps remembers rests =
     let q = c.args.request.now in
     let old = state g.S.Store c.args.conn.now in
     let ours = kept_ours old s keeps in
-    let key : key_of c.as_str-caller.result.now c.as_str.result.now ≡ key_in q = ap₂ key_of (c.as_str-caller.ensures.value ∙ c.text-caller.ensures.text) c.as_str.ensures.text in
+    let key : key_of c.as_str-caller.result.now c.as_str.result.now ≡ key_in q = ap₂ key_of (c.as_str-caller.ensures.value ∙ c.text-caller.ensures.text) c.as_str.ensures.text ∙ ap key_in c.request.view_is in
     let seen : HasCleanDisk (state g.S.Store c.find_kept.new.conn) = omega (arith, clean, c.serve_anew.ensures.clean) in
     let read = c.in_ok-kept.ensures.same seen ours in
     let found = c.in_ok-kept.ensures.found seen ours s (kept_stores old s keeps) in

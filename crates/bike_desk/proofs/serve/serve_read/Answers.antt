@@ -1,6 +1,7 @@
 use Rattle.std.proofs.Common.{Ok, Some, refl, sym, ap, ◌∙◌, subst}
 use Rattle.sqlite.specs.Held.{state}
 use Rattle.bike_commands.specs.declared.reply.Reply.{Reply}
+use Rattle.bike_commands.specs.declared.request.Request.{Request}
 use Rattle.bike_commands.specs.declared.reply.Reply.TheVariants.{Refused}
 use Rattle.bike_commands.specs.Replies.{reply_text}
 use Rattle.bike_operator.specs.Operator.{Operator}
@@ -16,59 +17,60 @@ use Rattle.bike_desk.proofs.ServeLemmas.{acceptance_moves, step_refused, step_ac
 use Rattle.bike_desk.proofs.serve.serve_read.Goals as goal
 
 pub returns-in-Err-clause-ok : goal.returns-in-Err-clause-ok
-returns-in-Err-clause-ok g c clean s t keeps it =
-    let q = c.args.asked.request.now in
+returns-in-Err-clause-ok g c = rw (sym c.request.view_is) (λ clean s t keeps it.
+    let q : Request = record { caller = c.request.inside.caller; key = c.request.inside.key; command = c.request.inside.command } in
     let is = step_refused s t q c.args.now it.later it.anew c.in-Err.refusal (c.in-Err.ensures.decides s it.view_is) in
     let served : Served = record { reply = Refused c.in-Err.refusal; figures = Some c.args.figures.now } in
-    subst (λ (p : Reply × Operator). Serves (state g.S.Store c.args.conn.now) p served) (sym is) (record { reply = refl; keeps = keeps; figures = it.figures_are })
+    subst (λ (p : Reply × Operator). Serves (state g.S.Store c.args.conn.now) p served) (sym is) (record { reply = refl; keeps = keeps; figures = it.figures_are }))
 
 pub returns-in_err-store_accepted-in-Ok-clause-failed : goal.returns-in_err-store_accepted-in-Ok-clause-failed
-returns-in_err-store_accepted-in-Ok-clause-failed g c clean s t keeps it =
-    let q = c.args.asked.request.now in
+returns-in_err-store_accepted-in-Ok-clause-failed g c = rw (sym c.request.view_is) (λ clean s t keeps it.
+    let q : Request = record { caller = c.request.inside.caller; key = c.request.inside.key; command = c.request.inside.command } in
     let decides : Decides s c.args.now q.command (Ok c.in-Ok.accepted) = c.in-Ok.ensures.decides s it.view_is in
     let sound = (kept_stores (state g.S.Store c.args.conn.now) s keeps).sound in
     let found = c.in-Ok.ensures.found s sound it.view_is in
     let told : AreTexts s c.args.now q (record { caller = c.args.asked.caller; key = c.as_str-key.result; command = c.args.asked.text; reply = c.as_str.result }) =
-    record { caller = c.requires.asked.caller; key = c.as_str-key.ensures.text; command = c.requires.asked.text; reply = c.as_str.ensures.value ∙ c.text-spelled.ensures ∙ ap reply_text decides.1 } in
-    let after = later_read (state g.S.Store c.args.conn.now).now s t c.args.now q c.args.figures.now c.args.sight.now c.in-Ok.accepted c.books_accepted.ensures.sums sound it c.requires.asked.good decides c.after-after.ensures in
-    let accepts = accepts_read (state g.S.Store c.args.conn.now).now s t c.args.now q c.args.figures.now c.args.sight.now c.in-Ok.accepted c.after-after.result _ sound it c.requires.asked.good decides found after told in
+    record { caller = rw (sym c.request.view_is) at c.requires.asked.caller; key = c.as_str-key.ensures.text; command = rw (sym c.request.view_is) at c.requires.asked.text; reply = c.as_str.ensures.value ∙ c.text-spelled.ensures ∙ ap reply_text decides.1 } in
+    let after = later_read (state g.S.Store c.args.conn.now).now s t c.args.now q c.args.figures.now c.args.sight.now c.in-Ok.accepted c.books_accepted.ensures.sums sound it c.request.invariant decides c.after-after.ensures in
+    let accepts = accepts_read (state g.S.Store c.args.conn.now).now s t c.args.now q c.args.figures.now c.args.sight.now c.in-Ok.accepted c.after-after.result _ sound it c.request.invariant decides found after told in
     let left = c.store_accepted.ensures.left clean s q keeps it.sight accepts in
-    on_err _ (subst (λ (p : Reply × Operator). AllLeft (state g.S.Store c.store_accepted.new.conn) (TreesStandForEither s p.1)) (sym (step_accepted s t q c.args.now it.later it.anew decides.0)) left)
+    on_err _ (subst (λ (p : Reply × Operator). AllLeft (state g.S.Store c.store_accepted.new.conn) (TreesStandForEither s p.1)) (sym (step_accepted s t q c.args.now it.later it.anew decides.0)) left))
 
 pub returns-in_ok-store_accepted-in-Ok-clause-ok : goal.returns-in_ok-store_accepted-in-Ok-clause-ok
-returns-in_ok-store_accepted-in-Ok-clause-ok g c clean s t keeps it =
-    let q = c.args.asked.request.now in
+returns-in_ok-store_accepted-in-Ok-clause-ok g c = rw (sym c.request.view_is) (λ clean s t keeps it.
+    let q : Request = record { caller = c.request.inside.caller; key = c.request.inside.key; command = c.request.inside.command } in
     let decides : Decides s c.args.now q.command (Ok c.in-Ok.accepted) = c.in-Ok.ensures.decides s it.view_is in
     let sound = (kept_stores (state g.S.Store c.args.conn.now) s keeps).sound in
     let found = c.in-Ok.ensures.found s sound it.view_is in
     let told : AreTexts s c.args.now q (record { caller = c.args.asked.caller; key = c.as_str-key.result; command = c.args.asked.text; reply = c.as_str.result }) =
-    record { caller = c.requires.asked.caller; key = c.as_str-key.ensures.text; command = c.requires.asked.text; reply = c.as_str.ensures.value ∙ c.text-spelled.ensures ∙ ap reply_text decides.1 } in
-    let after = later_read (state g.S.Store c.args.conn.now).now s t c.args.now q c.args.figures.now c.args.sight.now c.in-Ok.accepted c.books_accepted.ensures.sums sound it c.requires.asked.good decides c.after-after.ensures in
-    let accepts = accepts_read (state g.S.Store c.args.conn.now).now s t c.args.now q c.args.figures.now c.args.sight.now c.in-Ok.accepted c.after-after.result _ sound it c.requires.asked.good decides found after told in
+    record { caller = rw (sym c.request.view_is) at c.requires.asked.caller; key = c.as_str-key.ensures.text; command = rw (sym c.request.view_is) at c.requires.asked.text; reply = c.as_str.ensures.value ∙ c.text-spelled.ensures ∙ ap reply_text decides.1 } in
+    let after = later_read (state g.S.Store c.args.conn.now).now s t c.args.now q c.args.figures.now c.args.sight.now c.in-Ok.accepted c.books_accepted.ensures.sums sound it c.request.invariant decides c.after-after.ensures in
+    let accepts = accepts_read (state g.S.Store c.args.conn.now).now s t c.args.now q c.args.figures.now c.args.sight.now c.in-Ok.accepted c.after-after.result _ sound it c.request.invariant decides found after told in
     let made = c.in_ok-store_accepted-in-Ok.ensures.made clean s q keeps it.sight accepts in
     let figures = figures_read s c.args.now q c.in-Ok.accepted c.books_accepted.ensures.figures it.figures_are decides found after in
     let step_is = step_accepted s t q c.args.now it.later it.anew decides.0 in
     let served : Served = record { reply = c.in-Ok.accepted.reply; figures = Some c.after-after.result } in
-    subst (λ (p : Reply × Operator). Serves (state g.S.Store c.store_accepted.new.conn) p served) (sym step_is) (record { reply = decides.1; keeps = made; figures = figures })
+    subst (λ (p : Reply × Operator). Serves (state g.S.Store c.store_accepted.new.conn) p served) (sym step_is) (record { reply = decides.1; keeps = made; figures = figures }))
 
 pub returns-in-Err-clause-others : goal.returns-in-Err-clause-others
 returns-in-Err-clause-others g c clean s t keeps it = others_same _ _ refl
 
 pub returns-in_ok-store_accepted-in-Ok-clause-others : goal.returns-in_ok-store_accepted-in-Ok-clause-others
-returns-in_ok-store_accepted-in-Ok-clause-others g c clean s t keeps it =
-    let q = c.args.asked.request.now in
+returns-in_ok-store_accepted-in-Ok-clause-others g c = rw (sym c.request.view_is) (λ clean s t keeps it.
+    let q : Request = record { caller = c.request.inside.caller; key = c.request.inside.key; command = c.request.inside.command } in
     let decides : Decides s c.args.now q.command (Ok c.in-Ok.accepted) = c.in-Ok.ensures.decides s it.view_is in
     let sound = (kept_stores (state g.S.Store c.args.conn.now) s keeps).sound in
     let found = c.in-Ok.ensures.found s sound it.view_is in
     let told : AreTexts s c.args.now q (record { caller = c.args.asked.caller; key = c.as_str-key.result; command = c.args.asked.text; reply = c.as_str.result }) =
-    record { caller = c.requires.asked.caller; key = c.as_str-key.ensures.text; command = c.requires.asked.text; reply = c.as_str.ensures.value ∙ c.text-spelled.ensures ∙ ap reply_text decides.1 } in
-    let after = later_read (state g.S.Store c.args.conn.now).now s t c.args.now q c.args.figures.now c.args.sight.now c.in-Ok.accepted c.books_accepted.ensures.sums sound it c.requires.asked.good decides c.after-after.ensures in
-    let accepts = accepts_read (state g.S.Store c.args.conn.now).now s t c.args.now q c.args.figures.now c.args.sight.now c.in-Ok.accepted c.after-after.result _ sound it c.requires.asked.good decides found after told in
-    c.in_ok-store_accepted-in-Ok.ensures.others clean s q keeps it.sight accepts
+    record { caller = rw (sym c.request.view_is) at c.requires.asked.caller; key = c.as_str-key.ensures.text; command = rw (sym c.request.view_is) at c.requires.asked.text; reply = c.as_str.ensures.value ∙ c.text-spelled.ensures ∙ ap reply_text decides.1 } in
+    let after = later_read (state g.S.Store c.args.conn.now).now s t c.args.now q c.args.figures.now c.args.sight.now c.in-Ok.accepted c.books_accepted.ensures.sums sound it c.request.invariant decides c.after-after.ensures in
+    let accepts = accepts_read (state g.S.Store c.args.conn.now).now s t c.args.now q c.args.figures.now c.args.sight.now c.in-Ok.accepted c.after-after.result _ sound it c.request.invariant decides found after told in
+    c.in_ok-store_accepted-in-Ok.ensures.others clean s q keeps it.sight accepts)
 
 pub returns-in-Err-clause-rests : goal.returns-in-Err-clause-rests
 returns-in-Err-clause-rests g c clean s t keeps it same = refl
 
 pub returns-in_ok-store_accepted-in-Ok-clause-rests : goal.returns-in_ok-store_accepted-in-Ok-clause-rests
-returns-in_ok-store_accepted-in-Ok-clause-rests g c clean s t keeps it same =
-    absurd (acceptance_moves s t c.args.asked.request.now it.anew (c.in-Ok.ensures.decides s it.view_is).0 same)
+returns-in_ok-store_accepted-in-Ok-clause-rests g c = rw (sym c.request.view_is) (λ clean s t keeps it same.
+    let q : Request = record { caller = c.request.inside.caller; key = c.request.inside.key; command = c.request.inside.command } in
+    absurd (acceptance_moves s t q it.anew (c.in-Ok.ensures.decides s it.view_is).0 same))

@@ -1,4 +1,5 @@
-use Rattle.std.proofs.Common.{Err, inr, refl, ap}
+use Rattle.std.proofs.Common.{Err, inr, refl, ap, subst}
+use Rattle.bike_commands.specs.Requests.{IsRequest}
 use Rattle.bike_feeds.specs.DeskFault.{DeskFault}
 use Rattle.bike_http.proofs.Told.{act_undone, act_rests}
 use Rattle.bike_http.proofs.respond.act.Goals as goal
@@ -22,7 +23,7 @@ returns-in-Err-clause-rests g c clean s at leaves =
     (λ e. h.stops (ap (λ (x : DeskFault). Err x) e)) (λ e. h.stopped (ap (λ (x : DeskFault). Err x) e))
 
 pub returns-in-Ok-clause-good : goal.returns-in-Ok-clause-good
-returns-in-Ok-clause-good g c = record { moment = c.bounds.ensures; request = c.requires }
+returns-in-Ok-clause-good g c = record { moment = c.bounds.ensures; request = subst IsRequest c.request.view_is c.request.invariant }
 
 pub returns-in-Err-clause-good : goal.returns-in-Err-clause-good
-returns-in-Err-clause-good g c = record { moment = c.bounds.ensures; request = c.requires }
+returns-in-Err-clause-good g c = record { moment = c.bounds.ensures; request = subst IsRequest c.request.view_is c.request.invariant }
