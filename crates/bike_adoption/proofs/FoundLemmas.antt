@@ -183,6 +183,17 @@ module _ {S : Type 0} (g : Ghosts S) (settles : Settles g) (old mid : Held S) (o
         by (finding.Newer version) = tt
         by finding.Empty = tt
 
+    pub found_same : IfOk (found_as mid found) (λ d. HasCleanDisk (desk_state g d) → IsUnchanged (state g old) (desk_state g d))
+    found_same = by found
+      where
+        by : (f : Finding) → IfOk (found_as mid f) (λ d. HasCleanDisk (desk_state g d) → IsUnchanged (state g old) (desk_state g d))
+        by finding.Sound = same_after
+        by finding.Foreign = tt
+        by (finding.Unsound bad) = tt
+        by (finding.Older version) = tt
+        by (finding.Newer version) = tt
+        by finding.Empty = tt
+
     pub found_at : (s : Operator) → TreesStandFor s (state g old).now.trees → IfOk (found_as mid found) (λ d. HasCleanDisk (desk_state g d) → IsAt g d s)
     found_at s stands = by found audited
       where

@@ -9,6 +9,7 @@ use Rattle.sqlite.specs.State.{State, HasCleanDisk, IsUnchanged, Shows}
 use Rattle.bike_operator.specs.Operator.{Operator, no_operator}
 use Rattle.bike_schema.specs.Makes.{OthersStay}
 use Rattle.bike_schema.specs.Creates.{IsFresh}
+use Rattle.bike_schema.specs.Indexes.{HasRoom}
 use Rattle.bike_schema.specs.Tables.{HasNone}
 use Rattle.bike_recognition.specs.declared.table.TableName.{TableName as Table}
 use Rattle.bike_recognition.specs.declared.stands.TheConstants.{EVERY_TABLE}
@@ -90,11 +91,11 @@ module _ {S : Type 0} where
   abbrev pub found_as : Held S → Finding → Result (DeskValue S) (AdoptFault S)
   found_as c found = found_by c (cause_of found)
 
-  -- the empty tables were made, beside all others
+  -- the empty tables were made with their indexes, beside all others
   pub record Begins (g : Ghosts S) (old : Held S) (d : DeskValue S) : Type 0 where
     pub was_open : IsTrue (state g old).is_open
     pub at : IsAt g d no_operator
-    pub others : OthersStay (state g old).now (desk_state g d).now
+    pub fresh : IsFresh (state g old).now (desk_state g d).now
 
   -- a fault of a statement
   abbrev pub IsOfStatement : AdoptFault S → Type 0
@@ -144,6 +145,12 @@ module _ {S : Type 0} where
         (λ e. doubt (state g old).is_clean ≤ doubt (state g (handed e)).is_clean)
     pub only : IfOk result (λ d. HasCleanDisk (desk_state g d) → (s : Operator) × IsOf (state g old).now s × IsAt g d s)
     pub others : IfOk result (λ d. HasCleanDisk (desk_state g d) → OthersStay (state g old).now (desk_state g d).now)
+    -- a database with none of the tables gets them with their indexes, where nothing had one of their names
+    pub begun : HasNone (state g old).now.schema → IfOk result (λ d. HasCleanDisk (desk_state g d) → Begins g old d)
+    pub room : HasNone (state g old).now.schema → IfOk result (λ _. HasRoom (state g old).now.schema)
+    -- any other is as it was
+    pub same : ¬ HasNone (state g old).now.schema
+        → IfOk result (λ d. HasCleanDisk (desk_state g d) → IsUnchanged (state g old) (desk_state g d))
     pub found : (s : Operator) → TreesStandFor s (state g old).now.trees
         → IfOk result (λ d. HasCleanDisk (desk_state g d) → IsAt g d s)
     -- tables that stand for an operator are refused for memory or storage alone
@@ -187,6 +194,8 @@ module _ {S : Type 0} where
     pub clean : MatchResult result (λ l. doubt (state g old).is_clean ≤ doubt (state g (looked_at l)).is_clean)
         (λ e. doubt (state g old).is_clean ≤ doubt (state g (handed e)).is_clean)
     pub seen : IfOk result (λ l. HasCleanDisk (state g (looked_at l)) → IsSeen g old l)
+    -- one with none of the tables may be served only where nothing has a name that they or their indexes take
+    pub room : HasNone (state g old).now.schema → IfOk result (λ _. HasRoom (state g old).now.schema)
     -- tables that stand for an operator are refused for memory or storage alone
     pub refused : (s : Operator) → TreesStandFor s (state g old).now.trees
         → IfErr result (λ e. HasCleanDisk (state g (handed e)) → IsWant e)

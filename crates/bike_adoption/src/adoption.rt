@@ -5,6 +5,7 @@ ghost use Rattle.sqlite.specs.State.{HasCleanDisk};
 ghost use Rattle.sqlite.specs.Held.{state};
 ghost use Rattle.sqlite_trees.specs.View.{doubt};
 ghost use Rattle.bike_operator.specs.Operator.{Operator};
+ghost use Rattle.bike_schema.specs.Indexes.{HasRoom};
 ghost use Rattle.bike_schema.specs.Tables.{HasNone};
 ghost use Rattle.bike_schema.specs.Stands.{TreesStandFor};
 ghost use Rattle.bike_desk.specs.Desk.{desk_state};
@@ -15,7 +16,7 @@ use crate::tables::make_tables;
 use bike_audit::{BadRow, Finding, Unwatched, Watch, audit};
 use bike_desk::Desk;
 use bike_rows::inside::is_at_rest;
-use bike_schema::{StatementFault, has_none};
+use bike_schema::{StatementFault, has_none, has_room};
 use sqlite::{Alter, Connection};
 use std::alloc::Global;
 use std::error::Error;
@@ -112,7 +113,7 @@ pub(crate) fn cause_of(finding: Finding) -> Option<AdoptCause>
     }
 }
 
-/// Makes the tables in a database that has none of them, in one transaction.
+/// Makes the tables in a database that has none of them, in one transaction. Where it has no room for them the store fails.
 fn begin<S: Alter>(mut conn: Connection<S>) -> Result<Desk<S>, AdoptFault<S>>
     requires { conn.in_transaction ≡ false }
     ensures clean { MatchResult result
@@ -120,6 +121,7 @@ fn begin<S: Alter>(mut conn: Connection<S>) -> Result<Desk<S>, AdoptFault<S>>
         (λ e. doubt (state S.Store conn).is_clean ≤ doubt (state S.Store e.conn).is_clean) }
     ensures begun { HasNone (state S.Store conn).now.schema
         → IfOk result (λ d. HasCleanDisk (desk_state S.Store d) → Begins S.Store conn d) }
+    ensures room { IfOk result (λ _. HasRoom (state S.Store conn).now.schema) }
     ensures told { IfErr result IsOfStatement }
     ensures autocommit { IfErr result (λ e. e.conn.in_transaction ≡ false) }
     ensures crash { HasNone (state S.Store conn).now.schema
@@ -127,6 +129,9 @@ fn begin<S: Alter>(mut conn: Connection<S>) -> Result<Desk<S>, AdoptFault<S>>
         → IfErr result (λ e. LeavesOrStands S.Store conn s e.conn) }
 {
     is_at_rest(&conn);
+    if !has_room(&conn) {
+        return Err(AdoptFault::failed(StatementFault::StoreFailed, conn));
+    }
     match make_tables(&mut conn) {
         Ok(()) => Ok(Desk::over(conn)),
         Err(fault) => Err(AdoptFault::failed(fault, conn)),
@@ -144,8 +149,9 @@ fn found<S: Alter>(conn: Connection<S>, finding: Finding) -> Result<Desk<S>, Ado
 }
 
 /// Takes a connection outside a transaction into service. A database with none of the product's tables, and no
-/// foreign key that names one, gets them in one transaction, and the desk begins with the operator of which nothing was
-/// asked. Of any other database the tables are audited, and the desk stands for their operator, if there is one. Tables
+/// foreign key that names one, gets them with their indexes in one transaction, and the desk begins with the operator of
+/// which nothing was asked; where something else has a name that they take, the store fails, and nothing is changed. Of any
+/// other database the tables are audited, and nothing is changed: the desk stands for their operator, if there is one. Tables
 /// of other names stay. A fault tells what the database is, or that memory or the store failed, and hands the connection back.
 pub fn adopt<S: Alter>(alloc: Global, conn: Connection<S>) -> Result<Desk<S>, AdoptFault<S>>
     requires { conn.in_transaction ≡ false }

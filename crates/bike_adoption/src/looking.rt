@@ -6,7 +6,7 @@ ghost use Rattle.bike_adoption.specs.Adoption.{looked_as, Looks};
 use crate::adoption::{AdoptFault, cause_of};
 use bike_audit::{Finding, Watch, audit};
 use bike_rows::inside::is_at_rest;
-use bike_schema::has_none;
+use bike_schema::{StatementFault, has_none, has_room};
 use sqlite::{Alter, Connection};
 use std::alloc::Global;
 
@@ -15,7 +15,7 @@ use std::alloc::Global;
 pub enum Looked<S: Alter> {
     /// Its tables stand for an operator.
     Sound(Connection<S>),
-    /// It has none of the product's tables.
+    /// It has none of the product's tables, and room for them.
     Empty(Connection<S>),
 }
 
@@ -30,8 +30,9 @@ fn seen_as<S: Alter>(conn: Connection<S>, finding: Finding) -> Result<Looked<S>,
 }
 
 /// Looks at a database over a connection outside a transaction, and changes nothing of it: what it is, and whether its tables stand for an
-/// operator, as `adopt` finds it. A database with none of the product's tables gets none. A fault tells what the database is, or that
-/// memory or the store failed, and hands the connection back. `watch` is told of each table before it is audited.
+/// operator, as `adopt` finds it. A database with none of the product's tables gets none; where something else has a name that they
+/// take, the store fails, as it does in `adopt`. A fault tells what the database is, or that memory or the store failed, and hands the
+/// connection back. `watch` is told of each table before it is audited.
 pub fn look<S: Alter, P: Watch>(
     alloc: Global,
     mut conn: Connection<S>,
@@ -42,7 +43,10 @@ pub fn look<S: Alter, P: Watch>(
 {
     is_at_rest(&conn);
     if has_none(&conn) {
-        return Ok(Looked::Empty(conn));
+        if has_room(&conn) {
+            return Ok(Looked::Empty(conn));
+        }
+        return Err(AdoptFault::failed(StatementFault::StoreFailed, conn));
     }
     match audit(alloc, &mut conn, watch) {
         Ok(finding) => seen_as(conn, finding),

@@ -17,7 +17,8 @@ use Rattle.bike_earlier.specs.declared.earlier.Earlier.{Earlier}
 use Rattle.bike_earlier.specs.declared.earlier.Earlier.TheVariants.{First, Second}
 use Rattle.bike_earlier.specs.Earlier.{IsAt, HasTablesAt, newer_names, tables_at}
 use Rattle.bike_recognition.specs.Recognition.{TableStands}
-use Rattle.bike_migrate.specs.Raised.{AllStay, AreUnnamed, language_index, thing_index, HasNameIndexes, MakesTable, MakesIndex, MakesIndexes, MakesNewer, MakesTables}
+use Rattle.bike_schema.specs.Indexes.{more_names_by_language, more_names_by_thing}
+use Rattle.bike_migrate.specs.Raised.{AllStay, AreUnnamed, HasNameIndexes, MakesTable, MakesIndex, MakesIndexes, MakesNewer, MakesTables}
 use Rattle.bike_migrate.specs.Spared.{Spares}
 use Rattle.bike_migrate.proofs.SpareLemmas.{spares_then, index_spared}
 
@@ -33,10 +34,10 @@ stay_both a b c first second keys layout was =
 pub names_stand : (a b : Database) → Indexes a b → TableStands MoreNames a → TableStands MoreNames b
 names_stand a b made was = (made.stays (keys_of MoreNames) (layout_of MoreNames) was).stands
 
-pub indexed_both : (a b c : Database) → MakesIndex language_index a b → MakesIndex thing_index b c → MakesIndexes a c
+pub indexed_both : (a b c : Database) → MakesIndex more_names_by_language a b → MakesIndex more_names_by_thing b c → MakesIndexes a c
 indexed_both a b c first second = record {
   indexes = record { tables = second.indexes.tables ∙ first.indexes.tables; sound = second.indexes.sound; stays = stay_both a b c first.indexes.stays second.indexes.stays };
-  has = record { by_language = index_spared [] b c (name_of MoreNames) language_index second.spares refl first.has; by_thing = second.has };
+  has = record { by_language = index_spared [] b c more_names_by_language second.spares refl first.has; by_thing = second.has };
   spares = spares_then [] a b c first.spares second.spares;
 }
 

@@ -10,14 +10,15 @@ use Rattle.bike_rows.specs.Stands.{is_same_text, Stands, Stays}
 use Rattle.bike_book.specs.Tables.{TableName, Tables, Kept, MoreNames, keys_of, tables_by}
 use Rattle.bike_schema.specs.Layouts.{layout_in, has_primary, name_of, every_table}
 use Rattle.bike_schema.proofs.LayoutLemmas.{all_by}
+use Rattle.bike_schema.specs.Indexes.{TableIndex, HasIndex, more_names_by_language, more_names_by_thing}
 use Rattle.bike_schema.specs.Makes.{is_our_name}
 use Rattle.bike_schema.specs.Tables.{tables_of, other_names}
 use Rattle.bike_schema.proofs.TableLemmas.{every_false}
 use Rattle.bike_earlier.specs.declared.earlier.Earlier.{Earlier}
 use Rattle.bike_earlier.specs.declared.earlier.Earlier.TheVariants.{First, Second}
 use Rattle.bike_earlier.specs.Earlier.{stations_name, stations_layout}
-use Rattle.bike_migrate.specs.Raised.{IsEarlier, old_stations, tables_raised, language_index, thing_index, filled_names, changed_names, Fills, DropsStations, is_product_name, OthersKept, Raises}
-use Rattle.bike_migrate.specs.Spared.{is_among, HasIndex}
+use Rattle.bike_migrate.specs.Raised.{IsEarlier, old_stations, tables_raised, filled_names, changed_names, Fills, DropsStations, is_product_name, OthersKept, Raises}
+use Rattle.bike_migrate.specs.Spared.{is_among}
 use Rattle.bike_migrate.specs.Stations.{AreCopies}
 use Rattle.bike_migrate.specs.Verdicts.{IsVerdictBefore}
 use Rattle.bike_migrate.proofs.FillLemmas.{stations_raised, old_table}
@@ -79,8 +80,8 @@ module _ (e : Earlier) (a b c : Database) (filled : Fills e a b) (dropped : Drop
       record { stands = second.stands; rows = second.rows ∙ first.rows }
 
   -- an index of further names stays as the old table goes
-  still_indexed : (text : List ℕ) → HasIndex b.schema (name_of MoreNames) text → HasIndex c.schema (name_of MoreNames) text
-  still_indexed text has = index_spared (stations_name e ∷ []) b c (name_of MoreNames) text dropped.spares (names_apart e) has
+  still_indexed : (i : TableIndex) → i.table ≡ MoreNames → HasIndex b.schema i → HasIndex c.schema i
+  still_indexed i on has = index_spared (stations_name e ∷ []) b c i dropped.spares (ap (λ t. is_among (stations_name e ∷ []) (name_of t)) on ∙ names_apart e) has
 
   pub raises : Raises e a c
   raises = record {
@@ -90,7 +91,7 @@ module _ (e : Earlier) (a b c : Database) (filled : Fills e a b) (dropped : Drop
       tables = ap tables_by (fun_ext (λ t. (still t).rows)) ∙ filled.raised.tables;
     };
     gone = dropped.gone;
-    indexes = record { by_language = still_indexed language_index filled.indexes.by_language; by_thing = still_indexed thing_index filled.indexes.by_thing };
+    indexes = record { by_language = still_indexed more_names_by_language refl filled.indexes.by_language; by_thing = still_indexed more_names_by_thing refl filled.indexes.by_thing };
     others = kept;
     spares = spares_then (changed_names e) a b c (spares_less (changed_names e) filled_names a b (among_rest (stations_name e) filled_names) filled.spares)
         (spares_less (changed_names e) (stations_name e ∷ []) b c (among_first (stations_name e) filled_names) dropped.spares);

@@ -14,12 +14,13 @@ use Rattle.bike_rows.proofs.TreeLemmas.{by_key_total}
 use Rattle.bike_book.specs.Tables.{Tables, Stations, MoreNames, with_rows}
 use Rattle.bike_book.specs.Writes.{Add, tables_after, tables_after_all}
 use Rattle.bike_schema.specs.Layouts.{name_of}
+use Rattle.bike_schema.specs.Indexes.{more_names_by_language, more_names_by_thing}
 use Rattle.bike_schema.specs.Makes.{Makes}
 use Rattle.bike_schema.proofs.MakesLemmas.{makes_then, stay_then}
 use Rattle.bike_earlier.specs.declared.earlier.Earlier.{Earlier}
 use Rattle.bike_earlier.specs.declared.earlier.Earlier.TheVariants.{First, Second}
 use Rattle.bike_earlier.specs.Earlier.{stations_layout, completed, tables_at, HasTablesAt, IsAt}
-use Rattle.bike_migrate.specs.Raised.{old_stations, version_write, station_writes, tables_raised, language_index, thing_index, HasNameIndexes, filled_names, MakesTables, WritesOnly, Fills}
+use Rattle.bike_migrate.specs.Raised.{old_stations, version_write, station_writes, tables_raised, HasNameIndexes, filled_names, MakesTables, WritesOnly, Fills}
 use Rattle.bike_migrate.specs.Spared.{Spares}
 use Rattle.bike_migrate.proofs.SpareLemmas.{spares_then, spares_all, index_spared}
 use Rattle.bike_migrate.specs.Stations.{station_row, AreCopies}
@@ -161,8 +162,8 @@ filled_are e db at =
 -- an index of further names stays as they are filled
 still_indexed : (b c : Database) → Spares filled_names b c → HasNameIndexes b.schema → HasNameIndexes c.schema
 still_indexed b c spares has = record {
-  by_language = index_spared filled_names b c (name_of MoreNames) language_index spares refl has.by_language;
-  by_thing = index_spared filled_names b c (name_of MoreNames) thing_index spares refl has.by_thing;
+  by_language = index_spared filled_names b c more_names_by_language spares refl has.by_language;
+  by_thing = index_spared filled_names b c more_names_by_thing spares refl has.by_thing;
 }
 
 pub fills : (e : Earlier) (a b c : Database) (rows : List Row) → IsAt e a → rows ≡ old_stations e a → MakesTables e a b → WritesOnly (version_write ∷ station_writes rows) b c → Fills e a c

@@ -1,6 +1,5 @@
 mod InsideLemmas
 mod StepLemmas
-mod IndexLemmas
 mod SpareLemmas
 mod TextLemmas
 mod ReadLemmas

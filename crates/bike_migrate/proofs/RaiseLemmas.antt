@@ -7,6 +7,7 @@ use Rattle.sqlite.specs.Held.{Held, state}
 use Rattle.sqlite.specs.State.{HasCleanDisk, IsLive, Survives}
 use Rattle.bike_operator.specs.Operator.{Operator, no_operator}
 use Rattle.bike_schema.specs.Stands.{Stores, IsOf, StandsFor, TreesStandFor, AllLeft}
+use Rattle.bike_schema.specs.Indexes.{HasRoom}
 use Rattle.bike_schema.specs.Tables.{tables_of, HasNone}
 use Rattle.bike_schema.specs.declared.fault.StatementFault.{StatementFault}
 use Rattle.bike_schema.specs.declared.fault.StatementFault.TheVariants as statement
@@ -127,6 +128,7 @@ module _ {S : Type 0} (g : Ghosts S) (settles : Settles g) (old : Held S) (settl
       others = tt;
       newest = λ is. tt;
       empty = λ none. tt;
+      room = λ none. tt;
       raised = λ e is. tt;
       found = λ v s stands. tt;
       refused = refused;
@@ -177,7 +179,7 @@ module _ {S : Type 0} (g : Ghosts S) (settles : Settles g) (old : Held S) (settl
         by (inl (inl (is, verdict, before))) =
             let stores = stored_good db verdict.1.0 verdict.1.1 in
             (None, operator_of (tables_of db), record { sound = (live before.was_open).0; is = inr stores }, holds_before (operator_of (tables_of db)) before (inr stores))
-        by (inl (inr (is, before))) =
+        by (inl (inr (is, room, before))) =
             let nobody : HasNone db.schema × (no_operator ≡ no_operator) = (found_none db is, refl) in
             (None, no_operator, record { sound = (live before.was_open).0; is = inl nobody }, holds_before no_operator before (inl nobody))
         by (inr raised) =
@@ -192,12 +194,12 @@ module _ {S : Type 0} (g : Ghosts S) (settles : Settles g) (old : Held S) (settl
       where
         by : IsOutcome g old new None → OthersKept db (state g new).now
         by (inl (inl (is, verdict, before))) = subst (OthersKept db) (sym before.now_is) kept_same
-        by (inl (inr (is, before))) = subst (OthersKept db) (sym before.now_is) kept_same
+        by (inl (inr (is, room, before))) = subst (OthersKept db) (sym before.now_is) kept_same
         by (inr raised) = raised.raises.others
 
     as_before : IsReady g old new → IsAsBefore g old new
     as_before (inl it) = it.2
-    as_before (inr it) = it.1
+    as_before (inr it) = it.2
 
     ready_newest : IsFoundAs db found.Newest → HasCleanDisk (state g new) → IsAsBefore g old new
     ready_newest is clean = elim (it.comes clean) [
@@ -211,12 +213,20 @@ module _ {S : Type 0} (g : Ghosts S) (settles : Settles g) (old : Held S) (settl
       | inr raised ↦ absurd (let never = found_empty db (found.Of raised.earlier) none raised.found in cc)
     ]
 
+    ready_room : HasNone db.schema → HasCleanDisk (state g new) → HasRoom db.schema
+    ready_room none clean = by (it.comes clean)
+      where
+        by : IsOutcome g old new None → HasRoom db.schema
+        by (inl (inl (is, verdict, before))) = absurd (let never = found_empty db found.Newest none is in cc)
+        by (inl (inr (is, room, before))) = room
+        by (inr raised) = absurd (let never = found_empty db (found.Of raised.earlier) none raised.found in cc)
+
     ready_raised : (e : Earlier) → IsFoundAs db (found.Of e) → HasCleanDisk (state g new) → Raises e db (state g new).now
     ready_raised e is clean = by (it.comes clean)
       where
         by : IsOutcome g old new None → Raises e db (state g new).now
         by (inl (inl (newest, verdict, before))) = absurd (never_both db e newest is)
-        by (inl (inr (empty, before))) = absurd (let never = found_empty db (found.Of e) (found_none db empty) is in cc)
+        by (inl (inr (empty, room, before))) = absurd (let never = found_empty db (found.Of e) (found_none db empty) is in cc)
         by (inr raised) = subst (λ v. Raises v db (state g new).now) (one_earlier db raised.earlier e raised.found is) raised.raises
 
     module _ (v : Option Earlier) (s : Operator) (stands : TreesStandForAt v s db.trees) where
@@ -245,7 +255,7 @@ module _ {S : Type 0} (g : Ghosts S) (settles : Settles g) (old : Held S) (settl
 
           by : IsOutcome g old new None → Holds (state g new) s
           by (inl (inl (is, verdict, before))) = newest (there found.Newest before.was_open is) before
-          by (inl (inr (is, before))) = empty (there found.Empty before.was_open is) before
+          by (inl (inr (is, room, before))) = empty (there found.Empty before.was_open is) before
           by (inr raised) = earlier raised (there (found.Of raised.earlier) raised.shown.was_open raised.found)
 
     pub ready_owes : IsRaise g old (Ok new)
@@ -255,6 +265,7 @@ module _ {S : Type 0} (g : Ghosts S) (settles : Settles g) (old : Held S) (settl
       others = ready_others;
       newest = ready_newest;
       empty = ready_empty;
+      room = ready_room;
       raised = ready_raised;
       found = ready_found;
       refused = λ v s stands. tt;

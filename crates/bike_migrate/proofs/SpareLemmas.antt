@@ -10,11 +10,9 @@ use Rattle.sqlite_schema.specs.declared.schema.Index.{Index}
 use Rattle.sqlite_schema.specs.declared.schema.Schema.{Schema}
 use Rattle.sqlite_schema.specs.declared.command.Source.TheVariants.{Values}
 use Rattle.sqlite_schema.specs.declared.command.Command.TheVariants.{CreateTable, Insert, Update}
-use Rattle.sqlite_schema.specs.Names.{same_name, table_named}
+use Rattle.sqlite_schema.specs.Names.{same_name}
 use Rattle.sqlite_rules.specs.Lists.{Has}
-use Rattle.sqlite_resolve.specs.Compile.{index_defined_by}
 use Rattle.sqlite_catalog.specs.Calls.{CreatesTable}
-use Rattle.sqlite_catalog.specs.Change.{next_tree}
 use Rattle.sqlite_catalog.proofs.StepLemmas.{same_itself}
 use Rattle.sqlite.specs.Effect.{Database}
 use Rattle.sqlite.specs.Does.{Tally, MakesSequence, lacks_sequence, sequence_text}
@@ -29,9 +27,11 @@ use Rattle.bike_rows.specs.Stands.{is_same_text, Stands}
 use Rattle.bike_rows.proofs.DropListLemmas.{first_kept, find_kept}
 use Rattle.bike_rows.proofs.EffectLemmas.{inserts, updates}
 use Rattle.bike_rows.proofs.FrameLemmas.{trees_apart}
-use Rattle.bike_rows.proofs.ListLemmas.{all_at, filter_has, same_some}
-use Rattle.bike_migrate.specs.Spared.{IsSpared, is_among, Spares, HasIndex}
-use Rattle.bike_migrate.proofs.IndexLemmas.{AddsIndex}
+use Rattle.bike_rows.proofs.ListLemmas.{all_at, filter_has}
+use Rattle.bike_schema.specs.Layouts.{name_of}
+use Rattle.bike_schema.specs.Indexes.{TableIndex, HasIndex}
+use Rattle.bike_schema.proofs.IndexLemmas.{AddsIndex}
+use Rattle.bike_migrate.specs.Spared.{IsSpared, is_among, Spares}
 
 -- ---- one change after another
 
@@ -108,30 +108,9 @@ spares_indexing name text a b it = record {
   views = ap (λ (s : Schema). s.views) it.schema;
 }
 
-has_last : {X : Type 0} (xs : List X) (y : X) → Has (xs ++ y ∷ []) y
-has_last [] y = inl refl
-has_last (x ∷ xs) y = inr (has_last xs y)
-
--- the index is there
-pub index_there : (name text : List ℕ) (a b : Database) (at : ℕ) (t : Table) → HasTable a.schema at t → t.name ≡ name → AddsIndex name text a b → HasIndex b.schema name text
-index_there name text a b at t has called it =
-    let place : at ≡ it.at = same_some (sym has.found ∙ ap (table_named a.schema) called ∙ it.found) in
-    let same : t ≡ it.table = same_some (sym has.there ∙ ap (slice_get a.schema.tables) place ∙ it.there) in
-    let spared = (spares_indexing name text a b it).tables at t has refl in
-    let placed = λ (u : Table). let i : Index = record it.index { tree = next_tree a.schema; table = u.tree } in i in
-    record {
-      at = spared.at;
-      table = t;
-      has = spared.has;
-      called = called;
-      index = placed it.table;
-      listed = subst (λ (s : Schema). Has s.indexes (placed it.table)) (sym it.schema) (has_last a.schema.indexes (placed it.table));
-      made = (it.index, ap (λ u. index_defined_by u text) same ∙ it.defined, ap placed (sym same));
-    }
-
--- and stays where its table is spared
-pub index_spared : (names : List (List ℕ)) (a b : Database) (name text : List ℕ) → Spares names a b → is_among names name ≡ false → HasIndex a.schema name text → HasIndex b.schema name text
-index_spared names a b name text it other was =
+-- an index stays where its table is spared
+pub index_spared : (names : List (List ℕ)) (a b : Database) (i : TableIndex) → Spares names a b → is_among names (name_of i.table) ≡ false → HasIndex a.schema i → HasIndex b.schema i
+index_spared names a b i it other was =
     let spared = it.tables was.at was.table was.has (ap (is_among names) was.called ∙ other) in
     record {
       at = spared.at;
@@ -139,8 +118,12 @@ index_spared names a b name text it other was =
       has = spared.has;
       called = was.called;
       index = was.index;
-      listed = spared.indexes was.index was.listed (ap (λ (i : Index). i.table) was.made.2);
-      made = was.made;
+      listed = spared.indexes was.index was.listed was.on;
+      named = was.named;
+      on = was.on;
+      columns = was.columns;
+      order = was.order;
+      repeats = was.repeats;
     }
 
 -- ---- INSERT and UPDATE

@@ -1,5 +1,5 @@
 -- What the statements do to a database.
-use Rattle.std.proofs.Common.{◌≡◌, ℕ, true, false, List, [], ◌∷◌, map, codes, None, Some, Ok, refl, sym, ap, ap₂, subst, ◌∙◌, inl, inr}
+use Rattle.std.proofs.Common.{◌≡◌, ℕ, true, false, List, [], ◌∷◌, map, codes, get_or, None, Some, Ok, refl, sym, ap, ap₂, subst, ◌∙◌, inl, inr}
 use Rattle.std.specs.List.{list_all}
 use Rattle.std.proofs.lemmas.Bool.{and_parts}
 use Rattle.sqlite_value.specs.declared.value.Value.{Value}
@@ -50,20 +50,22 @@ use Rattle.bike_schema.specs.Layouts.{layout_of, name_of}
 use Rattle.bike_schema.specs.Makes.{Puts}
 use Rattle.bike_schema.specs.Tables.{IsOurs, tables_of, is_parent}
 use Rattle.bike_schema.proofs.KeyLemmas.{unique_key}
-use Rattle.bike_schema.proofs.MakeFacts.{text_of, declared, index_only}
+use Rattle.bike_schema.proofs.MakeFacts.{text_of, declared, index_only, each_told}
 use Rattle.bike_schema.proofs.MakeTexts.{IsOnlyCreate, understood_as}
 use Rattle.bike_schema.proofs.MakesLemmas.{adds_row, sets_columns}
 use Rattle.bike_recognition.specs.Recognition.{TableStands}
 use Rattle.bike_earlier.specs.declared.earlier.Earlier.{Earlier}
 use Rattle.bike_earlier.specs.declared.earlier.Earlier.TheVariants.{First, Second}
 use Rattle.bike_earlier.specs.Earlier.{stations_name, stations_layout}
-use Rattle.bike_migrate.specs.Raised.{MakesTable, MakesIndex, language_index, thing_index, filled_names, WritesOnly, DropsStations, version_write}
+use Rattle.bike_migrate.specs.Raised.{MakesTable, MakesIndex, filled_names, WritesOnly, DropsStations, version_write}
 use Rattle.bike_migrate.specs.Stations.{station_row, is_text, is_whole, IsStationRow, AsksRows}
 use Rattle.bike_schema.proofs.MakeLemmas.{adds}
 use Rattle.bike_schema.proofs.GrowthLemmas.{still_unnamed, made_stands, made_empty, all_stay}
 use Rattle.bike_rows.proofs.IndexLaw as index
-use Rattle.bike_migrate.proofs.IndexLemmas.{IsOnlyIndexOf, index_added}
-use Rattle.bike_migrate.proofs.SpareLemmas.{spares_less, among_first, among_rest, spares_making, spares_indexing, index_there, spares_inserting, spares_updating, spares_dropping}
+use Rattle.bike_schema.specs.Creates.{index_texts}
+use Rattle.bike_schema.specs.Indexes.{TableIndex, more_names_by_language, more_names_by_thing}
+use Rattle.bike_schema.proofs.IndexLemmas.{Tells, index_added, index_there}
+use Rattle.bike_migrate.proofs.SpareLemmas.{spares_less, among_first, among_rest, spares_making, spares_indexing, spares_inserting, spares_updating, spares_dropping}
 
 -- ---- texts that write
 
@@ -98,38 +100,37 @@ creates t old new unnamed count ran =
 
 -- ---- CREATE INDEX
 
-pub language_only : IsOnlyIndex (first language_index)
+-- the statements that make the indexes of further names, by their languages and by what they name
+abbrev pub language_text : List ℕ
+language_text = get_or index_texts 3 []
+
+abbrev pub thing_text : List ℕ
+thing_text = get_or index_texts 4 []
+
+pub language_only : IsOnlyIndex (first language_text)
 language_only = index_only.1.1.1.0
 
-pub thing_only : IsOnlyIndex (first thing_index)
+pub thing_only : IsOnlyIndex (first thing_text)
 thing_only = index_only.1.1.1.1.0
 
 pub index_writes : (text : List ℕ) → IsOnlyIndex (first text) → (s : Schema) → IsWriteIn s text
 index_writes text only s c is = subst IsWrite (sym (index.understood_as text only s c is).makes.1) tt
 
-language_of : IsOnlyIndexOf (name_of MoreNames) language_index (first language_index)
-unfolding everything
-language_of = ((refl, refl), refl, refl)
-
-thing_of : IsOnlyIndexOf (name_of MoreNames) thing_index (first thing_index)
-unfolding everything
-thing_of = ((refl, refl), refl, refl)
-
 -- the index is made, and nothing else
-makes_index : (text : List ℕ) → IsOnlyIndex (first text) → IsOnlyIndexOf (name_of MoreNames) text (first text) → (old new : State) → TableStands MoreNames old.now → (count : ℕ) → Executes text [] old new (Ok count) → MakesIndex text old.now new.now
-makes_index text only on old new was count ran =
-    let it = index_added (name_of MoreNames) text on old new count ran in
+makes_index : (text : List ℕ) (i : TableIndex) → IsOnlyIndex (first text) → Tells text i → (old new : State) → Stands old.now (keys_of i.table) (layout_of i.table) → (count : ℕ) → Executes text [] old new (Ok count) → MakesIndex i old.now new.now
+makes_index text i only tells old new was count ran =
+    let it = index_added (name_of i.table) text tells.only old new count ran in
     record {
       indexes = index.index_made text only old new count ran;
-      has = index_there (name_of MoreNames) text old.now new.now was.at (table_of (layout_of MoreNames) was.tree) was.has refl it;
-      spares = spares_indexing (name_of MoreNames) text old.now new.now it;
+      has = index_there text i tells old.now new.now was.at was.tree was.has it;
+      spares = spares_indexing (name_of i.table) text old.now new.now it;
     }
 
-pub makes_language : (old new : State) → TableStands MoreNames old.now → (count : ℕ) → Executes language_index [] old new (Ok count) → MakesIndex language_index old.now new.now
-makes_language = makes_index language_index language_only language_of
+pub makes_language : (old new : State) → TableStands MoreNames old.now → (count : ℕ) → Executes language_text [] old new (Ok count) → MakesIndex more_names_by_language old.now new.now
+makes_language = makes_index language_text more_names_by_language language_only each_told.1.1.1.0
 
-pub makes_thing : (old new : State) → TableStands MoreNames old.now → (count : ℕ) → Executes thing_index [] old new (Ok count) → MakesIndex thing_index old.now new.now
-makes_thing = makes_index thing_index thing_only thing_of
+pub makes_thing : (old new : State) → TableStands MoreNames old.now → (count : ℕ) → Executes thing_text [] old new (Ok count) → MakesIndex more_names_by_thing old.now new.now
+makes_thing = makes_index thing_text more_names_by_thing thing_only each_told.1.1.1.1.0
 
 -- ---- UPDATE of the version
 

@@ -1,5 +1,5 @@
 -- What raising makes of a database of an earlier version.
-use Rattle.std.specs.Prelude.{◌≡◌, ℕ, Bool, false, List, [], ◌∷◌, map, get_or}
+use Rattle.std.specs.Prelude.{◌≡◌, ℕ, Bool, false, List, [], ◌∷◌, map}
 use Rattle.std.specs.List.{list_any, AllByRecursion}
 use Rattle.sqlite_value.specs.Order.{Row}
 use Rattle.sqlite_schema.specs.declared.schema.Schema.{Schema}
@@ -12,7 +12,7 @@ use Rattle.bike_book.specs.Tables.{TableName, Tables, Meta, Stations, MoreNames,
 use Rattle.bike_book.specs.Rows.{number_value}
 use Rattle.bike_book.specs.Writes.{RowWrite, Add, Set, tables_after}
 use Rattle.bike_schema.specs.Layouts.{layout_of, name_of}
-use Rattle.bike_schema.specs.Creates.{index_texts}
+use Rattle.bike_schema.specs.Indexes.{TableIndex, HasIndex, more_names_by_language, more_names_by_thing}
 use Rattle.bike_schema.specs.Makes.{Makes, OthersStay}
 use Rattle.bike_schema.specs.Tables.{tables_of, HasTables, is_parent, product_names}
 use Rattle.bike_rows.specs.Drops as drops
@@ -21,7 +21,7 @@ use Rattle.bike_recognition.specs.declared.version.MetaVersion.TheVariants.{Vers
 use Rattle.bike_earlier.specs.declared.earlier.Earlier.{Earlier}
 use Rattle.bike_migrate.specs.Stations.{station_row}
 use Rattle.bike_earlier.specs.Earlier.{IsAt, number_of, stations_name, stations_layout, tables_at}
-use Rattle.bike_migrate.specs.Spared.{Spares, HasIndex}
+use Rattle.bike_migrate.specs.Spared.{Spares}
 
 -- It is of this earlier version, as the row of `meta` tells, too.
 pub record IsEarlier (e : Earlier) (db : Database) : Type 0 where
@@ -69,17 +69,10 @@ pub record IsRaised (e : Earlier) (old new : Database) : Type 0 where
 
 -- ---- the indexes
 
--- the statements that make the indexes of further names, by their languages and by what they name
-abbrev pub language_index : List ℕ
-language_index = get_or index_texts 3 []
-
-abbrev pub thing_index : List ℕ
-thing_index = get_or index_texts 4 []
-
 -- The schema has the indexes of further names, as the newest version has them.
 pub record HasNameIndexes (s : Schema) : Type 0 where
-  pub by_language : HasIndex s (name_of MoreNames) language_index
-  pub by_thing : HasIndex s (name_of MoreNames) thing_index
+  pub by_language : HasIndex s more_names_by_language
+  pub by_thing : HasIndex s more_names_by_thing
 
 -- ---- on the way there: every table of another name than the newest stays, and so the old table of stations
 
@@ -103,13 +96,13 @@ pub record MakesTable (t : TableName) (old new : Database) : Type 0 where
   pub stays : AllStay old new
   pub spares : Spares [] old new
 
--- the index that this statement makes of further names was made
-pub record MakesIndex (text : List ℕ) (old new : Database) : Type 0 where
+-- the index was made
+pub record MakesIndex (i : TableIndex) (old new : Database) : Type 0 where
   pub indexes : Indexes old new
-  pub has : HasIndex new.schema (name_of MoreNames) text
+  pub has : HasIndex new.schema i
   pub spares : Spares [] old new
 
--- .. and so were both
+-- .. and so were both of further names
 pub record MakesIndexes (old new : Database) : Type 0 where
   pub indexes : Indexes old new
   pub has : HasNameIndexes new.schema

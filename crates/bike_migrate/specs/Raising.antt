@@ -13,6 +13,7 @@ use Rattle.bike_schema.specs.Layouts.{name_of}
 use Rattle.bike_schema.specs.Makes.{Continues}
 use Rattle.bike_schema.specs.Stands.{AllLeft, StandsFor, TreesStandFor}
 use Rattle.bike_schema.specs.Tables.{HasNone}
+use Rattle.bike_schema.specs.Indexes.{HasRoom}
 use Rattle.bike_schema.specs.declared.fault.StatementFault.{StatementFault}
 use Rattle.bike_schema.specs.declared.fault.StatementFault.TheVariants as statement
 use Rattle.bike_adoption.specs.Audit.{row_name, IsAudited, IsBadIn}
@@ -169,11 +170,11 @@ module _ {S : Type 0} (g : Ghosts S) where
     pub shown : Shows (state g old) (state g new) (state g new).now (state g new).now false
     pub raises : Raises earlier (state g old).now (state g new).now
 
-  -- it is of the newest version and sound, or has none of the tables, and is as it was
+  -- it is of the newest version and sound, or has none of the tables and room for them, and is as it was
   abbrev pub IsReady : Held S → Held S → Type 0
   IsReady old new =
       (IsFoundAs (state g old).now found.Newest × IsAudited (state g old).now finding.Sound × IsAsBefore old new)
-      ⊎ (IsFoundAs (state g old).now found.Empty × IsAsBefore old new)
+      ⊎ (IsFoundAs (state g old).now found.Empty × HasRoom (state g old).now.schema × IsAsBefore old new)
 
   -- What the cause tells of the database. Want of memory and a failed store tell nothing of it.
   abbrev pub IsToldBy : Held S → Held S → RaiseCause → Type 0
@@ -241,6 +242,9 @@ module _ {S : Type 0} where
     pub newest : IsFoundAs (state g old).now found.Newest
         → IfOk result (λ c. HasCleanDisk (state g c) → IsAsBefore g old c)
     pub empty : HasNone (state g old).now.schema → IfOk result (λ c. HasCleanDisk (state g c) → IsAsBefore g old c)
+    -- .. only where nothing has a name that the tables or their indexes take
+    pub room : HasNone (state g old).now.schema
+        → IfOk result (λ c. HasCleanDisk (state g c) → HasRoom (state g old).now.schema)
     -- one of an earlier version comes back raised, with nothing else changed
     pub raised : (e : Earlier) → IsFoundAs (state g old).now (found.Of e)
         → IfOk result (λ c. HasCleanDisk (state g c) → Raises e (state g old).now (state g c).now)

@@ -1,12 +1,9 @@
--- What a change of a database leaves as it was, and which indexes it has.
+-- What a change of a database leaves as it was.
 use Rattle.std.specs.Prelude.{◌≡◌, ℕ, Bool, false, List}
 use Rattle.std.specs.List.{list_any}
-use Rattle.sqlite_value.specs.declared.value.Value.TheVariants.{Text}
 use Rattle.sqlite_schema.specs.declared.schema.Table.{Table}
 use Rattle.sqlite_schema.specs.declared.schema.Index.{Index}
-use Rattle.sqlite_schema.specs.declared.schema.Schema.{Schema}
 use Rattle.sqlite_rules.specs.Lists.{Has}
-use Rattle.sqlite_catalog.specs.Listing.{IsDefined}
 use Rattle.sqlite.specs.Effect.{Database}
 use Rattle.bike_sql.specs.Has.{HasTable}
 use Rattle.bike_rows.specs.Stands.{is_same_text}
@@ -26,13 +23,3 @@ is_among names name = list_any (is_same_text name) names
 pub record Spares (names : List (List ℕ)) (old new : Database) : Type 0 where
   pub tables : (at : ℕ) (t : Table) → HasTable old.schema at t → is_among names t.name ≡ false → IsSpared old new t
   pub views : new.schema.views ≡ old.schema.views
-
--- The schema has the index that this CREATE INDEX makes of its table of this name.
-pub record HasIndex (s : Schema) (name text : List ℕ) : Type 0 where
-  pub at : ℕ
-  pub table : Table
-  pub has : HasTable s at table
-  pub called : table.name ≡ name
-  pub index : Index
-  pub listed : Has s.indexes index
-  pub made : IsDefined table index (Text text)

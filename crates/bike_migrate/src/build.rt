@@ -8,7 +8,8 @@ ghost use Rattle.bike_earlier.specs.declared.earlier.Earlier.TheVariants.{Second
 ghost use Rattle.bike_recognition.specs.Recognition.{TableStands};
 ghost use Rattle.sqlite.specs.Effect.{IsDatabase};
 ghost use Rattle.bike_migrate.specs.Calls.{ChangesInside};
-ghost use Rattle.bike_migrate.specs.Raised.{IsUnnamed, AreUnnamed, language_index, thing_index, HasStations, HasOld};
+ghost use Rattle.bike_schema.specs.Indexes.{more_names_by_language, more_names_by_thing};
+ghost use Rattle.bike_migrate.specs.Raised.{IsUnnamed, AreUnnamed, HasStations, HasOld};
 ghost use Rattle.bike_migrate.specs.Raised.{MakesTable, MakesIndex, MakesIndexes, MakesNewer, MakesTables, Fills, DropsStations};
 
 use crate::copy::fill;
@@ -40,14 +41,16 @@ fn create_names<S: Alter>(conn: &mut Connection<S>) -> Result<(), StatementFault
 
 /// Makes the index of further names by their languages.
 fn index_by_language<S: Alter>(conn: &mut Connection<S>) -> Result<(), StatementFault>
-    ensures { ChangesInside S.Store (TableStands MoreNames) conn.old conn.new result (MakesIndex language_index) }
+    ensures { ChangesInside S.Store (TableStands MoreNames) conn.old conn.new result
+        (MakesIndex more_names_by_language) }
 {
     run(conn, INDEXES[3], &[])
 }
 
 /// Makes the index of further names by what they name.
 fn index_by_thing<S: Alter>(conn: &mut Connection<S>) -> Result<(), StatementFault>
-    ensures { ChangesInside S.Store (TableStands MoreNames) conn.old conn.new result (MakesIndex thing_index) }
+    ensures { ChangesInside S.Store (TableStands MoreNames) conn.old conn.new result
+        (MakesIndex more_names_by_thing) }
 {
     run(conn, INDEXES[4], &[])
 }

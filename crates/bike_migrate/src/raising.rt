@@ -18,7 +18,7 @@ use bike_adoption::{BadRow, Finding, Unwatched, Watch, audit};
 use bike_earlier::{Earlier, Found, find_version_of};
 use bike_recognition::check_open;
 use bike_rows::inside::{begin, commit, is_at_rest, undo};
-use bike_schema::StatementFault;
+use bike_schema::{StatementFault, has_room};
 use sqlite::{Alter, Connection, Row};
 use std::alloc::Global;
 
@@ -177,7 +177,9 @@ fn raise_any<S: Alter, P: Watch>(
     ensures { ComesTo S.Store conn.old conn.new result }
 {
     match find_version_of(alloc, conn)? {
-        Found::Empty => Ok(None),
+        // As a new city it may be served only where its tables can be made.
+        Found::Empty if has_room(conn) => Ok(None),
+        Found::Empty => Err(StatementFault::StoreFailed),
         Found::Newest => Ok(cause_of(None, audit_newest(alloc, conn, watch)?)),
         Found::Of(earlier) => Ok(cause_of(
             Some(earlier),
@@ -188,12 +190,14 @@ fn raise_any<S: Alter, P: Watch>(
     }
 }
 
-/// Raises the database of a connection outside a transaction to the newest version, in one transaction. Tables that stand for an
-/// operator at an earlier version stand for it at the newest then; where a row is no operator's the first such is told, and the database is
-/// as it was. A database of the newest version is audited, and handed back as it is; one with none of the product's tables is handed back
-/// as it is, too. Tables of other names stay. A fault tells what the database is, or that memory or the store failed, and hands the
-/// connection back outside a transaction. After a failed store this is so where the disk is clean: where something else wrote the file
-/// the engine promises nothing, and nothing is committed by the connection.
+/// Raises the database of a connection outside a transaction to the newest version, in one transaction. Tables that
+/// stand for an operator at an earlier version stand for it at the newest then; where a row is no operator's the first
+/// such is told, and the database is as it was. A database of the newest version is audited, and handed back as it is;
+/// one with none of the product's tables is handed back as it is, too, but the store fails where something else has a
+/// name that they or their indexes take. Tables of other names stay. A fault tells what the database is, or that memory
+/// or the store failed, and hands the connection back outside a transaction. After a failed store this is so where the
+/// disk is clean: where something else wrote the file the engine promises nothing, and nothing is committed by the
+/// connection.
 pub fn raise<S: Alter>(alloc: Global, conn: Connection<S>) -> Result<Connection<S>, RaiseFault<S>>
     requires { conn.in_transaction ≡ false }
     ensures { IsRaise S.Store conn result }

@@ -25,6 +25,7 @@ use Rattle.bike_book.specs.Stored.{none_listed, tables_for, stored_plan, plans_s
 use Rattle.bike_book.specs.declared.version.TheConstants.{NEWEST}
 use Rattle.bike_schema.specs.Layouts.{layout_of, name_of, every_table}
 use Rattle.bike_schema.specs.Tables.{IsOurs, tables_of, is_parent, is_unused, HasNone, other_names}
+use Rattle.bike_schema.specs.Indexes.{HasIndexes, every_index}
 use Rattle.bike_schema.specs.Makes.{Continues, Puts}
 use Rattle.bike_schema.specs.Calls.{WasFree, Admits}
 use Rattle.bike_book.specs.Writes.{tables_after}
@@ -33,7 +34,8 @@ use Rattle.bike_schema.proofs.TableLemmas.{of_every, every_true}
 use Rattle.bike_schema.proofs.KeyLemmas.{unique_key}
 use Rattle.bike_schema.proofs.LayoutLemmas.{as_made}
 use Rattle.bike_schema.proofs.MakesLemmas.{continues_then, adds_row}
-use Rattle.bike_schema.proofs.MakeFacts.{text_of, declared, index_only}
+use Rattle.bike_schema.proofs.MakeFacts.{text_of, declared, index_only, each_told}
+use Rattle.bike_schema.proofs.IndexLemmas.{all_there}
 use Rattle.bike_schema.proofs.MakeLemmas.{adds}
 use Rattle.bike_schema.proofs.GrowthLemmas.{AllStay, still_unnamed, made_stands, made_empty, all_stay}
 
@@ -163,6 +165,9 @@ module _ {S : Type 0} (g : Ghosts S) (a b c : Held S) (none : HasNone (state g a
   empty : (t : TableName) → IsEmpty (state g c).now t
   empty t = empty_stays (state g b).now (state g c).now t stays (of_every (IsEmpty (state g b).now) made.empty t)
 
+  indexed : HasIndexes (state g c).now.schema
+  indexed = all_there g index_texts every_index b c each_told (λ t. let it = (of_every (IsEmpty (state g b).now) made.empty t).stands in (it.at, it.tree, it.has)) indexes
+
   pub are_ours : IsOurs (state g c).now
   are_ours = record { sound = indexed_sound g index_texts refl b c index_only indexes; has = as_made (state g c).now (λ t. (empty t).stands) }
 
@@ -176,6 +181,7 @@ module _ {S : Type 0} (g : Ghosts S) (a b c : Held S) (none : HasNone (state g a
           sound = it.makes.sound;
           has = it.makes.has;
           tables = it.makes.tables ∙ ap (tables_after first_write) none_yet ∙ ap tables_by (fun_ext first_rows);
+          indexes = subst HasIndexes (sym it.makes.schema) indexed;
           others = λ keys layout other stands.
               let kept = stay_both (state g a).now (state g b).now (state g c).now made.stay stays keys layout stands in
               let last = it.makes.others keys layout other kept.stands in

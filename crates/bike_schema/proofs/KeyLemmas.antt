@@ -1,5 +1,5 @@
 -- Each table's first columns are its key.
-use Rattle.std.proofs.Common.{List, ℕ, Bool, true, if◌then◌else◌, is_none, ◌∷◌, [], refl}
+use Rattle.std.proofs.Common.{List, ℕ, true, if◌then◌else◌, is_none, ◌∷◌, [], refl}
 use Rattle.std.specs.List.{range_with_len}
 use Rattle.sqlite_schema.specs.declared.schema.Schema.{Schema}
 use Rattle.bike_rows.proofs.KeyLemmas.{IsKeyAt, IsUniqueAt, number_unique_at, columns_unique_at}

@@ -1,5 +1,5 @@
 -- Tables that stand with one layout of `kept` stand as they have to in their schema.
-use Rattle.std.proofs.Common.{◌≡◌, ◌&&◌, ℕ, Bool, true, false, if◌then◌else◌, refl, sym, subst}
+use Rattle.std.proofs.Common.{◌≡◌, ◌&&◌, Bool, true, false, if◌then◌else◌, refl, sym, subst}
 use Rattle.sqlite.specs.Effect.{Database}
 use Rattle.bike_rows.specs.Stands.{Stands}
 use Rattle.bike_book.specs.Tables.{TableName, keys_of, is_table, Kept}

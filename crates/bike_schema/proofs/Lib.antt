@@ -7,6 +7,7 @@ pub mod CountLemmas
 pub mod ReadLemmas
 mod RunLemmas
 pub mod MakeTexts
+pub mod IndexLemmas
 pub mod MakeFacts
 pub mod MakeLemmas
 pub mod GrowthLemmas

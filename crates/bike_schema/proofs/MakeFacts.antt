@@ -1,6 +1,6 @@
 -- Each statement that makes a table makes that table, and each that makes an index makes an index.
-use Rattle.std.proofs.Common.{◌≡◌, List, ℕ, [], get_or, map, Ok, refl}
-use Rattle.std.specs.List.{AllByRecursion}
+use Rattle.std.proofs.Common.{◌≡◌, List, ℕ, [], ◌∷◌, get_or, map, Ok, refl}
+use Rattle.std.specs.List.{AllByRecursion, AllZip}
 use Rattle.sqlite_resolve.specs.Compile.{first, table_defined_by}
 use Rattle.sqlite_tied.specs.Compute.{everything}
 use Rattle.bike_rows.specs.Layout.{Layout, table_of}
@@ -8,6 +8,8 @@ use Rattle.bike_rows.proofs.IndexLaw.{IsOnlyIndex}
 use Rattle.bike_book.specs.Tables.{TableName, table_place, Meta, System, Plans, Segments, Types, Regions, Stations, Docks, Bikes, Trucks, Riders, Rentals, Orders, Entries, Kept, Counts, MoreNames}
 use Rattle.bike_schema.specs.Layouts.{layout_of, every_table}
 use Rattle.bike_schema.specs.Creates.{table_texts, index_texts}
+use Rattle.bike_schema.specs.Indexes.{every_index}
+use Rattle.bike_schema.proofs.IndexLemmas.{Tells}
 use Rattle.bike_schema.proofs.MakeTexts.{IsOnlyCreate}
 
 -- the text is a CREATE TABLE and nothing else, and its table is of this layout
@@ -44,3 +46,23 @@ declared MoreNames = record { only = (refl, refl); defined = refl }
 pub index_only : AllByRecursion (λ text. IsOnlyIndex (first text)) index_texts
 unfolding everything
 index_only = ((refl, refl), ((refl, refl), ((refl, refl), ((refl, refl), ((refl, refl), ((refl, refl), tt))))))
+
+-- the statement of each index tells it
+pub each_told : AllZip Tells index_texts every_index
+unfolding everything
+each_told = (
+  record { only = ((refl, refl), refl, refl); places = 4 ∷ 5 ∷ []; defined = λ tree. refl; are = λ tree. refl },
+  (
+    record { only = ((refl, refl), refl, refl); places = 7 ∷ []; defined = λ tree. refl; are = λ tree. refl },
+    (
+      record { only = ((refl, refl), refl, refl); places = 2 ∷ []; defined = λ tree. refl; are = λ tree. refl },
+      (
+        record { only = ((refl, refl), refl, refl); places = 3 ∷ []; defined = λ tree. refl; are = λ tree. refl },
+        (
+          record { only = ((refl, refl), refl, refl); places = 1 ∷ 2 ∷ 3 ∷ 4 ∷ []; defined = λ tree. refl; are = λ tree. refl },
+          (record { only = ((refl, refl), refl, refl); places = 1 ∷ 2 ∷ []; defined = λ tree. refl; are = λ tree. refl }, tt),
+        ),
+      ),
+    ),
+  ),
+)

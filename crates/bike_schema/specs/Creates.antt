@@ -13,6 +13,7 @@ use Rattle.bike_book.specs.Writes.{RowWrite, Add}
 use Rattle.bike_book.specs.Stored.{none_listed, tables_for}
 use Rattle.bike_schema.specs.declared.fault.StatementFault.{StatementFault}
 use Rattle.bike_schema.specs.Calls.{IsFaultOf}
+use Rattle.bike_schema.specs.Indexes.{HasIndexes}
 use Rattle.bike_schema.specs.Tables.{tables_of, HasTables, HasNone}
 use Rattle.bike_schema.specs.Makes.{OthersStay, Continues}
 
@@ -36,11 +37,12 @@ index_texts = map (λ text. text.now) INDEXES
 abbrev pub first_write : RowWrite
 first_write = Add Meta (meta_row NEWEST 0 (pos 0) (pos 0))
 
--- The tables are there, and are those of the operator of which nothing was asked. Every other table stays.
+-- The tables are there with their indexes, and are those of the operator of which nothing was asked. Every other table stays.
 pub record IsFresh (old new : Database) : Type 0 where
   pub sound : IsDatabase new
   pub has : HasTables new
   pub tables : tables_of new ≡ tables_for no_operator none_listed
+  pub indexes : HasIndexes new.schema
   pub others : OthersStay old new
 
 -- A transaction that made tables goes on.

@@ -1,4 +1,5 @@
 pub mod Layouts
+pub mod Indexes
 pub mod Tables
 pub mod Makes
 pub mod Calls

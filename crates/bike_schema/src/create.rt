@@ -110,8 +110,8 @@ fn add_meta<S: Alter>(staged: &mut Staged<'_, S>) -> Result<(), StatementFault>
 }
 
 /// Makes the empty tables, the indexes beside those of the keys, and the one row of `meta`, in a database that has
-/// none of them (`has_none`). It fails where a view or an index has the name of a table, or anything that of one of
-/// these indexes. After an error some may stand in the transaction: let it go, and the tables are as before it.
+/// none of them (`has_none`). It fails where there is no room for them (`has_room`). After an error some may stand in
+/// the transaction: let it go, and the tables are as before it.
 pub fn create_tables<S: Alter>(staged: &mut Staged<'_, S>) -> Result<(), StatementFault>
     ensures same_reference { staged.new.conn.ghost_name ≡ staged.old.conn.ghost_name }
     ensures creates { MakesTables S.Store staged.old.conn.now staged.new.conn.now result }

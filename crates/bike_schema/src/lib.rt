@@ -17,5 +17,5 @@ pub use columns::{
 };
 pub use create::{APP, INDEXES, Staged, TABLES, create_tables};
 pub use fault::StatementFault;
-pub use schema::{has_none, is_unused};
+pub use schema::{has_none, has_room, is_unused};
 pub use within::{ABOVE_TEXTS, are_at_least};

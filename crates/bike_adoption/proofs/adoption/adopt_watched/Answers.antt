@@ -8,7 +8,7 @@ use Rattle.bike_audit.specs.Watching.{IsDoubledAt}
 use Rattle.bike_audit.proofs.ToldLemmas.{told_nothing}
 use Rattle.bike_adoption.proofs.ToldLemmas.{told_begun, told_found, told_failed}
 use Rattle.bike_adoption.proofs.AdoptLemmas.{nobody_at, left_of, want_of}
-use Rattle.bike_adoption.proofs.FoundLemmas.{stays_left, crash_left, still_stands, found_clean, found_only, found_others, found_at, found_told, found_refused, handed_back}
+use Rattle.bike_adoption.proofs.FoundLemmas.{stays_left, crash_left, still_stands, found_clean, found_only, found_others, found_same, found_at, found_told, found_refused, handed_back}
 use Rattle.bike_adoption.proofs.adoption.adopt_watched.Goals as goal
 
 pub returns-then-has_none-clause-adopts : goal.returns-then-has_none-clause-adopts
@@ -17,7 +17,10 @@ returns-then-has_none-clause-adopts g c =
     record {
       clean = search rules;
       only = IfOk-weaker c.begin.result _ _ (λ d begun clean. (no_operator, inl (none, refl), (begun clean).at)) (c.begin.ensures.begun none);
-      others = IfOk-weaker c.begin.result _ _ (λ d begun clean. (begun clean).others) (c.begin.ensures.begun none);
+      others = IfOk-weaker c.begin.result _ _ (λ d begun clean. (begun clean).fresh.others) (c.begin.ensures.begun none);
+      begun = c.begin.ensures.begun;
+      room = λ none. c.begin.ensures.room;
+      same = λ some. absurd (some none);
       found = λ s stands. IfOk-weaker c.begin.result _ _ (λ d begun clean. nobody_at g.S.Store c.args.conn d s c.is_at_rest.ensures.live (begun clean).was_open none stands (begun clean).at) (c.begin.ensures.begun none);
       refused = λ s stands. IfErr-weaker c.begin.result _ _ (λ e told clean. subst IsWantFor (sym told.1) (want_of told.0)) c.begin.ensures.told;
       told = search rules;
@@ -30,13 +33,16 @@ returns-then-has_none-clause-adopts g c =
 pub returns-in-Ok-clause-adopts : goal.returns-in-Ok-clause-adopts
 returns-in-Ok-clause-adopts g c =
     let settled = c.is_at_rest.ensures.settled in
+    let some : ¬ HasNone (state g.S.Store c.args.conn).now.schema = search rules in
     record {
       clean = rw c.found.ensures (found_clean g.S.Store g.met.S.Store.settled c.args.conn c.audit.new.conn c.requires settled c.is_at_rest.ensures.live c.in-Ok.finding c.in-Ok.ensures.audited);
       only = rw c.found.ensures (found_only g.S.Store g.met.S.Store.settled c.args.conn c.audit.new.conn c.requires settled c.is_at_rest.ensures.live c.in-Ok.finding c.in-Ok.ensures.audited);
       others = rw c.found.ensures (found_others g.S.Store g.met.S.Store.settled c.args.conn c.audit.new.conn c.requires settled c.is_at_rest.ensures.live c.in-Ok.finding c.in-Ok.ensures.audited);
+      begun = λ none. absurd (some none);
+      room = λ none. absurd (some none);
+      same = λ _. rw c.found.ensures (found_same g.S.Store g.met.S.Store.settled c.args.conn c.audit.new.conn c.requires settled c.is_at_rest.ensures.live c.in-Ok.finding c.in-Ok.ensures.audited);
       found = λ s stands. rw c.found.ensures (found_at g.S.Store g.met.S.Store.settled c.args.conn c.audit.new.conn c.requires settled c.is_at_rest.ensures.live c.in-Ok.finding c.in-Ok.ensures.audited s stands);
-      refused = λ s stands. let some : ¬ HasNone (state g.S.Store c.args.conn).now.schema = search rules in
-          rw c.found.ensures (found_refused g.S.Store g.met.S.Store.settled c.args.conn c.audit.new.conn c.requires settled c.is_at_rest.ensures.live c.in-Ok.finding c.in-Ok.ensures.audited s stands some);
+      refused = λ s stands. rw c.found.ensures (found_refused g.S.Store g.met.S.Store.settled c.args.conn c.audit.new.conn c.requires settled c.is_at_rest.ensures.live c.in-Ok.finding c.in-Ok.ensures.audited s stands some);
       told = rw c.found.ensures (found_told g.S.Store g.met.S.Store.settled c.args.conn c.audit.new.conn c.requires settled c.is_at_rest.ensures.live c.in-Ok.finding c.in-Ok.ensures.audited);
       autocommit = search rules;
       crash = λ s stands. rw c.found.ensures (handed_back g.S.Store g.met.S.Store.settled c.args.conn c.audit.new.conn c.requires settled c.is_at_rest.ensures.live c.in-Ok.finding c.in-Ok.ensures.audited (LeavesOrStands g.S.Store c.args.conn s)
@@ -54,6 +60,9 @@ returns-in-Err-clause-adopts g c =
       clean = search rules;
       only = search rules;
       others = search rules;
+      begun = λ none. search rules;
+      room = λ none. search rules;
+      same = λ some. search rules;
       found = search rules;
       refused = λ s stands. rw c.failed.ensures (λ clean. want_of c.in-Err.fault);
       told = search rules;

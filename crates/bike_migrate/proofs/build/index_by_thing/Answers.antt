@@ -1,8 +1,7 @@
 use Rattle.bike_rows.proofs.ParamLemmas.{bindings}
-use Rattle.bike_migrate.specs.Raised.{thing_index}
 use Rattle.bike_migrate.proofs.StepLemmas.{runs_does}
-use Rattle.bike_migrate.proofs.TextLemmas.{thing_only, index_writes, makes_thing}
+use Rattle.bike_migrate.proofs.TextLemmas.{thing_text, thing_only, index_writes, makes_thing}
 use Rattle.bike_migrate.proofs.build.index_by_thing.Goals as goal
 
 pub returns : goal.returns
-returns g c = runs_does c.run.ensures (search bindings) (λ db any. index_writes thing_index thing_only db.schema) (λ a b has count ran x. makes_thing a b has count ran.0)
+returns g c = runs_does c.run.ensures (search bindings) (λ db any. index_writes thing_text thing_only db.schema) (λ a b has count ran x. makes_thing a b has count ran.0)

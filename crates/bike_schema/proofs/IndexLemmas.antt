@@ -1,6 +1,10 @@
 -- A CREATE INDEX that is done makes the index that its text tells of the table that it names, and nothing else.
-use Rattle.std.proofs.Common.{◌≡◌, ◌⊎◌, inl, inr, ℕ, ◌+◌, Bool, true, false, not, List, [], is_some, slice_get, slice_range, Option, Some, None, Ok, Err, Result, refl, sym, ap, subst, ◌∙◌, if◌then◌else◌}
+use Rattle.std.proofs.Common.{◌≡◌, ◌⊎◌, inl, inr, ℕ, ◌+◌, Bool, true, false, List, [], ◌∷◌, ◌++◌, map, is_some, slice_get, slice_range, Option, Some, None, Ok, Err, Result, refl, sym, ap, subst, ◌∙◌, if◌then◌else◌}
+use Rattle.std.specs.List.{AllByRecursion, AllZip}
 use Rattle.std.specs.Option.{option_or}
+use Rattle.sqlite_value.specs.Keys.{plain}
+use Rattle.sqlite_trees.specs.declared.store.Store.{Ghosts}
+use Rattle.sqlite_rules.specs.Lists.{Has}
 use Rattle.sqlite_ast.specs.declared.Statement.{Statement}
 use Rattle.sqlite_ast.specs.declared.Statement.TheVariants as written
 use Rattle.sqlite_ast.specs.declared.CreateIndex.{CreateIndex as IndexText}
@@ -20,13 +24,22 @@ use Rattle.sqlite_resolve.specs.declared.error.CompileError.{CompileError}
 use Rattle.sqlite_resolve.specs.declared.error.CompileError.TheVariants.{NoSuchTable, Exists, Misuse}
 use Rattle.sqlite_resolve.specs.declared.compiled.Compiled.{Compiled}
 use Rattle.sqlite_resolve.specs.Compile.{first, planned, meaning, returning, command, timed, compiled, create_index, creates, target, with_command, is_reserved, small, index_defined_by}
-use Rattle.sqlite_catalog.specs.Change.{indexed, KeepsRows}
-use Rattle.sqlite.specs.Effect.{Database, IsDatabase}
+use Rattle.sqlite_catalog.specs.Change.{indexed, next_tree, KeepsRows}
+use Rattle.sqlite.specs.Effect.{Database}
 use Rattle.sqlite.specs.Does.{Tally, AtPlace, Defines, MakesIndex}
 use Rattle.sqlite.specs.Given.{IsPlain}
 use Rattle.sqlite.specs.Listing.{understood, reads_listing, listing_schema, if_select, is_select}
 use Rattle.sqlite.specs.State.{State, Writes, Executes, ExecutesIn, mode_of, text_of}
+use Rattle.sqlite.specs.Held.{Held, state}
 use Rattle.sqlite.proofs.Callers.{command_of, statement_of, runs_as}
+use Rattle.bike_sql.specs.Has.{HasTable}
+use Rattle.bike_sql.proofs.GrowLemmas.{same_has}
+use Rattle.bike_rows.specs.Layout.{table_of}
+use Rattle.bike_rows.proofs.ListLemmas.{same_some}
+use Rattle.bike_book.specs.Tables.{TableName}
+use Rattle.bike_schema.specs.Layouts.{layout_of, name_of}
+use Rattle.bike_schema.specs.Creates.{RanAll}
+use Rattle.bike_schema.specs.Indexes.{TableIndex, HasIndex, places_in}
 
 -- ---- a compilation that succeeds
 
@@ -178,3 +191,90 @@ index_added name text only old new count h =
     let same : statement_of text (understood old.now.schema text) ≡ text = ap (statement_of text) h.1.is ∙ bare.whole in
     let w = runs_as text [] old new old.now.schema refl (CreateIndex bare.makes.at) is plain count h in
     adds name text bare.makes.at old new bare.makes.found count (subst (λ t. Writes old new None (CreateIndex bare.makes.at) t [] count) same w)
+
+-- ---- the index is there
+
+has_front : {X : Type 0} (xs ys : List X) (x : X) → Has xs x → Has (xs ++ ys) x
+has_front [] ys x has = absurd has
+has_front (z ∷ xs) ys x (inl is) = inl is
+has_front (z ∷ xs) ys x (inr later) = inr (has_front xs ys x later)
+
+has_last : {X : Type 0} (xs : List X) (y : X) → Has (xs ++ y ∷ []) y
+has_last [] y = inl refl
+has_last (x ∷ xs) y = inr (has_last xs y)
+
+-- the index over these places of the table in this tree, as its statement tells it
+abbrev pub index_as : TableIndex → List ℕ → ℕ → Index
+index_as i places tree = record { name = i.name; tree = 0; table = tree; columns = places; order = plain; is_unique = false }
+
+-- The text makes the index of any table of its table's layout, over the columns that stand at these places.
+pub record Tells (text : List ℕ) (i : TableIndex) : Type 0 where
+  pub only : IsOnlyIndexOf (name_of i.table) text (first text)
+  pub places : List ℕ
+  pub defined : (tree : ℕ) → index_defined_by (table_of (layout_of i.table) tree) text ≡ Ok (index_as i places tree)
+  pub are : (tree : ℕ) → map Some places ≡ places_in (table_of (layout_of i.table) tree) i.columns
+
+pub index_there : (text : List ℕ) (i : TableIndex) → Tells text i → (a b : Database) (at tree : ℕ) → HasTable a.schema at (table_of (layout_of i.table) tree) → AddsIndex (name_of i.table) text a b → HasIndex b.schema i
+index_there text i tells a b at tree has it =
+    let t : Table = table_of (layout_of i.table) tree in
+    let place : at ≡ it.at = same_some (sym has.found ∙ it.found) in
+    let same : t ≡ it.table = same_some (sym has.there ∙ ap (slice_get a.schema.tables) place ∙ it.there) in
+    let is : it.index ≡ index_as i tells.places tree = same_ok (sym it.defined ∙ ap (λ u. index_defined_by u text) (sym same) ∙ tells.defined tree) in
+    let placed : Index = record it.index { tree = next_tree a.schema; table = it.table.tree } in
+    record {
+      at = at;
+      table = t;
+      has = same_has a.schema b.schema at t (ap (λ (s : Schema). s.tables) it.schema) has;
+      called = refl;
+      index = placed;
+      listed = subst (λ (s : Schema). Has s.indexes placed) (sym it.schema) (has_last a.schema.indexes placed);
+      named = ap (λ (x : Index). x.name) is;
+      on = ap (λ (u : Table). u.tree) (sym same);
+      columns = ap (λ (x : Index). map Some x.columns) is ∙ tells.are tree;
+      order = ap (λ (x : Index). x.order) is;
+      repeats = ap (λ (x : Index). x.is_unique) is;
+    }
+
+-- and stays as others are made
+index_stays : (name text : List ℕ) (a b : Database) → AddsIndex name text a b → (i : TableIndex) → HasIndex a.schema i → HasIndex b.schema i
+index_stays name text a b it i was = record {
+  at = was.at;
+  table = was.table;
+  has = same_has a.schema b.schema was.at was.table (ap (λ (s : Schema). s.tables) it.schema) was.has;
+  called = was.called;
+  index = was.index;
+  listed = subst (λ (s : Schema). Has s.indexes was.index) (sym it.schema) (has_front a.schema.indexes _ was.index was.listed);
+  named = was.named;
+  on = was.on;
+  columns = was.columns;
+  order = was.order;
+  repeats = was.repeats;
+}
+
+-- ---- one after another
+
+-- each table has a place, as it is made
+abbrev pub HaveTables : Schema → Type 0
+HaveTables s = (t : TableName) → (at : ℕ) × (tree : ℕ) × HasTable s at (table_of (layout_of t) tree)
+
+module _ {S : Type 0} (g : Ghosts S) where
+  still_there : (texts : List (List ℕ)) (indexes : List TableIndex) (a c : Held S) → AllZip Tells texts indexes → RanAll g texts a c → (i : TableIndex) → HasIndex (state g a).now.schema i → HasIndex (state g c).now.schema i
+  still_there [] [] a c tell same i was = subst (λ h. HasIndex (state g h).now.schema i) same was
+  still_there [] (x ∷ xs) a c tell ran i was = absurd tell
+  still_there (text ∷ texts) [] a c tell ran i was = absurd tell
+  still_there (text ∷ texts) (x ∷ xs) a c (tells, more) (mid, ran, rest) i was =
+      let it = index_added (name_of x.table) text tells.only (state g a) (state g mid) ran.0 ran.1.0 in
+      still_there texts xs mid c more rest i (index_stays (name_of x.table) text (state g a).now (state g mid).now it i was)
+
+  pub all_there : (texts : List (List ℕ)) (indexes : List TableIndex) (a c : Held S) → AllZip Tells texts indexes → HaveTables (state g a).now.schema → RanAll g texts a c → AllByRecursion (HasIndex (state g c).now.schema) indexes
+  all_there [] [] a c tell have ran = tt
+  all_there [] (x ∷ xs) a c tell have ran = absurd tell
+  all_there (text ∷ texts) [] a c tell have ran = absurd tell
+  all_there (text ∷ texts) (x ∷ xs) a c (tells, more) have (mid, ran, rest) =
+      let old = (state g a).now in
+      let new = (state g mid).now in
+      let it = index_added (name_of x.table) text tells.only (state g a) (state g mid) ran.0 ran.1.0 in
+      let here = have x.table in
+      let made = index_there text x tells old new here.0 here.1 here.2 it in
+      let kept : HaveTables new.schema = λ t. let was = have t in (was.0, was.1, same_has old.schema new.schema was.0 (table_of (layout_of t) was.1) (ap (λ (s : Schema). s.tables) it.schema) was.2) in
+      (still_there texts xs mid c more rest x made, all_there texts xs mid c more kept rest)
