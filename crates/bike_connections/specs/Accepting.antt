@@ -1,7 +1,7 @@
 -- What accepting a connection gives.
 use Rattle.std.specs.Prelude.{ℕ, ◌≤◌, List, ◌∷◌, ◌++◌, take, Option, Some, None, IfSome, Result, Ok, Err, IfOk}
 use Rattle.bike_connections.specs.declared.network.Accepted.{Accepted}
-use Rattle.bike_connections.specs.declared.network.Accepted.TheVariants.{One, Lost, Nobody}
+use Rattle.bike_connections.specs.declared.network.Accepted.TheVariants.{One, Lost, Nobody, Failed}
 use Rattle.bike_exchange.specs.Asking.{Coming}
 use Rattle.bike_connections.specs.Ahead.{Loses}
 
@@ -15,6 +15,7 @@ module _ {S : Type 0} (coming : S → List ℕ) where
   Picks old new (One socket moment) = Loses old (record { moment = moment; input = coming socket } ∷ new)
   Picks old new Lost = Loses old new
   Picks old new Nobody = Loses old new
+  Picks old new Failed = Loses old new
 
   abbrev pub Accepts : {E : Type 0} → List Coming → List Coming → Result (Accepted S) E → Type 0
   Accepts {E} old new (Ok accepted) = Picks old new accepted

@@ -1,5 +1,5 @@
 -- Connections of which it is known what comes.
-use Rattle.std.specs.Prelude.{◌≡◌, ℕ, List, [], ◌∷◌, ◌++◌, Option, Some, None, IsPermutation}
+use Rattle.std.specs.Prelude.{List, [], ◌∷◌, ◌++◌, Option, Some, None, IsPermutation}
 use Rattle.bike_exchange.specs.Asking.{Coming}
 
 -- those that were ahead are ahead still, but for some that ended with nothing asked of the desk
@@ -11,17 +11,3 @@ abbrev pub ahead_in : {X : Type 0} → (X → List Coming) → List (Option X) �
 ahead_in {X} ahead [] = []
 ahead_in {X} ahead (None ∷ slots) = ahead_in ahead slots
 ahead_in {X} ahead (Some x ∷ slots) = ahead x ++ ahead_in ahead slots
-
--- the moment of the last, and 0 where there was none
-abbrev pub latest_in : Option ℕ → ℕ
-latest_in None = 0
-latest_in (Some moment) = moment
-
--- The connections that aren't answered yet, and the moment of the last that was handed out.
-pub record Crowd : Type 0 where
-  pub ahead : List Coming
-  pub latest : ℕ
-
--- none is handed out, and some may be lost
-abbrev pub Thins : Crowd → Crowd → Type 0
-Thins old new = Loses old.ahead new.ahead × (new.latest ≡ old.latest)

@@ -1,13 +1,12 @@
 //! Accepting, waiting, and whose turn it is.
 
-ghost use Rattle.std.specs.Prelude.{◌≡◌, ◌∷◌, ◌++◌, max, IsTrue, IfOk};
-ghost use Rattle.bike_connections.specs.Ahead.{Loses, Thins};
-ghost use Rattle.bike_exchange.specs.Asking.{moment_of, unread};
+ghost use Rattle.std.specs.Prelude.{◌≡◌, ◌∷◌, ◌++◌, IsTrue, IfOk};
+ghost use Rattle.bike_connections.specs.Ahead.{Loses};
 ghost use Rattle.bike_connections.specs.Handed.{Gives, Hands};
 
-use crate::limits::TURN;
+use crate::limits::{ACCEPTS_AGAIN, TURN};
 use crate::network::{Accepted, Network};
-use crate::open::Open;
+use crate::open::{Open, sooner};
 use bike_exchange::{Answer, Connection, Exchange, PIECE};
 use bike_fixed::Moment;
 use std::alloc::Global;
@@ -16,7 +15,7 @@ use std::io::ErrorKind;
 use std::marker::Model;
 use std::time::Duration;
 
-/// The connections of a network; seen as those that aren't answered yet, and the moment of the last that was handed out.
+/// The connections of a network; seen as those that aren't answered yet.
 #[derive(Drop)]
 pub struct Connections<N: Network> {
     alloc: Global,
@@ -28,23 +27,23 @@ pub struct Connections<N: Network> {
     answers: usize,
     /// Whether a feed may be handed out in this turn.
     may_publish: bool,
-    /// The moment of the last that was handed out. None has an earlier one than those before it: a feed would be older than what it tells.
-    latest: Option<Moment>,
+    /// Before this moment nobody is accepted, since accepting failed.
+    accepts_from: Duration,
 }
 
 impl<N: Network> Model for Connections<N> {
-    ghost use Rattle.std.specs.Prelude.{◌++◌};
-    ghost use Rattle.bike_connections.specs.Ahead.{Crowd, latest_in};
+    ghost use Rattle.std.specs.Prelude.{List, ◌++◌};
+    ghost use Rattle.bike_exchange.specs.Asking.{Coming};
 
-    ghost Value = { Crowd };
+    ghost Value = { List Coming };
 
-    ghost view = { λ c. record { ahead = c.connections ++ N.ahead c.network; latest = latest_in c.latest } };
+    ghost view = { λ c. c.connections ++ N.ahead c.network };
 }
 
 impl<N: Network> Connections<N> {
     /// None is open. Takes the memory for all that may be.
     pub fn new(alloc: Global, network: N) -> io::Result<Connections<N>>
-        ensures { IfOk result (λ made. made ≡ record { ahead = N.ahead network; latest = 0 }) }
+        ensures { IfOk result (λ made. made ≡ N.ahead network) }
     {
         let connections = Open::new(alloc)?;
         Ok(Connections {
@@ -54,15 +53,14 @@ impl<N: Network> Connections<N> {
             now: Duration::ZERO,
             answers: 0,
             may_publish: false,
-            latest: None,
+            accepts_from: Duration::ZERO,
         })
     }
 
     /// Takes in a connection that was accepted at this moment, and of whose request this came.
     fn take_in(&mut self, socket: N::Socket, moment: Moment, came: &[u8])
-        ensures ahead { IsTrue N.Socket.is_known
-            → Loses (record { moment = moment; input = came.now ++ N.Socket.coming socket } ∷ self.old.ahead) self.new.ahead }
-        ensures latest { self.new.latest ≡ self.old.latest }
+        ensures { IsTrue N.Socket.is_known
+            → Loses (record { moment = moment; input = came.now ++ N.Socket.coming socket } ∷ self.old) self.new }
     {
         let Ok(connection) = Connection::begin(self.alloc, socket, moment, self.now, came) else {
             return;
@@ -73,7 +71,7 @@ impl<N: Network> Connections<N> {
 
     /// Accepts one that waits; whether there may be more.
     fn accept_one(&mut self) -> io::Result<bool>
-        ensures { IsTrue N.Socket.is_known → Thins self.old self.new }
+        ensures { IsTrue N.Socket.is_known → Loses self.old self.new }
     {
         match self.network.accept()? {
             Accepted::One(socket, moment) => {
@@ -82,15 +80,32 @@ impl<N: Network> Connections<N> {
             }
             Accepted::Lost => Ok(true),
             Accepted::Nobody => Ok(false),
+            Accepted::Failed => {
+                self.put_off_accepting();
+                Ok(false)
+            }
         }
+    }
+
+    /// Accepts nobody for a moment.
+    fn put_off_accepting(&mut self)
+        ensures { self.new ≡ self.old }
+    {
+        let moment = Duration::from_millis(ACCEPTS_AGAIN);
+        self.accepts_from = self.now.saturating_add(moment);
+    }
+
+    /// Whether somebody may wait to be accepted, and there is room for one more.
+    fn has_place(&self) -> bool {
+        self.network.may_accept() && self.connections.has_room()
     }
 
     /// Accepts those that wait, as far as there is room.
     fn accept_some(&mut self) -> io::Result<()>
-        ensures { IsTrue N.Socket.is_known → Thins self.old self.new }
+        ensures { IsTrue N.Socket.is_known → Loses self.old self.new }
     {
         for _turn in 0..TURN {
-            if !self.network.may_accept() || !self.connections.has_room() {
+            if !self.has_place() || self.now < self.accepts_from {
                 return Ok(());
             }
             if !self.accept_one()? {
@@ -110,7 +125,7 @@ impl<N: Network> Connections<N> {
 
     /// Where none is open: waits for one, and a moment for its request.
     fn accept_alone(&mut self) -> io::Result<()>
-        ensures { IsTrue N.Socket.is_known → Thins self.old self.new }
+        ensures { IsTrue N.Socket.is_known → Loses self.old self.new }
     {
         let mut piece = [0; PIECE];
         let accepted = self.network.accept_alone(&mut piece)?;
@@ -124,7 +139,7 @@ impl<N: Network> Connections<N> {
 
     /// Goes on with one whose socket is ready; whether there was one.
     fn step_one(&mut self) -> bool
-        ensures { IsTrue N.Socket.is_known → Thins self.old self.new }
+        ensures { IsTrue N.Socket.is_known → Loses self.old self.new }
     {
         let Some(key) = self.network.next_ready() else {
             return false;
@@ -136,7 +151,7 @@ impl<N: Network> Connections<N> {
 
     /// Goes on with those whose socket is ready.
     fn step_ready(&mut self)
-        ensures { IsTrue N.Socket.is_known → Thins self.old self.new }
+        ensures { IsTrue N.Socket.is_known → Loses self.old self.new }
     {
         for _turn in 0..TURN {
             if !self.step_one() {
@@ -147,18 +162,21 @@ impl<N: Network> Connections<N> {
 
     /// Goes on with those that were put off.
     fn go_on(&mut self)
-        ensures { IsTrue N.Socket.is_known → Thins self.old self.new }
+        ensures { IsTrue N.Socket.is_known → Loses self.old self.new }
     {
         self.connections.go_on(self.network.registry(), self.now);
     }
 
     /// For how long is waited at most.
     fn patience(&self) -> Option<Duration> {
-        let can_accept = self.network.may_accept() && self.connections.has_room();
-        if can_accept || self.connections.has_work() {
+        if self.connections.has_work() {
             return Some(Duration::ZERO);
         }
-        self.connections.patience(self.now)
+        let patience = self.connections.patience(self.now);
+        if self.has_place() {
+            return sooner(patience, self.accepts_from.saturating_sub(self.now));
+        }
+        patience
     }
 
     /// Waits until a socket is ready or somebody's time is over.
@@ -171,7 +189,7 @@ impl<N: Network> Connections<N> {
 
     /// Goes on with those that can.
     fn step_all(&mut self) -> io::Result<()>
-        ensures { IsTrue N.Socket.is_known → Thins self.old self.new }
+        ensures { IsTrue N.Socket.is_known → Loses self.old self.new }
     {
         self.wait()?;
         self.step_ready();
@@ -181,7 +199,7 @@ impl<N: Network> Connections<N> {
 
     /// One turn where some are open: everybody goes on as far as that is possible now.
     fn turn_of_many(&mut self) -> io::Result<()>
-        ensures { IsTrue N.Socket.is_known → Thins self.old self.new }
+        ensures { IsTrue N.Socket.is_known → Loses self.old self.new }
     {
         self.step_all()?;
         self.read_clock()?;
@@ -192,7 +210,7 @@ impl<N: Network> Connections<N> {
 
     /// One turn.
     fn turn(&mut self) -> io::Result<()>
-        ensures { IsTrue N.Socket.is_known → Thins self.old self.new }
+        ensures { IsTrue N.Socket.is_known → Loses self.old self.new }
     {
         self.answers = TURN;
         self.may_publish = true;
@@ -205,8 +223,7 @@ impl<N: Network> Connections<N> {
 
     /// The next of those that ask for no feed, in this turn.
     fn next_short(&mut self) -> Option<(Exchange<N::Socket>, Answer)>
-        ensures given { Gives N.Socket.coming self.old.ahead self.new.ahead result }
-        ensures latest { self.new.latest ≡ self.old.latest }
+        ensures { Gives N.Socket.coming self.old self.new result }
     {
         if self.answers == 0 {
             return None;
@@ -217,8 +234,7 @@ impl<N: Network> Connections<N> {
 
     /// The next of those that may ask for a feed, of which each turn has one.
     fn next_long(&mut self) -> Option<(Exchange<N::Socket>, Answer)>
-        ensures given { Gives N.Socket.coming self.old.ahead self.new.ahead result }
-        ensures latest { self.new.latest ≡ self.old.latest }
+        ensures { Gives N.Socket.coming self.old self.new result }
     {
         if !self.may_publish {
             return None;
@@ -229,27 +245,13 @@ impl<N: Network> Connections<N> {
 
     /// The next of those whose request is there in this turn.
     fn next_in_turn(&mut self) -> Option<(Exchange<N::Socket>, Answer)>
-        ensures given { Gives N.Socket.coming self.old.ahead self.new.ahead result }
-        ensures latest { self.new.latest ≡ self.old.latest }
+        ensures { Gives N.Socket.coming self.old self.new result }
     {
         let next = self.next_short();
         if next.is_some() {
             return next;
         }
         self.next_long()
-    }
-
-    /// Has a connection that is handed out come no earlier than those before it.
-    fn come_last(&mut self, exchange: &mut Exchange<N::Socket>)
-        ensures moment { moment_of exchange.new ≡ max self.old.latest (moment_of exchange.old) }
-        ensures unread { unread N.Socket.coming exchange.new ≡ unread N.Socket.coming exchange.old }
-        ensures latest { self.new.latest ≡ moment_of exchange.new }
-        ensures ahead { self.new.ahead ≡ self.old.ahead }
-    {
-        if let Some(latest) = self.latest {
-            exchange.come_after(latest);
-        }
-        self.latest = Some(exchange.moment());
     }
 
     /// The next connection whose request is there, in the order in which they were, but that one feed a turn comes behind the others. With
@@ -259,10 +261,7 @@ impl<N: Network> Connections<N> {
     {
         for _turn in 0..u64::MAX {
             match self.next_in_turn() {
-                Some((mut exchange, answer)) => {
-                    self.come_last(&mut exchange);
-                    return Ok(Some((exchange, answer)));
-                }
+                Some(next) => return Ok(Some(next)),
                 None => {}
             }
             if self.network.is_done() && self.connections.is_empty() {
@@ -278,7 +277,7 @@ impl<N: Network> Connections<N> {
     /// Takes a connection back with its answer, which goes out as its client takes it. It may have been made before all of the request
     /// was read (`is_early`): then what comes still is read for a moment.
     pub fn finish(&mut self, exchange: Exchange<N::Socket>, answer: Answer, is_early: bool)
-        ensures { IsTrue N.Socket.is_known → Thins self.old self.new }
+        ensures { IsTrue N.Socket.is_known → Loses self.old self.new }
     {
         let connection = exchange.into_answered(answer, is_early);
         self.connections

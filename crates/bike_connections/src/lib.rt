@@ -11,5 +11,5 @@ mod network;
 mod open;
 
 pub use connections::Connections;
-pub use limits::TURN;
+pub use limits::{ACCEPTS_AGAIN, MOST_OPEN, TURN};
 pub use network::{Accepted, Network};

@@ -17,6 +17,8 @@ pub enum Accepted<S> {
     Lost,
     /// None is there.
     Nobody,
+    /// None, since accepting failed; it may go well a moment later.
+    Failed,
 }
 
 /// Where connections come from, what tells which of them are ready, and the time.
@@ -39,12 +41,12 @@ pub trait Network: Drop {
     /// Whether one is to be accepted now.
     fn may_accept(&self) -> bool;
 
-    /// Accepts one without waiting.
+    /// Accepts one without waiting. An error is a network that accepts nobody any more.
     fn accept(&mut self) -> io::Result<Accepted<Self::Socket>>
         ensures { IsTrue Self.Socket.is_known → Accepts Self.Socket.coming (ahead self.old) (ahead self.new) result };
 
     /// Waits for one, and a moment for its request; with it comes the moment at which it was accepted, and how many bytes were read into
-    /// the piece. None where it didn't stay.
+    /// the piece. None where it didn't stay, or where accepting failed, behind the moment after which it may go well.
     fn accept_alone(
         &mut self,
         piece: &mut [u8],

@@ -50,8 +50,8 @@ impl<S: Socket> Model for Open<S> {
     ghost view = { λ o. ahead_in (λ ahead. ahead) o.connections.slots };
 }
 
-/// The sooner of two moments.
-fn sooner(soonest: Option<Duration>, end: Duration) -> Option<Duration> {
+/// The sooner of two moments, of which the first may be never.
+pub(crate) fn sooner(soonest: Option<Duration>, end: Duration) -> Option<Duration> {
     match soonest {
         Some(other) if other < end => Some(other),
         _ => Some(end),

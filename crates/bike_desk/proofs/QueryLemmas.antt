@@ -1,5 +1,5 @@
 -- What a query owes, from what its one read tells.
-use Rattle.std.proofs.Common.{◌≡◌, Bool, ◌||◌, true, false, IsTrue, Option, Result, Ok, Err, refl, sym, subst, ◌∙◌, arith}
+use Rattle.std.proofs.Common.{◌≡◌, Bool, ◌||◌, true, false, IsTrue, Option, Some, Result, Ok, Err, refl, sym, ap, subst, ◌∙◌, arith}
 use Rattle.sqlite_trees.specs.declared.store.Store.{Ghosts}
 use Rattle.sqlite.specs.Held.{Held, state}
 use Rattle.bike_operator.specs.Operator.{Operator}
@@ -9,10 +9,12 @@ use Rattle.bike_schema.specs.declared.fault.StatementFault.{StatementFault}
 use Rattle.bike_schema.proofs.AnswerLemmas.{reads_weaker}
 use Rattle.bike_office_reads.specs.Newest.{NewestTells}
 use Rattle.bike_booking.specs.declared.figures.Figures.{Figures}
+use Rattle.bike_booking.specs.Figures.{figures_of}
 use Rattle.bike_desk.specs.declared.fault.DeskFault.{DeskFault}
 use Rattle.bike_desk.specs.declared.fault.DeskFault.TheVariants.{NoMemory, StoreFailed, Stopped}
 use Rattle.sqlite.specs.State.{HasCleanDisk}
-use Rattle.bike_desk.specs.Desk.{DeskValue, desk_state}
+use Rattle.bike_desk.specs.declared.remembered.Remembered.{Remembered}
+use Rattle.bike_desk.specs.Desk.{DeskValue, desk_state, IsAt, IsRemembered}
 use Rattle.bike_desk.specs.Newest.{knows_newest}
 use Rattle.bike_desk.specs.declared.newest.Newest.{Newest}
 use Rattle.bike_desk.specs.Queries.{Queries, TellsOf}
@@ -62,21 +64,24 @@ module _ {S : Type 0} (g : Ghosts S) (conn next : Held S) (stopped : Bool) (newe
   abbrev pub after : DeskValue S
   after = record { conn = next; is_stopped = stopped || next.in_transaction; remembered = record { newest_tells = knows_newest newest; figures = figures } }
 
-  -- what the desk becomes where it learns this of newest rentals
-  abbrev pub after_learning : Newest → DeskValue S
-  after_learning later = record { conn = next; is_stopped = stopped || next.in_transaction; remembered = record { newest_tells = knows_newest later; figures = figures } }
+  abbrev pub remembered_before : Remembered
+  remembered_before = record { newest_tells = knows_newest newest; figures = figures }
 
-  learnt : (later : Newest) (x : A) → Answers g conn next {E = StatementFault} (Ok x) (λ s m y. (IsTrue (knows_newest newest) → NewestTells s) → (IsTrue (knows_newest later) → NewestTells s) × says s y)
+  -- what the desk becomes where it remembers this from then on
+  abbrev pub after_learning : Remembered → DeskValue S
+  after_learning later = record { conn = next; is_stopped = stopped || next.in_transaction; remembered = later }
+
+  learnt : (later : Remembered) (x : A) → Answers g conn next {E = StatementFault} (Ok x) (λ s m y. IsRemembered s remembered_before → IsRemembered s later × says s y)
       → Queries g before (after_learning later) (Ok x) says
   learnt later x reads = record {
     clean = reads.quiet.survives.clean;
     ok = λ clean s at.
-        let told = reads.found clean (kept_ours (state g conn) s at.keeps) s (kept_stores (state g conn) s at.keeps) at.remembers.newest in (
+        let told = reads.found clean (kept_ours (state g conn) s at.keeps) s (kept_stores (state g conn) s at.keeps) at.remembers in (
           told.1,
           record {
             goes_on = still_going stopped conn.in_transaction next.in_transaction at.goes_on (reads.quiet.mode at.keeps.autocommit);
             keeps = still g conn next s at.keeps clean (reads.same clean (kept_ours (state g conn) s at.keeps)) reads.quiet;
-            remembers = record { newest = told.0; figures = at.remembers.figures };
+            remembers = told.0;
           },
         );
     rests = λ clean s at on. (reads.same clean (kept_ours (state g conn) s at.keeps)).0.now_is;
@@ -88,7 +93,7 @@ module _ {S : Type 0} (g : Ghosts S) (conn next : Held S) (stopped : Bool) (newe
     stays = λ is_stopped. absurd (let e : true ≡ false = sym is_stopped ∙ going in cc);
   }
 
-  pub learns : (later : Newest) (x : A) (old : DeskValue S) → before ≡ old → Answers g conn next {E = StatementFault} (Ok x) (λ s m y. (IsTrue (knows_newest newest) → NewestTells s) → (IsTrue (knows_newest later) → NewestTells s) × says s y)
+  pub learns : (later : Remembered) (x : A) (old : DeskValue S) → before ≡ old → Answers g conn next {E = StatementFault} (Ok x) (λ s m y. IsRemembered s remembered_before → IsRemembered s later × says s y)
       → Queries g old (after_learning later) (Ok x) says
   learns later x old is reads = subst (λ (d : DeskValue S). Queries g d (after_learning later) (Ok x) says) is (learnt later x reads)
 
@@ -110,12 +115,27 @@ module _ {S : Type 0} (g : Ghosts S) (conn next : Held S) (stopped : Bool) (newe
       → Queries g before new result says
   queries_knowing (Ok x) new result reads tells =
       subst (λ (d : DeskValue S). Queries g before d result says) (sym tells.1)
-      (subst (λ (r : Result A DeskFault). Queries g before after r says) (sym tells.0) (learnt newest x (reads_weaker reads (λ db y is s h known. (known, is s h known)))))
+      (subst (λ (r : Result A DeskFault). Queries g before after r says) (sym tells.0) (learnt remembered_before x (reads_weaker reads (λ db y is s h known. (known, is s h known.newest)))))
   queries_knowing (Err e) new result reads tells =
       subst (λ (d : DeskValue S). Queries g before d result says) (sym tells.1) (subst (λ (r : Result A DeskFault). Queries g before (record after { is_stopped = true }) r says) (sym tells.0) (failed _ e reads))
 
   pub queries : (read : Result A StatementFault) (new : DeskValue S) (result : Result A DeskFault) → Answers g conn next read (λ s m. says s) → TellsOf read after new result → Queries g before new result says
   queries read new result reads tells = queries_knowing read new result (reads_weaker reads (λ db y is s h known. is s h)) tells
+
+-- what is remembered is told, and nothing is read
+pub told_now : {S : Type 0} (g : Ghosts S) (desk : DeskValue S) (figures : Figures) → desk.is_stopped ≡ false → desk.remembered.figures ≡ Some figures
+    → Queries g desk desk (Ok figures.now) (λ s now. now ≡ s.now)
+told_now g desk figures going known = record {
+  clean = omega arith;
+  ok = λ clean s at. (let are : figures ≡ figures_of s = rw known at at.remembers.figures in ap (λ (f : Figures). f.now) are, at);
+  rests = λ clean s at on. refl;
+  goes_on = going;
+  left = λ clean s at db h. h;
+  no_memory = λ is. absurd cc;
+  stops = λ is. absurd cc;
+  stopped = λ is. absurd cc;
+  stays = λ is_stopped. absurd (let e : true ≡ false = sym is_stopped ∙ going in cc);
+}
 
 -- one query after another that gave an answer, where the second takes no memory
 pub queries_then : {S : Type 0} (g : Ghosts S) (old mid new : DeskValue S) {A B : Type 0} {x : A} {result : Result B DeskFault} {says : Operator → A → Type 0} {told : Operator → B → Type 0}

@@ -14,7 +14,7 @@ use crate::newest::Newest;
 use bike_attributes::NameKind;
 use bike_catalogue::{MoreName, System};
 use bike_fields::{BicycleNumber, Ident, OrderNumber, RentalNumber, RiderNumber};
-use bike_fixed::Cents;
+use bike_fixed::{Cents, Moment};
 use bike_office_reads::{find_names, newest_tells};
 use bike_operator::{Bike, MOST_TYPES, Order, Place};
 use bike_queries::{
@@ -22,6 +22,7 @@ use bike_queries::{
     find_rental_info, find_rider_info, find_station_counts, find_system, find_type_ids,
 };
 use bike_schema::StatementFault;
+use bike_stored::find_figures;
 use sqlite::Alter;
 use std::alloc::Global;
 
@@ -68,6 +69,38 @@ impl<S: Alter> Desk<S> {
                 self.stopped = true;
                 Err(DeskFault::StoreFailed)
             }
+        }
+    }
+
+    /// Reads the operator's figures, which are remembered from then on, and tells its `now`.
+    fn learn_figures(&mut self) -> Result<Moment, DeskFault>
+        requires { self.old.is_stopped ≡ false }
+        ensures query { Queries S.Store self.old self.new result (λ s x. x ≡ s.now) }
+        ensures takes_none { result ≢ Err DeskFault.NoMemory }
+    {
+        match find_figures(&mut self.conn) {
+            Ok(figures) => {
+                let now = figures.now;
+                self.figures = Some(figures);
+                Ok(now)
+            }
+            Err(_) => {
+                self.stopped = true;
+                Err(DeskFault::StoreFailed)
+            }
+        }
+    }
+
+    /// The operator's `now`: the greatest moment of an accepted request, 0 where there was none. It is read once, and known from then
+    /// on.
+    pub fn now(&mut self) -> Result<Moment, DeskFault>
+        ensures query { Queries S.Store self.old self.new result (λ s x. x ≡ s.now) }
+        ensures takes_none { result ≢ Err DeskFault.NoMemory }
+    {
+        self.check_serving()?;
+        match self.figures {
+            Some(figures) => Ok(figures.now),
+            None => self.learn_figures(),
         }
     }
 

@@ -1,4 +1,5 @@
 pub mod Settling
+pub mod Awaiting
 pub mod Sending
 pub mod Reading
 pub mod Beginning

@@ -13,7 +13,7 @@ use Rattle.bike_heads.specs.declared.length.BodyLength.{BodyLength}
 use Rattle.bike_heads.specs.declared.length.BodyLength.TheVariants.{Malformed, TooLong, Of}
 use Rattle.bike_incoming.specs.Asked.{asked_for, asked_behind, Asks}
 use Rattle.bike_incoming.specs.declared.asked.Asked.{Asked}
-use Rattle.bike_exchange.specs.Settled.{IsSettled}
+use Rattle.bike_exchange.specs.Settled.{HasBody, IsSettled}
 
 -- a head stays what it is, whatever follows
 head_stays : (read more : List ℕ) (head : RequestHead) (rest : List ℕ) → HasHead read head rest → HasHead (read ++ more) head (rest ++ more)
@@ -24,13 +24,7 @@ pub settled_unreadable : (bytes : List ℕ) → ((more : List ℕ) → HasNoHead
 settled_unreadable bytes none asked (inl x) more = absurd (subst HasNoHead (append-nil bytes) (none []) x.0 x.1 x.2)
 settled_unreadable bytes none asked (inr x) more = inr (none more, x.1)
 
--- all of a body is there, or none is read
-abbrev IsThere : BodyLength → List ℕ → Type 0
-IsThere Malformed rest = Unit {0}
-IsThere TooLong rest = Unit {0}
-IsThere (Of n) rest = n ≤ length rest
-
-behind_stays : (b : BodyLength) (head : RequestHead) (rest more : List ℕ) → IsThere b rest → asked_behind b head rest ≡ asked_behind b head (rest ++ more)
+behind_stays : (b : BodyLength) (head : RequestHead) (rest more : List ℕ) → HasBody b rest → asked_behind b head rest ≡ asked_behind b head (rest ++ more)
 behind_stays Malformed head rest more there = refl
 behind_stays TooLong head rest more there = refl
 behind_stays (Of n) head rest more there =
@@ -40,12 +34,12 @@ behind_stays (Of n) head rest more there =
     let same : take n (rest ++ more) ≡ take n rest = take-append-le n rest more there in
     rw (before, after) (ap (asked_for head.method head.target) (sym same))
 
-settled_there : (bytes : List ℕ) (head : RequestHead) (rest : List ℕ) → HasHead bytes head rest → IsThere (body_length (map name_and_value head.fields)) rest → IsSettled bytes
+settled_there : (bytes : List ℕ) (head : RequestHead) (rest : List ℕ) → HasHead bytes head rest → HasBody (body_length (map name_and_value head.fields)) rest → IsSettled bytes
 settled_there bytes head rest has there asked (inr x) more = absurd (x.0 head rest has)
 settled_there bytes head rest has there asked (inl x) more =
     let same = request_unique bytes head x.0 rest x.1 has.reads x.2.reads in
-    let there_now : IsThere (body_length (map name_and_value x.0.fields)) x.1 =
-    subst (λ (h : RequestHead). IsThere (body_length (map name_and_value h.fields)) x.1) same.0 (subst (λ (l : List ℕ). IsThere (body_length (map name_and_value head.fields)) l) same.1 there) in
+    let there_now : HasBody (body_length (map name_and_value x.0.fields)) x.1 =
+    subst (λ (h : RequestHead). HasBody (body_length (map name_and_value h.fields)) x.1) same.0 (subst (λ (l : List ℕ). HasBody (body_length (map name_and_value head.fields)) l) same.1 there) in
     inl (x.0, x.1 ++ more, head_stays bytes more x.0 x.1 x.2, x.3 ∙ behind_stays (body_length (map name_and_value x.0.fields)) x.0 x.1 more there_now)
 
 -- the head is there, and of the body what counts
@@ -54,7 +48,7 @@ IsIn Malformed head all = Unit {0}
 IsIn TooLong head all = Unit {0}
 IsIn (Of n) head all = n ≤ all - head
 
-there_of : (b : BodyLength) (head all : ℕ) (rest : List ℕ) → all ≡ head + length rest → IsIn b head all → IsThere b rest
+there_of : (b : BodyLength) (head all : ℕ) (rest : List ℕ) → all ≡ head + length rest → IsIn b head all → HasBody b rest
 there_of Malformed head all rest e it = tt
 there_of TooLong head all rest e it = tt
 there_of (Of n) head all rest e it = omega (arith, e, it)
@@ -63,4 +57,4 @@ pub settled_whole : (bytes : List ℕ) (told : Head) → IsRead bytes (Whole tol
 settled_whole bytes told is it =
     let len : length bytes ≡ told.length + length is.1 =
     ap length is.2.reads.1 ∙ (length-append (print_request is.0) is.1 ∙ ap (λ (n : ℕ). n + length is.1) (sym is.3.length)) in
-    settled_there bytes is.0 is.1 is.2 (subst (λ (b : BodyLength). IsThere b is.1) is.3.body (there_of told.body told.length (length bytes) is.1 len it))
+    settled_there bytes is.0 is.1 is.2 (subst (λ (b : BodyLength). HasBody b is.1) is.3.body (there_of told.body told.length (length bytes) is.1 len it))

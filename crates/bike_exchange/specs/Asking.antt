@@ -10,7 +10,7 @@ pub record Coming : Type 0 where
   pub moment : ℕ
   pub input : List ℕ
 
--- when it was accepted, or another that was handed out before, if that is later
+-- when it was accepted
 abbrev pub moment_of : {S : Type 0} → Exchange S → ℕ
 moment_of {S} exchange = exchange.peer.moment
 

@@ -1,3 +1,4 @@
 pub mod Asking
 pub mod Settled
+pub mod Awaiting
 pub mod Answers

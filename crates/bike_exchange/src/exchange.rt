@@ -1,6 +1,6 @@
 //! Connections that are handed out.
 
-ghost use Rattle.std.specs.Prelude.{◌≡◌, ◌≤◌, ◌<◌, ◌++◌, [], max, length, take, drop};
+ghost use Rattle.std.specs.Prelude.{◌≡◌, ◌≤◌, ◌<◌, ◌++◌, [], length, take, drop};
 ghost use Rattle.bike_exchange.specs.Asking.{moment_of, unread};
 
 use crate::answer::Answer;
@@ -35,7 +35,7 @@ impl<S: Socket> Exchange<S> {
         }
     }
 
-    /// When the connection was accepted, or another that was handed out before, if that is later.
+    /// When the connection was accepted.
     pub fn moment(&self) -> Moment
         ensures { result ≡ moment_of self.now }
     {
@@ -47,14 +47,6 @@ impl<S: Socket> Exchange<S> {
         ensures { result ≡ [] }
     {
         Connection::sending(self.peer, answer, is_early)
-    }
-
-    /// Handed out behind one of this moment, it has no earlier one.
-    pub fn come_after(&mut self, latest: Moment)
-        ensures moment { moment_of self.new ≡ max (moment_of self.old) latest }
-        ensures unread { unread S.coming self.new ≡ unread S.coming self.old }
-    {
-        self.peer.moment = self.peer.moment.later(&latest);
     }
 
     /// Copies bytes that were gathered; how many. None are copied where all were read, or where there is no room for any.

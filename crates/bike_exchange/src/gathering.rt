@@ -1,12 +1,13 @@
 //! The bytes of a request, as they come.
 
-ghost use Rattle.std.specs.Prelude.{◌≡◌, [], ◌++◌, true, Some, OnOk};
+ghost use Rattle.std.specs.Prelude.{◌≡◌, ◌⊎◌, [], ◌++◌, true, false, IsTrue, Some, OnOk};
 ghost use Rattle.bike_incoming.specs.Received.{Grew};
-ghost use Rattle.bike_exchange.specs.Settled.{IsSettled, IsThere};
+ghost use Rattle.bike_exchange.specs.Settled.{IsSettled, IsThere, IsWhole};
+ghost use Rattle.bike_exchange.specs.Awaiting.{Awaits};
 
 use crate::connection::Step;
 use crate::limits::{MOST_CALLS, PIECE};
-use crate::settled::{bytes_wanted, is_settled};
+use crate::settled::{Awaited, still_awaited};
 use std::alloc::{AllocError, Global};
 use std::io::{ErrorKind, Read};
 
@@ -17,10 +18,14 @@ const MOST_BYTES: usize = 24_576;
 #[derive(Drop)]
 pub struct Gathering {
     pub(crate) bytes: Vec<u8>,
-    /// With fewer bytes than so many it isn't settled.
-    wanted: usize,
+    /// What was waited for as they were last looked at.
+    awaited: Awaited,
+    /// Whether a line end came since.
+    has_line_end: bool,
     /// Whether nothing more comes.
     pub(crate) is_ended: bool,
+
+    ghost awaits: { Awaits awaited has_line_end bytes.items },
 }
 
 impl Gathering {
@@ -30,7 +35,8 @@ impl Gathering {
     {
         Gathering {
             bytes: Vec::new(alloc),
-            wanted: 1,
+            awaited: Awaited::LineEnd(0),
+            has_line_end: false,
             is_ended: false,
         }
     }
@@ -39,6 +45,7 @@ impl Gathering {
     pub(crate) fn add(&mut self, bytes: &[u8]) -> Result<(), AllocError>
         ensures { OnOk result (self.new.bytes.items ≡ self.old.bytes.items ++ bytes.now) }
     {
+        self.has_line_end |= bytes.contains(&b'\n');
         let length = self.bytes.len();
         let most = MOST_BYTES.saturating_sub(length);
         let room = length.min(most).max(bytes.len());
@@ -46,19 +53,34 @@ impl Gathering {
         self.bytes.extend_from_slice(bytes)
     }
 
+    /// Whether the bytes are to be looked at once more, as a whole request is. Where no line end comes that is once there are twice as many,
+    /// so that not all are looked at for each that comes.
+    fn may_be_settled(&self) -> bool
+        ensures { IsWhole self.now.bytes.items → IsTrue result }
+    {
+        match self.awaited {
+            Awaited::LineEnd(most) => self.has_line_end || self.bytes.len() > most,
+            Awaited::Bytes(length) => self.bytes.len() >= length,
+        }
+    }
+
     /// Whether no more is wanted.
     fn is_settled(&mut self) -> bool
         ensures settled { result ≡ true → IsSettled self.new.bytes.items }
+        ensures whole { IsWhole self.new.bytes.items → IsTrue result }
         ensures kept { self.new.bytes.items ≡ self.old.bytes.items }
     {
-        if self.bytes.len() < self.wanted {
+        if !self.may_be_settled() {
             return false;
         }
-        if is_settled(self.bytes.as_slice()) {
-            return true;
+        match still_awaited(self.bytes.as_slice()) {
+            Some(awaited) => {
+                self.awaited = awaited;
+                self.has_line_end = false;
+                false
+            }
+            None => true,
         }
-        self.wanted = bytes_wanted(self.bytes.as_slice());
-        false
     }
 
     /// Reads a piece of what is there; none where more may be there.
@@ -67,6 +89,8 @@ impl Gathering {
             self.old.bytes.items self.new.bytes.items }
         ensures settled { result ≡ Some Step.Settled
             → IsThere self.new.is_ended (R.remaining reader.new) self.new.bytes.items }
+        ensures waits { (IsWhole self.old.bytes.items → ⊥) → IsWhole self.new.bytes.items
+            → (result ≡ Some Step.Settled) ⊎ (result ≡ Some Step.Over) }
     {
         let mut piece = [0; PIECE];
         let room = MOST_BYTES.saturating_sub(self.bytes.len()).min(PIECE);
@@ -93,12 +117,14 @@ impl Gathering {
     }
 
     /// Reads what is there, by at most 16 reads, until no more is wanted. It is over where a read fails or memory is refused. Else all
-    /// that was read stands behind what came before, and where it is settled the input is at its end, or what it asks for is known.
+    /// that was read stands behind what came before, and where it is settled the input is at its end, or what it asks for is known. No more
+    /// is waited for of a whole request.
     pub fn gather<R: Read>(&mut self, reader: &mut R) -> Step
         ensures grew { (result ≡ Step.Over → ⊥) → Grew (R.remaining reader.old) (R.remaining reader.new)
             self.old.bytes.items self.new.bytes.items }
         ensures settled { result ≡ Step.Settled
             → IsThere self.new.is_ended (R.remaining reader.new) self.new.bytes.items }
+        ensures waits { IsWhole self.new.bytes.items → (result ≡ Step.Settled) ⊎ (result ≡ Step.Over) }
     {
         if self.is_settled() {
             return Step::Settled;

@@ -18,5 +18,4 @@ pub use connection::{Connection, Step};
 pub use exchange::Exchange;
 pub use gathering::Gathering;
 pub use limits::PIECE;
-pub use settled::is_settled;
 pub use socket::{Socket, Wants};

@@ -80,7 +80,7 @@ fn publish<S: Alter, W: Output>(
 
 /// Writes the feed for a moment: the text of the operator for which the desk stands, and nothing else.
 ///
-/// `SystemMissing` comes exactly where no system is set, and then nothing is written; after `Write` or a fault of the desk a front of
+/// `SystemMissing` comes only where no system is set, and then nothing is written; after `Write` or a fault of the desk a front of
 /// the text is. What is kept never changes. `Write` leaves the desk as it was, `StoreFailed` stops it, also where memory is
 /// refused while a row is copied out, and a stopped desk answers `Stopped`, stays as it is and writes nothing. `NoMemory` never
 /// comes: nothing here takes memory before the engine does.

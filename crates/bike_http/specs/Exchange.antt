@@ -1,5 +1,5 @@
 -- What an input is answered, and the operator after it.
-use Rattle.std.specs.Prelude.{◌≡◌, ℕ, List, ◌++◌, length, Option, Some, None, IfSome}
+use Rattle.std.specs.Prelude.{◌≡◌, ℕ, max, List, ◌++◌, length, Option, Some, None, IfSome}
 use Rattle.bike_catalogue.specs.Rows.{SystemRow}
 use Rattle.bike_operator.specs.Operator.{Operator}
 use Rattle.bike_operator.specs.Runs.{step}
@@ -26,12 +26,12 @@ abbrev pub feed_response : Operator → ℕ → Feed → Option SystemRow → Re
 feed_response s t feed None = answered not_found
 feed_response s t feed (Some x) = published (feed_text s x feed t)
 
--- THE TABLE: the response to what is asked of an operator at a moment ..
+-- THE TABLE: the response to what is asked of an operator at a moment; a feed is for the operator's `now` where that is later ..
 abbrev pub response_of : Operator → ℕ → Asked → Response
 response_of s t (Reject rejection) = answered (answer.Rejected rejection)
 response_of s t (Apply q) = answered (answer.Replied (step s t q).0)
 response_of s t (Show row) = answered (shown_of s row)
-response_of s t (Publish feed) = feed_response s t feed s.system
+response_of s t (Publish feed) = feed_response s (max t s.now) feed s.system
 
 -- .. and the operator after it
 abbrev pub operator_after : Operator → ℕ → Asked → Operator

@@ -1,6 +1,6 @@
 //! Asking the desk, and sending the response.
 
-ghost use Rattle.std.specs.Prelude.{◌≡◌, ◌≤◌, IsTrue};
+ghost use Rattle.std.specs.Prelude.{◌≡◌, ◌≤◌, max, IsTrue};
 ghost use Rattle.sqlite_trees.specs.View.{doubt};
 ghost use Rattle.bike_operator.specs.Sound.{IsCall};
 ghost use Rattle.bike_feeds.specs.Desk.{desk_state, OfOperator, KeepsWhereGoing};
@@ -156,8 +156,8 @@ fn send_text<W: Write>(writer: &mut W, text: &[u8]) -> Result<u16, SendFault>
     }
 }
 
-/// Publishes a feed: its text is held as it is made, and sent once its length is known.
-fn publish<S: Alter, W: Write>(
+/// Publishes a feed for a moment: its text is held as it is made, and sent once its length is known.
+fn publish_at<S: Alter, W: Write>(
     alloc: Global,
     desk: &mut Desk<S>,
     feed: Feed,
@@ -178,6 +178,28 @@ fn publish<S: Alter, W: Write>(
         // No more is held.
         Err(FeedFault::Write) => publish_counted(alloc, desk, feed, moment, writer),
         Err(FeedFault::SystemMissing) => send(writer, &Answer::Rejected(Rejection::NotFound)),
+        Err(_) => send(writer, &Answer::Unavailable),
+    }
+}
+
+/// Publishes a feed for this moment, or for the operator's `now` where that is later: no feed is older than what it tells.
+fn publish<S: Alter, W: Write>(
+    alloc: Global,
+    desk: &mut Desk<S>,
+    feed: Feed,
+    moment: Moment,
+    writer: &mut W,
+) -> Result<u16, SendFault>
+    ensures clean { doubt (desk_state S.Store desk.old).is_clean ≤ doubt (desk_state S.Store desk.new).is_clean }
+    ensures sent { OfOperator S.Store desk.old desk.new (λ s.
+        Publishes S.Store desk.new s (max moment s.now) feed (W.contents writer.old) (W.contents writer.new) result) }
+    ensures rests { KeepsWhereGoing S.Store desk.old desk.new }
+    ensures stays { IsTrue desk.old.is_stopped → desk.new ≡ desk.old }
+    ensures refuses { IsTrue desk.old.is_stopped
+        → SendsAnswer (W.contents writer.old) (W.contents writer.new) Answer.Unavailable result }
+{
+    match desk.now() {
+        Ok(now) => publish_at(alloc, desk, feed, moment.later(&now), writer),
         Err(_) => send(writer, &Answer::Unavailable),
     }
 }

@@ -5,7 +5,7 @@ ghost use Rattle.bike_incoming.specs.Asked.{Asks};
 ghost use Rattle.bike_incoming.specs.Received.{Grew, IsOpened, Opens, Fills, Received, WantsMemory};
 
 use crate::asked::{Asked, ask};
-use crate::input::{Input, ReadFailed};
+use crate::input::{Input, ReadFailed, ReadsLeft};
 use bike_heads::{BodyLength, HEAD_LENGTH, Head, HeadReading, Rejection, Routes, read_head};
 use std::alloc::{AllocError, Global};
 use std::io::Read;
@@ -58,14 +58,19 @@ enum Opening {
 
 /// Reads until the input's head is whole, or no head can come.
 #[tactic(auto, using(crate::proofs::Receiving::grew_then, crate::proofs::Receiving::told_opened, crate::proofs::Receiving::ended_opens))]
-fn receive_head<R: Read>(reader: &mut R, input: &mut Input) -> Result<Opening, ReadFailed>
+fn receive_head<R: Read>(
+    reader: &mut R,
+    reads: &mut ReadsLeft,
+    input: &mut Input,
+) -> Result<Opening, ReadFailed>
     requires { input.old ≡ [] }
     ensures grew { OnOk result (Grew (R.remaining reader.old) (R.remaining reader.new) input.old input.new) }
     ensures opens { IfOk result (Opens input.new (R.remaining reader.new)) }
     ensures short { length input.new ≤ 8192 }
+    ensures fewer { reads.new.count ≤ reads.old.count }
 {
     loop {
-        if !input.read_more(reader, HEAD_LENGTH)? {
+        if !input.read_more(reader, reads, HEAD_LENGTH)? {
             if input.as_slice().is_empty() {
                 return Ok(Opening::Empty);
             }
@@ -81,12 +86,18 @@ fn receive_head<R: Read>(reader: &mut R, input: &mut Input) -> Result<Opening, R
 
 /// Reads until so many bytes are there; false where the input ends before.
 #[tactic(auto, using(crate::proofs::Receiving::grew_then))]
-fn receive_until<R: Read>(reader: &mut R, input: &mut Input, end: usize) -> Result<bool, ReadFailed>
+fn receive_until<R: Read>(
+    reader: &mut R,
+    reads: &mut ReadsLeft,
+    input: &mut Input,
+    end: usize,
+) -> Result<bool, ReadFailed>
     requires { end ≤ 24576 }
-    ensures { IfOk result (Fills (R.remaining reader.old) (R.remaining reader.new) input.old input.new end) }
+    ensures fewer { reads.new.count ≤ reads.old.count }
+    ensures fills { IfOk result (Fills (R.remaining reader.old) (R.remaining reader.new) input.old input.new end) }
 {
     while input.as_slice().len() < end {
-        if !input.read_more(reader, end)? {
+        if !input.read_more(reader, reads, end)? {
             return Ok(false);
         }
     }
@@ -98,10 +109,12 @@ fn receive_body<R: Read>(
     alloc: Global,
     routes: &Routes,
     reader: &mut R,
+    reads: &mut ReadsLeft,
     input: &mut Input,
     head: Head,
 ) -> Result<Asked, ReceiveFault>
     requires { IsOpened input.old head }
+    ensures fewer { reads.new.count ≤ reads.old.count }
     ensures asks { IfOk result (λ asked. IfSome (R.remaining reader.old) (λ left. Asks (input.old ++ left) asked)) }
     ensures memory { result ≡ Err ReceiveFault.NoMemory
         → IfSome (R.remaining reader.old) (λ left. WantsMemory (input.old ++ left)) }
@@ -112,7 +125,7 @@ fn receive_body<R: Read>(
         BodyLength::Of(size) => size,
     };
     let end = head.length + size;
-    if !receive_until(reader, input, end)? {
+    if !receive_until(reader, reads, input, end)? {
         return Ok(Asked::Reject(Rejection::BadRequest));
     }
     let bytes = input.as_slice();
@@ -134,9 +147,12 @@ pub fn receive<R: Read>(
     ensures memory { result ≡ Err ReceiveFault.NoMemory → IfSome (R.remaining reader.old) WantsMemory }
 {
     let mut input = Input::new();
-    match receive_head(reader, &mut input)? {
+    let mut reads = ReadsLeft::new();
+    match receive_head(reader, &mut reads, &mut input)? {
         Opening::Empty => Ok(None),
         Opening::Unreadable => Ok(Some(Asked::Reject(Rejection::BadRequest))),
-        Opening::Whole(head) => Ok(Some(receive_body(alloc, routes, reader, &mut input, head)?)),
+        Opening::Whole(head) => Ok(Some(receive_body(
+            alloc, routes, reader, &mut reads, &mut input, head,
+        )?)),
     }
 }

@@ -1,6 +1,6 @@
 //! The bytes of an input that are read.
 
-ghost use Rattle.std.specs.Prelude.{◌≡◌, ◌<◌, ◌≤◌, [], length, IfOk, OnErr};
+ghost use Rattle.std.specs.Prelude.{◌≡◌, ◌+◌, ◌<◌, ◌≤◌, [], length, IfOk, OnOk, OnErr};
 ghost use Rattle.std.specs.Io.KnownBytes.{Keeps};
 ghost use Rattle.bike_incoming.specs.Received.{ReadsMore};
 
@@ -18,12 +18,38 @@ pub const MOST_READS: u32 = 20_000;
 #[derive(Clone, Copy)]
 pub(crate) struct ReadFailed;
 
+/// How many reads of an input may still be made.
+#[derive(Drop)]
+pub(crate) struct ReadsLeft {
+    count: u32,
+}
+
+impl ReadsLeft {
+    /// Those of one input.
+    pub(crate) fn new() -> ReadsLeft
+        ensures { result.count ≡ 20000 }
+    {
+        ReadsLeft { count: MOST_READS }
+    }
+
+    /// Takes one off; a fault where none is left.
+    fn spend(&mut self) -> Result<(), ReadFailed>
+        ensures counted { OnOk result (self.new.count + 1 ≡ self.old.count) }
+        ensures kept { OnErr result (self.new ≡ self.old) }
+    {
+        if self.count == 0 {
+            return Err(ReadFailed);
+        }
+        self.count -= 1;
+        Ok(())
+    }
+}
+
 /// What was read of an input, in a fixed array and so without memory; seen as the list of its bytes.
 #[derive(Drop)]
 pub(crate) struct Input {
     bytes: [u8; INPUT_ROOM],
     length: usize,
-    reads: u32,
 }
 
 impl Model for Input {
@@ -44,7 +70,6 @@ impl Input {
         Input {
             bytes: [0; INPUT_ROOM],
             length: 0,
-            reads: MOST_READS,
         }
     }
 
@@ -56,10 +81,11 @@ impl Input {
         &self.bytes[..self.length]
     }
 
-    /// Reads once, up to `end` bytes in all; false at the end of the input.
+    /// Reads once, up to `end` bytes in all; false at the end of the input. It is one of the reads that are left.
     pub(crate) fn read_more<R: Read>(
         &mut self,
         reader: &mut R,
+        reads: &mut ReadsLeft,
         end: usize,
     ) -> Result<bool, ReadFailed>
         requires room { length self.old < end }
@@ -67,11 +93,10 @@ impl Input {
         ensures more { IfOk result (ReadsMore (R.remaining reader.old) (R.remaining reader.new) self.old self.new) }
         ensures within { length self.new ≤ end }
         ensures fault { OnErr result (Keeps (R.remaining reader.old) (R.remaining reader.new)) }
+        ensures counted { OnOk result (reads.new.count + 1 ≡ reads.old.count) }
+        ensures fewer { reads.new.count ≤ reads.old.count }
     {
-        if self.reads == 0 {
-            return Err(ReadFailed);
-        }
-        self.reads -= 1;
+        reads.spend()?;
         match reader.read(&mut self.bytes[self.length..end]) {
             Ok(count) => {
                 self.length += count;

@@ -1,15 +1,47 @@
 //! Descriptors that the process may have.
 
+use bike_connections::MOST_OPEN;
 use libc::types::rlimit;
+use std::{fs, io};
 
-/// How many descriptors the program needs: one for each connection, and those of the database, the listener and the standard streams.
-const MOST_DESCRIPTORS: u64 = 1016;
+/// Where the system tells which descriptors are open, one entry for each.
+const OPEN_DESCRIPTORS: &str = "/proc/self/fd";
 
-/// Whether the process may have as many descriptors as it needs.
-pub fn has_descriptors() -> bool {
+/// How many are open at least, or where that isn't told: the standard streams, the database and its log, and some to spare.
+const LEAST_OPEN: u64 = 8;
+
+/// How many the program opens beside its connections: the listener's two, what tells which sockets are ready, and those that storage
+/// opens for a moment.
+const FURTHER: u64 = 8;
+
+/// How many descriptors are open; an error where that isn't told.
+fn open_descriptors(rt: &HostRuntime) -> io::Result<u64> {
+    let mut count: u64 = 0;
+    for entry in fs::read_dir(rt, OPEN_DESCRIPTORS)? {
+        entry?;
+        count = count.saturating_add(1);
+    }
+    // That of the folder itself is closed again.
+    Ok(count.saturating_sub(1))
+}
+
+/// How many descriptors the process may have at once, those that are open among them; none where that isn't told.
+fn most_descriptors() -> Option<u64> {
     let mut limit = rlimit {
         rlim_cur: 0,
         rlim_max: 0,
     };
-    libc::getrlimit(libc::RLIMIT_NOFILE, &mut limit) == 0 && limit.rlim_cur >= MOST_DESCRIPTORS
+    if libc::getrlimit(libc::RLIMIT_NOFILE, &mut limit) == 0 {
+        Some(limit.rlim_cur)
+    } else {
+        None
+    }
+}
+
+/// Whether as many connections as are open at most fit beside what is open now and what the program still opens, within the soft limit.
+/// Where `/proc/self/fd` can't be read, eight descriptors count as open.
+pub fn has_descriptors(rt: &HostRuntime) -> bool {
+    let open = open_descriptors(rt).unwrap_or(LEAST_OPEN).max(LEAST_OPEN);
+    let needed = open.saturating_add(FURTHER + MOST_OPEN as u64);
+    most_descriptors().is_some_and(|most| most >= needed)
 }

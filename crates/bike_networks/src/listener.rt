@@ -1,12 +1,25 @@
 //! The listener on a port.
 
+ghost use Rattle.std.specs.Prelude.{◌≡◌, ◌<◌, ◌-◌, IsTrue, IfOk, OnErr};
+
 use crate::loopback::LISTENER;
 use mio::net::{TcpListener, TcpStream};
 use mio::{Interest, Registry};
-use std::io::ErrorKind;
+use std::io::{Error, ErrorKind};
 use std::net::{Ipv4Addr, SocketAddr};
 use std::os::fd::AsFd;
 use std::{io, net};
+
+/// The number of the error that a socket is of another kind than a call is made for (EOPNOTSUPP).
+const NOT_SUPPORTED: i32 = 95;
+
+/// Whether the listener is gone, so that nobody can be accepted any more. Any other failure of accepting may be over a moment later.
+pub(crate) fn is_gone(error: &Error) -> bool {
+    matches!(
+        error.raw_os_error(),
+        Some(libc::EBADF | libc::EINVAL | libc::ENOTSOCK | NOT_SUPPORTED)
+    )
+}
 
 /// A listener on a port of the loopback address.
 #[derive(Drop)]
@@ -47,27 +60,38 @@ impl Listener {
     }
 
     /// Whether all are accepted that were to be.
-    pub(crate) fn is_done(&self) -> bool {
+    pub(crate) fn is_done(&self) -> bool
+        ensures { IsTrue result → self.now.left ≡ 0 }
+    {
         self.left == 0
     }
 
     /// Accepts nobody any more.
-    pub(crate) fn close(&mut self) {
+    pub(crate) fn close(&mut self)
+        ensures { self.new ≡ record self.old { left = 0 } }
+    {
         self.left = 0;
     }
 
     /// Somebody waits to be accepted.
-    pub(crate) fn wake(&mut self) {
+    pub(crate) fn wake(&mut self)
+        ensures { self.new.left ≡ self.old.left }
+    {
         self.may_accept = true;
     }
 
     /// Whether one is to be accepted now.
-    pub(crate) fn may_accept(&self) -> bool {
+    pub(crate) fn may_accept(&self) -> bool
+        ensures { IsTrue result → 0 < self.now.left }
+    {
         self.may_accept && self.left > 0
     }
 
-    /// Accepts one without waiting.
-    pub(crate) fn accept(&mut self) -> io::Result<TcpStream> {
+    /// Accepts one without waiting. Then one less is still to be accepted.
+    pub(crate) fn accept(&mut self) -> io::Result<TcpStream>
+        ensures counts { IfOk result (λ stream. self.new.left ≡ self.old.left - 1) }
+        ensures kept { OnErr result (self.new.left ≡ self.old.left) }
+    {
         match self.polled.accept() {
             Ok((stream, _)) => {
                 self.left = self.left.saturating_sub(1);
@@ -83,7 +107,9 @@ impl Listener {
     }
 
     /// Says whether `accept` waits.
-    fn set_waits(&mut self, waits: bool) -> io::Result<()> {
+    fn set_waits(&mut self, waits: bool) -> io::Result<()>
+        ensures { self.new.left ≡ self.old.left }
+    {
         if self.waits != waits {
             self.waiting.set_nonblocking(!waits)?;
             self.waits = waits;
@@ -92,7 +118,10 @@ impl Listener {
     }
 
     /// Waits for one, where none is open. It takes fewer calls of the system than to be told of it.
-    pub(crate) fn accept_alone(&mut self) -> io::Result<net::TcpStream> {
+    pub(crate) fn accept_alone(&mut self) -> io::Result<net::TcpStream>
+        ensures counts { IfOk result (λ stream. self.new.left ≡ self.old.left - 1) }
+        ensures kept { OnErr result (self.new.left ≡ self.old.left) }
+    {
         self.set_waits(true)?;
         let (stream, _) = self.waiting.accept()?;
         self.left = self.left.saturating_sub(1);
@@ -100,7 +129,9 @@ impl Listener {
     }
 
     /// Has `accept` not wait, since one is open. Others may have come meanwhile.
-    pub(crate) fn stop_waiting(&mut self) -> io::Result<()> {
+    pub(crate) fn stop_waiting(&mut self) -> io::Result<()>
+        ensures { self.new.left ≡ self.old.left }
+    {
         if self.waits {
             self.may_accept = true;
         }

@@ -3,8 +3,8 @@
 ghost use Rattle.std.specs.Prelude.{◌≤◌, length, IfOk};
 
 use crate::clock::clock_moment;
-use crate::listener::Listener;
-use bike_connections::{Accepted, Network, TURN};
+use crate::listener::{Listener, is_gone};
+use bike_connections::{ACCEPTS_AGAIN, Accepted, Network, TURN};
 use bike_exchange::{Socket, Wants};
 use bike_fixed::Moment;
 use mio::net::TcpStream;
@@ -130,6 +130,21 @@ impl<'a> Loopback<'a> {
         self.listener.local_addr()
     }
 
+    /// Waits until accepting that failed may go well, whoever comes meanwhile.
+    fn pause(&mut self) -> io::Result<()> {
+        let end = self
+            .now()?
+            .saturating_add(Duration::from_millis(ACCEPTS_AGAIN));
+        for _turn in 0..u64::MAX {
+            let left = end.saturating_sub(self.now()?);
+            if left.is_zero() {
+                return Ok(());
+            }
+            self.wait(Some(left))?;
+        }
+        Ok(())
+    }
+
     /// The clock's moment; an error is a clock that fails.
     fn moment(&self) -> io::Result<Moment> {
         match clock_moment(self.rt) {
@@ -164,7 +179,8 @@ impl<'a> Network for Loopback<'a> {
             Ok(stream) => Ok(Accepted::One(LoopbackSocket { stream }, self.moment()?)),
             Err(error) if error.kind() == ErrorKind::WouldBlock => Ok(Accepted::Nobody),
             Err(error) if error.kind() == ErrorKind::ConnectionAborted => Ok(Accepted::Lost),
-            Err(error) => Err(error),
+            Err(error) if is_gone(&error) => Err(error),
+            Err(_) => Ok(Accepted::Failed),
         }
     }
 
@@ -172,7 +188,15 @@ impl<'a> Network for Loopback<'a> {
         &mut self,
         piece: &mut [u8],
     ) -> io::Result<Option<(LoopbackSocket, Moment, usize)>> {
-        let stream = self.listener.accept_alone()?;
+        let stream = match self.listener.accept_alone() {
+            Ok(stream) => stream,
+            Err(error) if error.kind() == ErrorKind::ConnectionAborted => return Ok(None),
+            Err(error) if is_gone(&error) => return Err(error),
+            Err(_) => {
+                self.pause()?;
+                return Ok(None);
+            }
+        };
         let Ok(count) = read_alone(&stream, piece) else {
             return Ok(None);
         };

@@ -1,9 +1,9 @@
 //! A network in memory, whose clients send and take their bytes in pieces: for tests of every interleaving, and for what contracts say where
 //! all is known that comes.
 
-ghost use Rattle.std.specs.Prelude.{◌<◌, IfOk};
+ghost use Rattle.std.specs.Prelude.{◌≡◌, ◌<◌, IfOk};
 
-use bike_connections::{Accepted, Network};
+use bike_connections::{ACCEPTS_AGAIN, Accepted, Network};
 use bike_exchange::{Socket, Wants};
 use bike_fixed::Moment;
 use std::collections::VecDeque;
@@ -124,6 +124,8 @@ pub struct SimulatedNetwork<'a> {
     key: usize,
     /// How many keys there are.
     keys: usize,
+    /// How many times accepting fails still.
+    failures: u64,
 }
 
 impl<'a> SimulatedNetwork<'a> {
@@ -135,7 +137,26 @@ impl<'a> SimulatedNetwork<'a> {
             turn: 0,
             key: keys,
             keys,
+            failures: 0,
         }
+    }
+
+    /// The same, where accepting fails so many times first.
+    pub fn failing(self, failures: u64) -> SimulatedNetwork<'a> {
+        let mut network = self;
+        network.failures = failures;
+        network
+    }
+
+    /// Whether accepting fails this time.
+    fn fails(&mut self) -> bool
+        ensures { self.new ≡ record self.old { failures = self.new.failures } }
+    {
+        if self.failures == 0 {
+            return false;
+        }
+        self.failures -= 1;
+        true
     }
 }
 
@@ -163,6 +184,9 @@ impl<'a> Network for SimulatedNetwork<'a> {
     }
 
     fn accept(&mut self) -> io::Result<Accepted<SimulatedSocket<'a>>> {
+        if self.fails() {
+            return Ok(Accepted::Failed);
+        }
         match self.clients.pop_front() {
             Some(client) => {
                 let moment = client.moment;
@@ -176,6 +200,10 @@ impl<'a> Network for SimulatedNetwork<'a> {
         &mut self,
         _piece: &mut [u8],
     ) -> io::Result<Option<(SimulatedSocket<'a>, Moment, usize)>> {
+        if self.fails() {
+            self.turn = self.turn.saturating_add(ACCEPTS_AGAIN / TURN);
+            return Ok(None);
+        }
         match self.clients.pop_front() {
             Some(client) => {
                 self.turn = self.turn.max(client.wait);

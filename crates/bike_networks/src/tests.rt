@@ -20,6 +20,9 @@ const ORDERS: u32 = 19_683;
 /// In how many orders bytes of two clients come, and those of three.
 const BYTE_ORDERS: u64 = 2_000;
 
+/// How many times accepting fails at most.
+const MOST_FAILURES: u64 = 20;
+
 /// How many steps a client has at most: two for each byte of its own, and one for each of two others.
 const MOST_STEPS: usize = 72;
 
@@ -155,8 +158,9 @@ fn answer_all(connections: &mut Connections<SimulatedNetwork<'_>>) -> Option<u32
     None
 }
 
-/// Two or three exchanges, each sent and taken by its steps; whether each is answered with its own request.
-fn are_answered(alloc: Global, steps: &[Steps; 3], most: u32) -> Option<bool> {
+/// Two or three exchanges, each sent and taken by its steps, where accepting fails so many times first; whether each is answered with its
+/// own request.
+fn are_answered(alloc: Global, steps: &[Steps; 3], most: u32, failures: u64) -> Option<bool> {
     let mut first = Vec::new(alloc);
     let mut second = Vec::new(alloc);
     let mut third = Vec::new(alloc);
@@ -197,7 +201,8 @@ fn are_answered(alloc: Global, steps: &[Steps; 3], most: u32) -> Option<bool> {
             })
             .ok()?;
     }
-    let mut connections = Connections::new(alloc, SimulatedNetwork::new(clients)).ok()?;
+    let network = SimulatedNetwork::new(clients).failing(failures);
+    let mut connections = Connections::new(alloc, network).ok()?;
     let count = answer_all(&mut connections)?;
     connections.close(std::time::Duration::from_secs(10)).ok()?;
     drop(connections);
@@ -214,7 +219,7 @@ fn answered_orders(alloc: Global) -> Option<u32> {
     let mut answered: u32 = 0;
     for order in 0..ORDERS {
         if let Some(steps) = steps_of_pieces(order) {
-            if !are_answered(alloc, &steps, 3)? {
+            if !are_answered(alloc, &steps, 3, 0)? {
                 return None;
             }
             answered = answered.saturating_add(1);
@@ -228,11 +233,27 @@ fn are_all_answered(alloc: Global) -> Option<bool> {
     for seed in 0..BYTE_ORDERS {
         let two = steps_of_bytes(seed, 0)?;
         let three = steps_of_bytes(seed, LENGTH)?;
-        if !are_answered(alloc, &two, 2)? || !are_answered(alloc, &three, 3)? {
+        if !are_answered(alloc, &two, 2, 0)? || !are_answered(alloc, &three, 3, 0)? {
             return Some(false);
         }
     }
     Some(true)
+}
+
+/// How many times accepting failed, up to the most, where all three were answered afterwards.
+fn answered_after_failures(alloc: Global) -> Option<u64> {
+    let steps = steps_of_bytes(0, LENGTH)?;
+    for failures in 0..MOST_FAILURES {
+        if !are_answered(alloc, &steps, 3, failures)? {
+            return Some(failures);
+        }
+    }
+    Some(MOST_FAILURES)
+}
+
+#[test]
+fn three_exchanges_where_accepting_fails_first(rt: HostRuntime) {
+    assert_eq!(rt; answered_after_failures(rt.alloc()), Some(MOST_FAILURES));
 }
 
 #[test]

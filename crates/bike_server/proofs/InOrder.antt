@@ -1,5 +1,5 @@
 -- Connections that are answered one after the other, in the order in which they are accepted.
-use Rattle.std.proofs.Common.{◌≡◌, inl, inr, ℕ, ◌+◌, ◌-◌, ◌<◌, max, Bool, IsTrue, true, false, List, [], ◌∷◌, ◌++◌, length, refl, sym, subst, ap, ◌∙◌, append_assoc, append-nil, Option, Some, None, Result, Ok, Err, IfSome, IsSomeAnd, MatchOption, length-append, arith}
+use Rattle.std.proofs.Common.{◌≡◌, inl, inr, ℕ, ◌+◌, ◌-◌, ◌<◌, Bool, IsTrue, true, false, List, [], ◌∷◌, ◌++◌, length, refl, sym, subst, ap, ◌∙◌, append_assoc, append-nil, Option, Some, None, Result, Ok, Err, IfSome, IsSomeAnd, MatchOption, length-append, arith}
 use Rattle.sqlite_trees.specs.declared.store.Store.{Ghosts}
 use Rattle.bike_operator.specs.Operator.{Operator}
 use Rattle.bike_http.specs.Desk.{DeskValue, IsAt}
@@ -12,26 +12,19 @@ use Rattle.bike_server.specs.declared.arrivals.AcceptFault.{AcceptFault}
 use Rattle.bike_server.specs.declared.arrivals.Arrival.{Arrival}
 use Rattle.bike_server.specs.Visits.{Leaving, Kept, Visits, IsOpen, LetsGo}
 use Rattle.bike_server.specs.Arrivals.{AcceptsOne, Accepts}
-use Rattle.bike_server.specs.Answering.{IsAnswered, AreAnswered, Exchanges, ExchangesOne, ServesSome, ServesAll, ServesFewer, ServesUntilStopped, Adds, served_at, latest_of}
+use Rattle.bike_server.specs.Answering.{IsAnswered, AreAnswered, Exchanges, ExchangesOne, ServesSome, ServesAll, ServesFewer, ServesUntilStopped, Adds}
 
 -- ---- one more
 
--- the moment of the last where one comes behind the others
-latest_of-push : (latest : ℕ) (order : List Coming) (coming : Coming)
-    → latest_of latest (order ++ coming ∷ []) ≡ max (latest_of latest order) coming.moment
-latest_of-push latest [] coming = refl
-latest_of-push latest (c ∷ order) coming = latest_of-push (max latest c.moment) order coming
-
 -- one is answered behind the others
-AreAnswered-push : (s : Operator) (latest : ℕ) (order : List Coming) (gone : List Leaving) (middle : Operator) (coming : Coming) (leaving : Leaving)
-    (next : Operator) → AreAnswered s latest order gone middle → IsAnswered middle (served_at (latest_of latest order) coming) leaving next
-    → AreAnswered s latest (order ++ coming ∷ []) (gone ++ leaving ∷ []) next
-AreAnswered-push s latest [] [] middle coming leaving next them it =
-    (next, subst (λ (o : Operator). IsAnswered o (served_at latest coming) leaving next) them it, refl)
-AreAnswered-push s latest [] (x ∷ gone) middle coming leaving next them it = absurd them
-AreAnswered-push s latest (c ∷ order) [] middle coming leaving next them it = absurd them
-AreAnswered-push s latest (c ∷ order) (x ∷ gone) middle coming leaving next them it =
-    (them.0, them.1, AreAnswered-push them.0 (max latest c.moment) order gone middle coming leaving next them.2 it)
+AreAnswered-push : (s : Operator) (order : List Coming) (gone : List Leaving) (middle : Operator) (coming : Coming) (leaving : Leaving)
+    (next : Operator) → AreAnswered s order gone middle → IsAnswered middle coming leaving next
+    → AreAnswered s (order ++ coming ∷ []) (gone ++ leaving ∷ []) next
+AreAnswered-push s [] [] middle coming leaving next them it = (next, subst (λ (o : Operator). IsAnswered o coming leaving next) them it, refl)
+AreAnswered-push s [] (x ∷ gone) middle coming leaving next them it = absurd them
+AreAnswered-push s (c ∷ order) [] middle coming leaving next them it = absurd them
+AreAnswered-push s (c ∷ order) (x ∷ gone) middle coming leaving next them it =
+    (them.0, them.1, AreAnswered-push them.0 order gone middle coming leaving next them.2 it)
 
 -- of those that are kept there are none more, as many as before, or one more
 Adds-none : (kept : Option Kept) → Adds kept kept []
@@ -111,7 +104,6 @@ module _ {S : Type 0} (g : Ghosts S) where
     pub after : Visits
     pub known : now ≡ Some after
     pub counted : length order ≡ count
-    pub latest : after.latest ≡ latest_of before.latest order
     pub serves : ServesSome g desk s order before after
 
   -- none was accepted yet
@@ -122,7 +114,6 @@ module _ {S : Type 0} (g : Ghosts S) where
     after = before;
     known = refl;
     counted = refl;
-    latest = refl;
     serves = record { gone = []; next = s; answered = refl; sent = Adds-none before.kept; ahead = loses_none before.ahead; at = at };
   }
 
@@ -190,20 +181,13 @@ module _ {S : Type 0} (g : Ghosts S) where
       abbrev one : AcceptsOne may_fail remaining contents it.after middle arrival
       one = subst (λ (o : Option Visits). Accepts may_fail remaining contents o middle (Ok (Some arrival))) it.known accepts
 
-      -- it is served at the moment of the last before it, or at that of its acceptance
-      abbrev coming : Coming
-      coming = served_at (latest_of before.latest it.order) one.coming
-
-      moment : arrival.moment ≡ coming.moment
-      moment = one.moment ∙ ap (λ (n : ℕ). max n one.coming.moment) it.latest
-
       -- how it is let go, and how its exchange ends
       abbrev Went : Visits → Coming → Type 0
       Went visits c = (leaving : Leaving) × (after : Visits) × (later ≡ Some after) × LetsGo visits leaving after × Exchanges g new it.serves.next c leaving
 
-      went : Went one.after coming
+      went : Went one.after one.coming
       went =
-          subst (λ (n : ℕ). Went one.after (record { moment = n; input = one.coming.input })) moment
+          subst (λ (n : ℕ). Went one.after (record { moment = n; input = one.coming.input })) one.moment
           (at_some middle one.after (λ v. Went v (record { moment = arrival.moment; input = one.coming.input })) one.now
           (serves it.serves.next it.serves.at one.coming.input one.reads one.writes))
 
@@ -221,12 +205,11 @@ module _ {S : Type 0} (g : Ghosts S) where
           after = went.1;
           known = went.2;
           counted = omega (arith, length-append it.order (one.coming ∷ []), it.counted);
-          latest = went.3.latest ∙ one.latest ∙ moment ∙ sym (latest_of-push before.latest it.order one.coming);
           serves = record {
             gone = it.serves.gone ++ went.0 ∷ [];
             next = answered.0;
             answered =
-                AreAnswered-push s before.latest it.order it.serves.gone it.serves.next one.coming went.0 answered.0 it.serves.answered answered.1;
+                AreAnswered-push s it.order it.serves.gone it.serves.next one.coming went.0 answered.0 it.serves.answered answered.1;
             sent =
                 Adds-push before.kept it.after.kept one.after.kept went.1.kept it.serves.gone went.0 it.serves.sent one.kept went.3.kept;
             ahead =

@@ -1,5 +1,5 @@
 -- What connections are answered, one after the other.
-use Rattle.std.specs.Prelude.{◌≡◌, ◌⊎◌, Bool, ℕ, ◌<◌, max, IsTrue, List, [], ◌∷◌, ◌++◌, length, Option, Some, IfSome, IsSomeAnd, Result, Ok, Err}
+use Rattle.std.specs.Prelude.{◌≡◌, ◌⊎◌, Bool, ℕ, ◌<◌, IsTrue, List, [], ◌∷◌, ◌++◌, length, Option, Some, IfSome, IsSomeAnd, Result, Ok, Err}
 use Rattle.sqlite_trees.specs.declared.store.Store.{Ghosts}
 use Rattle.bike_operator.specs.Operator.{Operator}
 use Rattle.bike_schema.specs.Stands.{AllLeft}
@@ -42,22 +42,12 @@ IsAnsweredBy s coming (Err Cut) sent next =
 abbrev pub IsAnswered : Operator → Coming → Leaving → Operator → Type 0
 IsAnswered s coming leaving next = IsAnsweredBy s coming leaving.served leaving.sent next
 
--- a connection at the moment at which it is served: that of its acceptance, or that of one served before it, if that is later
-abbrev pub served_at : ℕ → Coming → Coming
-served_at latest coming = record { moment = max latest coming.moment; input = coming.input }
-
--- ONE AFTER THE OTHER, each once, each by the operator after those before it
-abbrev pub AreAnswered : Operator → ℕ → List Coming → List Leaving → Operator → Type 0
-AreAnswered s latest [] [] next = next ≡ s
-AreAnswered s latest [] (leaving ∷ gone) next = ⊥
-AreAnswered s latest (coming ∷ came) [] next = ⊥
-AreAnswered s latest (coming ∷ came) (leaving ∷ gone) next =
-    (later : Operator) × IsAnswered s (served_at latest coming) leaving later × AreAnswered later (max latest coming.moment) came gone next
-
--- the moment of the last of them
-abbrev pub latest_of : ℕ → List Coming → ℕ
-latest_of latest [] = latest
-latest_of latest (coming ∷ came) = latest_of (max latest coming.moment) came
+-- ONE AFTER THE OTHER, each once, each at the moment of its own acceptance, and by the operator after those before it
+abbrev pub AreAnswered : Operator → List Coming → List Leaving → Operator → Type 0
+AreAnswered s [] [] next = next ≡ s
+AreAnswered s [] (leaving ∷ gone) next = ⊥
+AreAnswered s (coming ∷ came) [] next = ⊥
+AreAnswered s (coming ∷ came) (leaving ∷ gone) next = (later : Operator) × IsAnswered s coming leaving later × AreAnswered later came gone next
 
 -- these were let go behind those before
 abbrev pub Adds : Option Kept → Option Kept → List Leaving → Type 0
@@ -92,11 +82,11 @@ module _ {S : Type 0} (g : Ghosts S) (desk : DeskValue S) where
 
   -- ---- all connections
 
-  -- Some of those ahead were answered, in the order in which they were accepted; others are ahead still or lost.
+  -- Some of those ahead were answered, in the order in which they were handed out; others are ahead still or lost.
   pub record ServesSome (s : Operator) (order : List Coming) (before after : Visits) : Type 0 where
     pub gone : List Leaving
     pub next : Operator
-    pub answered : AreAnswered s before.latest order gone next
+    pub answered : AreAnswered s order gone next
     pub sent : Adds before.kept after.kept gone
     pub ahead : Loses before.ahead (order ++ after.ahead)
     pub at : IsAt g desk next
@@ -121,9 +111,9 @@ module _ {S : Type 0} (g : Ghosts S) (desk : DeskValue S) where
     pub within : length came < count
     pub gone : List Leaving
     pub later : Operator
-    pub answered : AreAnswered s before.latest came gone later
+    pub answered : AreAnswered s came gone later
     pub leaving : Leaving
-    pub stops : StopsAt later (served_at (latest_of before.latest came) last) leaving
+    pub stops : StopsAt later last leaving
     pub sent : Adds before.kept after.kept (gone ++ leaving ∷ [])
 
   -- SERVING, by how it ended, where accepting may fail or may not; nothing else ends it

@@ -1,5 +1,5 @@
 -- What accepting a connection gives.
-use Rattle.std.specs.Prelude.{◌≡◌, Bool, IsTrue, ℕ, ◌+◌, max, List, [], ◌∷◌, Option, Some, None, IfSome, IsSomeAnd, MatchOption, Result, Ok, Err}
+use Rattle.std.specs.Prelude.{◌≡◌, Bool, IsTrue, ℕ, ◌+◌, List, [], ◌∷◌, Option, Some, None, IfSome, IsSomeAnd, MatchOption, Result, Ok, Err}
 use Rattle.bike_exchange.specs.Asking.{Coming}
 use Rattle.bike_connections.specs.Ahead.{Loses}
 use Rattle.bike_server.specs.declared.arrivals.Arrival.{Arrival}
@@ -7,15 +7,14 @@ use Rattle.bike_server.specs.declared.arrivals.AcceptFault.{AcceptFault}
 use Rattle.bike_server.specs.Visits.{Visits}
 
 module _ {R W : Type 0} (may_fail : Bool) (remaining : R → Option (List ℕ)) (contents : W → Option (List ℕ)) where
-  -- One of those ahead is accepted, at the moment of its acceptance or at that of one before it, if that is later: it gives the bytes of
-  -- its client, and nothing was sent to it. Some others may be lost.
+  -- One of those ahead is accepted, at the moment of its acceptance: it gives the bytes of its client, and nothing was sent to it. Some
+  -- others may be lost.
   pub record AcceptsOne (old : Visits) (new : Option Visits) (arrival : Arrival R W) : Type 0 where
     pub coming : Coming
     pub after : Visits
     pub now : new ≡ Some after
     pub ahead : Loses old.ahead (coming ∷ after.ahead)
-    pub moment : arrival.moment ≡ max old.latest coming.moment
-    pub latest : after.latest ≡ arrival.moment
+    pub moment : arrival.moment ≡ coming.moment
     pub reads : remaining arrival.reader ≡ Some coming.input
     pub writes : contents arrival.writer ≡ Some []
     pub kept : MatchOption old.kept (after.kept ≡ None) (λ kept. after.kept ≡ Some (record { gone = kept.gone; pending = kept.pending + 1 }))

@@ -15,10 +15,9 @@ pub record Kept : Type 0 where
   pub gone : List Leaving
   pub pending : ℕ
 
--- Those that come still; the moment of the last that was accepted; and those that were let go, where they are kept.
+-- Those that come still, and those that were let go, where they are kept.
 pub record Visits : Type 0 where
   pub ahead : List Coming
-  pub latest : ℕ
   pub kept : Option Kept
 
 -- one was accepted that wasn't let go; where nothing is kept, nothing is asked
@@ -28,5 +27,4 @@ IsOpen known = IfSome known (λ visits. IfSome visits.kept (λ kept. 0 < kept.pe
 -- One of those is let go; some that were ahead may be lost meanwhile.
 pub record LetsGo (old : Visits) (leaving : Leaving) (new : Visits) : Type 0 where
   pub ahead : Loses old.ahead new.ahead
-  pub latest : new.latest ≡ old.latest
   pub kept : IfSome old.kept (λ kept. new.kept ≡ Some (record { gone = kept.gone ++ leaving ∷ []; pending = kept.pending - 1 }))

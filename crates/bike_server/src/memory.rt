@@ -1,7 +1,6 @@
 //! Connections in memory: for tests, and for what the contract of serving says where everything is known.
 
-ghost use Rattle.std.specs.Prelude.{◌≡◌, [], map, max, IfOk, IsSomeAnd, Some};
-ghost use Rattle.bike_connections.specs.Ahead.{latest_in};
+ghost use Rattle.std.specs.Prelude.{◌≡◌, [], map, IfOk, IsSomeAnd, Some};
 ghost use Rattle.bike_server.specs.Played.{coming_of, leaving_of};
 
 use crate::arrivals::{AcceptFault, Arrival, Arrivals};
@@ -31,22 +30,18 @@ pub struct Played<'a> {
     alloc: Global,
     visits: &'a [Visit<'a>],
     next: usize,
-    /// The moment of the last that was accepted.
-    latest: Option<Moment>,
     gone: Vec<Parting>,
 }
 
 impl<'a> Model for Played<'a> {
     ghost use Rattle.std.specs.Prelude.{◌≤◌, ◌-◌, length, vec_len, vec_capacity, map, drop, Some};
     ghost use Rattle.bike_server.specs.Visits.{Visits};
-    ghost use Rattle.bike_connections.specs.Ahead.{latest_in};
     ghost use Rattle.bike_server.specs.Played.{coming_of, leaving_of};
 
     ghost Value = { Visits };
 
     ghost view = { λ p. record {
       ahead = map coming_of (drop p.next p.visits.now);
-      latest = latest_in p.latest;
       kept = Some (record { gone = map leaving_of p.gone.items; pending = p.next - vec_len p.gone });
     } };
 
@@ -54,28 +49,17 @@ impl<'a> Model for Played<'a> {
     ghost invariant = { λ p. (vec_len p.gone ≤ p.next) × (p.next ≤ length p.visits.now) × (length p.visits.now ≤ vec_capacity p.gone) };
 }
 
-/// The moment of a connection that is accepted behind others: its own, or that of the last of them, if that is later.
-fn moment_behind(latest: Option<Moment>, moment: Moment) -> Moment
-    ensures { result ≡ max (latest_in latest) moment }
-{
-    match latest {
-        Some(latest) => latest.later(&moment),
-        None => moment,
-    }
-}
-
 impl<'a> Played<'a> {
     /// None was accepted yet. Takes the memory for all that will be let go.
     pub fn new(alloc: Global, visits: &'a [Visit<'a>]) -> Result<Played<'a>, AllocError>
         ensures { IfOk result (λ played. played
-            ≡ record { ahead = map coming_of visits.now; latest = 0; kept = Some (record { gone = []; pending = 0 }) }) }
+            ≡ record { ahead = map coming_of visits.now; kept = Some (record { gone = []; pending = 0 }) }) }
     {
         let gone = Vec::with_capacity(alloc, visits.len())?;
         Ok(Played {
             alloc,
             visits,
             next: 0,
-            latest: None,
             gone,
         })
     }
@@ -104,11 +88,9 @@ impl<'a> Arrivals for Played<'a> {
             return Ok(None);
         }
         let visit = &self.visits[self.next];
-        let moment = moment_behind(self.latest, visit.moment);
         self.next += 1;
-        self.latest = Some(moment);
         Ok(Some(Arrival {
-            moment,
+            moment: visit.moment,
             reader: visit.input,
             writer: Vec::new(self.alloc),
         }))

@@ -93,7 +93,7 @@ pub fn serve_count<S: Alter, A: Arrivals>(
 /// Listens for so many connections on this port of 127.0.0.1; `BindFailed` where it can't be listened on, and `AcceptFailed` where the
 /// process may not have the descriptors that they take.
 fn bind<'a>(rt: &'a HostRuntime, port: u16, count: u64) -> Result<Loopback<'a>, ServerFault> {
-    if !has_descriptors() {
+    if !has_descriptors(rt) {
         return Err(ServerFault::AcceptFailed);
     }
     match Loopback::bind(rt, port, count) {

@@ -51,7 +51,7 @@ impl<N: Network> Arrivals for Sockets<N> {
 
     // What is let go isn't kept.
     ghost known = { λ sockets. if N.Socket.is_known
-        then Some (record { ahead = sockets.connections.ahead; latest = sockets.connections.latest; kept = None }) else None };
+        then Some (record { ahead = sockets.connections; kept = None }) else None };
 
     fn accept(&mut self) -> Result<Option<Arrival<Exchange<N::Socket>, Answer>>, AcceptFault> {
         match self.connections.next() {

@@ -23,8 +23,8 @@ pub struct Known {
     pub newest_tells: bool,
 }
 
-/// The operator's figures, by four look-ups.
-fn find_figures<S: Alter>(conn: &mut Connection<S>) -> Result<Figures, StatementFault>
+/// The operator's figures, by four look-ups. It fails as `know_figures` does.
+pub fn find_figures<S: Alter>(conn: &mut Connection<S>) -> Result<Figures, StatementFault>
     ensures { Answers S.Store conn.old conn.new result (λ s m figures. figures ≡ figures_of s) }
 {
     let meta = find_meta(conn)?;

@@ -18,7 +18,7 @@ mod view;
 
 pub use bike_booking::{Stored, StoredCounts, StoredDock, Sums};
 pub use bike_fleet_reads::{DockNumbers, TypeCounts, find_counts, find_dock_numbers, find_mark};
-pub use figures::{Known, know_figures};
+pub use figures::{Known, find_figures, know_figures};
 pub use orders::end_at;
 pub use sight::Sight;
 pub use view::find_view;

@@ -8,4 +8,5 @@ loop-input-init g c = record {
   grew = grew_nothing _ _;
   short = omega (arith, ap length c.requires);
   none = subst HasNoRequest (sym c.requires) nothing_none;
+  fewer = omega arith;
 }

@@ -2,8 +2,8 @@ use Rattle.std.proofs.Common.{◌∙◌, sym, refl}
 use Rattle.bike_connections.proofs.Giving.{gives_after, gives_none}
 use Rattle.bike_connections.proofs.connections.Connections.next_in_turn.Goals as goal
 
-pub returns-clause-given : goal.returns-clause-given
-returns-clause-given g c =
-    gives_after g.N.Socket.Socket.coming c.args.self.now.ahead c.next_short-next.new.self.ahead _ _ c.next_long.result refl
-    (gives_none g.N.Socket.Socket.coming _ _ c.next_short-next.result (sym c.is_some.ensures ∙ c.if-is_some.false) c.next_short-next.ensures.given)
-    c.next_long.ensures.given
+pub returns : goal.returns
+returns g c =
+    gives_after g.N.Socket.Socket.coming c.args.self.now c.next_short-next.new.self _ _ c.next_long.result refl
+    (gives_none g.N.Socket.Socket.coming _ _ c.next_short-next.result (sym c.is_some.ensures ∙ c.if-is_some.false) c.next_short-next.ensures)
+    c.next_long.ensures

@@ -1,5 +1,5 @@
-use Rattle.bike_connections.proofs.Thinning.{gives_in}
+use Rattle.bike_connections.proofs.Opening.{gives_in}
 use Rattle.bike_connections.proofs.connections.Connections.next_long.Goals as goal
 
-pub returns-clause-given : goal.returns-clause-given
-returns-clause-given g c = gives_in g.N.Socket.Socket.coming c.args.self.now c.self.inside.connections _ _ _ c.next.result c.self.view_is c.next.ensures
+pub returns : goal.returns
+returns g c = gives_in g.N.Socket.Socket.coming c.args.self.now c.self.inside.connections _ _ c.next.result c.self.view_is c.next.ensures

@@ -19,13 +19,11 @@ returns c =
       coming = coming;
       after = record {
         ahead = rest;
-        latest = c.moment_behind-moment.result;
         kept = Some (record { gone = map leaving_of it.gone.items; pending = it.next + 1 - vec_len it.gone });
       };
       now = refl;
       ahead = subst (λ (xs : List Coming). Loses (map coming_of (drop it.next it.visits.now)) xs) first (loses_none (map coming_of (drop it.next it.visits.now)));
-      moment = c.moment_behind-moment.ensures;
-      latest = refl;
+      moment = refl;
       reads = refl;
       writes = ap Some c.new.ensures.items;
       kept = ap (λ (n : ℕ). Some (let kept : Kept = record { gone = map leaving_of it.gone.items; pending = n } in kept)) pending;

@@ -1,0 +1,12 @@
+use Rattle.std.proofs.Common.{ap, Bool, ◌||◌}
+use Rattle.bike_exchange.proofs.Awaiting.{awaits_added}
+use Rattle.bike_exchange.proofs.gathering.Gathering.add.Goals as goal
+
+pub invariant_of-self-2 : goal.invariant_of-self-2
+invariant_of-self-2 c =
+    let it = c.args.self.now in
+    record {
+      awaits = awaits_added c.extend_from_slice.result it.awaited it.has_line_end _ it.bytes.items c.reserve_exact.new.self.items c.args.bytes.now
+          c.extend_from_slice.new.self.items it.awaits (ap (λ (b : Bool). it.has_line_end || b) c.contains.ensures.value) c.reserve_exact.ensures.items
+          c.extend_from_slice.ensures.items;
+    }

@@ -1,0 +1,56 @@
+use Rattle.std.proofs.Common.{◌∙◌, Some, inl, inr, sym, ap, refl, subst, arith}
+use Rattle.sqlite.specs.State.{HasCleanDisk}
+use Rattle.bike_feeds.specs.Desk.{desk_state}
+use Rattle.bike_feeds.specs.Publishing.{IsPublished}
+use Rattle.bike_answers.specs.declared.answer.Answer.TheVariants as answer
+use Rattle.bike_http.specs.Shown.{not_found}
+use Rattle.bike_http.specs.Exchange.{feed_response}
+use Rattle.bike_http.specs.Telling.{SendsText}
+use Rattle.bike_http.proofs.Told.{responds}
+use Rattle.bike_http.proofs.Feeds.{feed_undone, held_feed}
+use Rattle.bike_http.proofs.respond.publish_at.Goals as goal
+
+pub returns-in-Ok-clause-sent : goal.returns-in-Ok-clause-sent
+returns-in-Ok-clause-sent g c clean s at =
+    let h = c.in-Ok.ensures in
+    let none = c.new-text.ensures in
+    let held = rw none at h.whole clean s at in
+    let sent = rw c.as_slice.ensures.value at c.send_text.ensures in
+    held_feed g.S.Store c.write_feed.new.desk s c.args.feed c.args.moment _ held _ _ _ sent (h.desk.same clean s at)
+
+pub returns-in-Err-Write-clause-sent : goal.returns-in-Err-Write-clause-sent
+returns-in-Err-Write-clause-sent g c clean s at =
+    let early : HasCleanDisk (desk_state g.S.Store c.write_feed.new.desk) = omega (arith, clean, c.publish_counted.ensures.clean) in
+    let h = rw c.in-Err-Write.field-0-is at c.in-Err-Write.ensures in
+    c.publish_counted.ensures.sent clean s (h.desk.write early s at refl)
+
+pub returns-in-Err-SystemMissing-clause-sent : goal.returns-in-Err-SystemMissing-clause-sent
+returns-in-Err-SystemMissing-clause-sent g c clean s at =
+    let h = rw c.in-Err-SystemMissing.field-0-is at c.in-Err-SystemMissing.ensures in
+    let none = h.desk.missing clean s at refl in
+    responds g.S.Store c.write_feed.new.desk s s _ not_found _ _ c.send.result (inl (sym (ap (feed_response s c.args.moment c.args.feed) none.0), none.1)) c.send.ensures
+
+pub returns-in-Err : goal.returns-in-Err
+returns-in-Err g c =
+    let h = c.in-Err.ensures in
+    record {
+      clean = h.desk.clean;
+      sent = λ clean s at. responds g.S.Store c.write_feed.new.desk s s _ answer.Unavailable _ _ c.send-in-Err.result
+          (inr (refl, feed_undone g.S.Store c.args.desk.now c.write_feed.new.desk s s c.in-Err.field-0 clean at h.desk)) c.send-in-Err.ensures;
+      rests = h.desk.rests;
+      stays = λ is_stopped. (h.desk.stays is_stopped).1;
+      refuses = λ is_stopped. c.send-in-Err.ensures;
+    }
+
+pub returns-in-Ok-clause-rests : goal.returns-in-Ok-clause-rests
+returns-in-Ok-clause-rests g c = c.in-Ok.ensures.desk.rests
+
+pub returns-in-Err-Write-clause-rests : goal.returns-in-Err-Write-clause-rests
+returns-in-Err-Write-clause-rests g c clean s at on =
+    let early : HasCleanDisk (desk_state g.S.Store c.write_feed.new.desk) = omega (arith, clean, c.publish_counted.ensures.clean) in
+    let h = rw c.in-Err-Write.field-0-is at c.in-Err-Write.ensures in
+    let still = h.desk.write early s at refl in
+    c.publish_counted.ensures.rests clean s still on ∙ h.desk.rests early s at still.goes_on
+
+pub returns-in-Err-SystemMissing-clause-rests : goal.returns-in-Err-SystemMissing-clause-rests
+returns-in-Err-SystemMissing-clause-rests g c = c.in-Err-SystemMissing.ensures.desk.rests
