@@ -2,6 +2,7 @@
 //! table is written, or an import is taken in; or it is raised to the newest version.
 #![tactic(auto)]
 
+mod bounds;
 mod day;
 mod feed;
 mod file;
@@ -12,6 +13,7 @@ mod words;
 
 pub use bike_console::{Counted, Fault, Progress, exit_code};
 pub use bike_lines::{LinesFault, run_lines};
+pub use bounds::word_bounds;
 pub use day::report_day;
 pub use feed::publish;
 pub use file::{run_file, run_on_file};

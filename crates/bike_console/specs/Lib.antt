@@ -3,6 +3,7 @@ pub mod Ends
 pub mod Files
 pub mod Closing
 pub mod Looks
+pub mod Links
 pub use Rattle.bike_migrate.specs.Adoption
 pub use Rattle.bike_migrate.specs.AdoptFault
 pub use Rattle.bike_migrate.specs.Raising

@@ -51,14 +51,23 @@ fn write_blank(rt: &HostRuntime, path: &str) -> io::Result<()> {
     file.sync_all()
 }
 
+/// Takes the first name of the file at a path away, where an earlier process stopped before it did so, and tells whether it stood there.
+fn take_first_name(rt: &HostRuntime, path: &str) -> io::Result<bool> {
+    let made = format!(in rt.alloc(); "{path}-new")?;
+    if !is_one_file(rt, made.as_str(), path) {
+        return Ok(false);
+    }
+    fs::remove_file(rt, made.as_str())?;
+    Ok(true)
+}
+
 /// Makes an empty database file where the path has none, and no log. It is written beside it, under the name with `-new` behind it, and
 /// takes its own name once it is whole, so that a stop leaves no part of it there.
 fn make_whole(rt: &HostRuntime, path: &str) -> io::Result<()> {
-    let made = format!(in rt.alloc(); "{path}-new")?;
-    if is_one_file(rt, made.as_str(), path) {
-        // An earlier process stopped before it took the first name away.
-        return fs::remove_file(rt, made.as_str());
+    if take_first_name(rt, path)? {
+        return Ok(());
     }
+    let made = format!(in rt.alloc(); "{path}-new")?;
     let log = format!(in rt.alloc(); "{path}-wal")?;
     for name in [path, log.as_str()] {
         if fs::symlink_metadata(rt, name).is_ok() {
@@ -82,4 +91,10 @@ fn make_whole(rt: &HostRuntime, path: &str) -> io::Result<()> {
 /// 4,096 of a file that the engine makes. Where this fails nothing is told, since the engine then makes the file, or tells why it can't.
 pub(crate) fn make_file(rt: &HostRuntime, path: &str) {
     let _ = make_whole(rt, path);
+}
+
+/// Takes the first name of the file at a path away, where a stop left it, and makes nothing. Where this fails nothing is told: the engine
+/// opens no file with two names.
+pub(crate) fn drop_first_name(rt: &HostRuntime, path: &str) {
+    let _ = take_first_name(rt, path);
 }

@@ -8,6 +8,8 @@ mod blank;
 mod closing;
 mod end;
 mod file;
+mod found;
+mod link;
 mod log;
 mod look;
 mod pieces;

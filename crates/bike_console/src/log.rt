@@ -16,6 +16,14 @@ use sqlite_wal::checksum_of;
 /// (<https://www.sqlite.org/fileformat2.html>, section 4.1).
 pub const LEAST_LOG: usize = 32 + 24 + 512;
 
+/// Whether a log of so many bytes may hold a commit.
+pub(crate) fn may_hold_commit(length: usize) -> bool
+    ensures long { IsTrue result ↔ LEAST_LOG ≤ length }
+    ensures least { LEAST_LOG ≡ 568 }
+{
+    length >= LEAST_LOG
+}
+
 /// Four bytes of a log's header as a number, the highest first.
 fn word_at(head: &[u8; 32], at: usize) -> u32
     requires { at + 4 ≤ 32 }

@@ -1,17 +1,19 @@
 //! A database file that is only looked at.
 
-ghost use Rattle.std.specs.Prelude.{◌≡◌, ◌≤◌, Err, IfOk, IfErr, IfSome, IsTrue};
+ghost use Rattle.std.specs.Prelude.{◌≡◌, ◌≤◌, true, false, Err, IfOk, IfErr, IfSome, IsTrue};
 ghost use Rattle.sqlite.specs.Files.{faults_of};
 ghost use Rattle.sqlite_disk.specs.Disk.{MoreFaults};
 ghost use Rattle.sqlite_disk.specs.Memory.{memory_bytes, memory_is_usable};
+ghost use Rattle.sqlite_std_file.specs.File.{file_is_usable, IsFresh};
 ghost use Rattle.sqlite_wal.specs.Reads.{AreClean, IsClean, OnlyReads};
 ghost use Rattle.bike_read_only.specs.Held.{HoldsOnly};
 ghost use Rattle.bike_read_only.specs.declared.copy.CopyFault.TheVariants.{Unread};
-ghost use Rattle.bike_console.specs.Files.{IsOpeningFault};
+ghost use Rattle.bike_console.specs.Files.{IsOpeningFault, TellsBarred};
 ghost use Rattle.bike_console.specs.Looks.{AreSeen, AreUsable, Sees, shown_by, TellsSeen};
 
 use crate::end::Fault;
 use crate::file::{draw_seed, open_over, open_pair, refuse_added};
+use crate::found::FoundFile;
 use crate::place::NewLog;
 use bike_read_only::{CopyFault, ReadOnly, Source, copy_of};
 use sqlite::{Connection, FileFrom, FileStore, Files, Start};
@@ -132,6 +134,27 @@ fn look_over<D: Disk + Drop, S: Start>(
     }
 }
 
+/// The log and the database file at a path where there is a file. The engine makes one that is missing: so it is looked for right before,
+/// and what was opened has to be what was found. A log that wasn't there is taken away again.
+fn open_there<F: Start>(rt: &HostRuntime, path: &str, start: F) -> Result<Files<FileFrom<F>>, Fault>
+    ensures usable { IfOk result (λ files.
+        IsTrue (file_is_usable F.Start files.log) × IsTrue (file_is_usable F.Start files.db)) }
+    ensures fresh { IfOk result (λ files. IsFresh true files.log × IsFresh false files.db) }
+    ensures barred { IfErr result TellsBarred }
+{
+    let made = NewLog::beside(rt, path);
+    let Some(found) = FoundFile::at(rt, path) else {
+        return Err(Fault::StoreFailed);
+    };
+    let files = open_pair(rt, path, start)?;
+    // The files are locked, so that nobody else has opened the log.
+    made.remove(rt);
+    if !found.is_at(rt, path) {
+        return Err(Fault::StoreFailed);
+    }
+    Ok(files)
+}
+
 /// Opens the database file at a path to look at it, as `open_file` does to serve it, with the same faults: no byte of the file and of its
 /// log is changed. The log is copied into memory, and so is a file of at most 65,536 bytes; of a longer one each write is refused. A log
 /// that wasn't there isn't left.
@@ -146,11 +169,8 @@ pub fn open_to_look<F: Start>(
     let Some(seed) = draw_seed(rt) else {
         return Err(Fault::StoreFailed);
     };
-    let made = NewLog::beside(rt, path);
-    let mut files = open_pair(rt, path, start)?;
+    let mut files = open_there(rt, path, start)?;
     let copies = copies_of(rt, &mut files);
-    // The files are still locked, so that nobody else has opened the log.
-    made.remove(rt);
     match copies {
         Ok((log, db)) => look_over(rt, seed, files, log, db),
         Err(CopyFault::OutOfMemory) => Err(Fault::OutOfMemory),

@@ -3,10 +3,11 @@
 ghost use Rattle.std.specs.Prelude.{IfErr};
 ghost use Rattle.bike_console.specs.Files.{IsOpeningFault};
 
-use crate::blank::make_file;
+use crate::blank::{drop_first_name, make_file};
 use crate::closing::Remains;
 use crate::end::Fault;
-use crate::log::LEAST_LOG;
+use crate::link::has_log_of_a_link;
+use crate::log::may_hold_commit;
 use sqlite_disk::Disk;
 use std::fs;
 use std::io::ErrorKind;
@@ -30,7 +31,7 @@ fn has_lone_log(rt: &HostRuntime, path: &str) -> Result<bool, Fault>
 {
     let log = format!(in rt.alloc(); "{path}-wal")?;
     match fs::symlink_metadata(rt, log.as_str()) {
-        Ok(found) => Ok(found.len() >= LEAST_LOG as u64),
+        Ok(found) => Ok(may_hold_commit(found.len() as usize)),
         Err(_) => Ok(false),
     }
 }
@@ -54,9 +55,9 @@ pub enum Wanted {
     FileInUse,
 }
 
-/// Sees to a path before its database file is opened. A file that is missing is made, if it may be; what is wanted and isn't found is
-/// `StoreFailed`, and nothing is made. So is a log that may hold commits and has no file: what it goes on from is gone, and a new file
-/// would take its place.
+/// Sees to a path before its database file is opened. A file that is missing is made, if any file is wanted; what is wanted and isn't found
+/// is `StoreFailed`, and nothing is made. So is a log that may hold commits and has no file: what it goes on from is gone, and a new file
+/// would take its place. So is one at the name of a link to the file, where the engine doesn't read it.
 pub fn prepare_file(rt: &HostRuntime, path: &str, wanted: Wanted) -> Result<(), Fault>
     ensures { IfErr result IsOpeningFault }
 {
@@ -68,16 +69,18 @@ pub fn prepare_file(rt: &HostRuntime, path: &str, wanted: Wanted) -> Result<(), 
         Wanted::FileThere => !is_missing(rt, path),
         Wanted::FileInUse => !is_missing(rt, path) && !is_blank(rt, path),
     };
-    if !is_found {
+    if !is_found || has_log_of_a_link(rt, path)? {
         return Err(Fault::StoreFailed);
     }
-    // Of a file that is there this takes away only the second name that a stop left it.
-    make_file(rt, path);
+    match wanted {
+        Wanted::AnyFile => make_file(rt, path),
+        Wanted::FileThere | Wanted::FileInUse => drop_first_name(rt, path),
+    }
     Ok(())
 }
 
 /// The name of the log of the database file at a path; none where memory is refused.
-fn log_name(rt: &HostRuntime, path: &str) -> Option<String> {
+pub(crate) fn log_name(rt: &HostRuntime, path: &str) -> Option<String> {
     let name = match fs::canonicalize(rt, path) {
         Ok(real) => format!(in rt.alloc(); "{}-wal", real.as_str()),
         Err(_) => format!(in rt.alloc(); "{path}-wal"),
@@ -124,7 +127,7 @@ impl NewLog {
             return;
         };
         match fs::symlink_metadata(rt, name.as_str()) {
-            Ok(found) if found.len() < LEAST_LOG as u64 => {
+            Ok(found) if !may_hold_commit(found.len() as usize) => {
                 // Where this fails an empty log stays, which does no harm.
                 let _ = fs::remove_file(rt, name.as_str());
             }

@@ -13,7 +13,7 @@ ghost use Rattle.bike_commands.specs.declared.request.TheConstants.{LINE_LENGTH}
 ghost use Rattle.bike_operator.specs.declared.limits.TheConstants as limit;
 ghost use Rattle.bike_earlier.specs.declared.earlier.TheConstants.{MOST_DOCKS_BEFORE};
 ghost use Rattle.bike_book.specs.declared.version.TheConstants.{NEWEST};
-ghost use Rattle.bike_heads.specs.declared.head.TheConstants.{HEAD_LENGTH};
+ghost use Rattle.bike_heads.specs.declared.head.TheConstants.{HEAD_LENGTH, MOST_FIELDS};
 ghost use Rattle.bike_heads.specs.declared.length.TheConstants.{BODY_LENGTH};
 ghost use Rattle.bike_incoming.specs.declared.input.TheConstants as http;
 ghost use Rattle.bike_lines.specs.declared.lines.TheConstants as lines;
@@ -60,7 +60,7 @@ pub fn number_bounds()
     ensures charged_minutes { rental.MINUTES ≡ 43201 }
 {}
 
-/// The lengths of texts in bytes.
+/// The lengths of texts in bytes, and how many fields a head has at most.
 pub fn text_bounds()
     ensures ident { text.LONGEST_IDENT ≡ 36 }
     ensures key { text.LONGEST_KEY ≡ 64 }
@@ -71,6 +71,7 @@ pub fn text_bounds()
     ensures ascii { text.LONGEST_ASCII ≡ 200 }
     ensures line { LINE_LENGTH ≡ 4096 }
     ensures head { HEAD_LENGTH ≡ 8192 }
+    ensures fields { MOST_FIELDS ≡ 32 }
     ensures body { BODY_LENGTH ≡ 16384 }
 {}
 

@@ -1,0 +1,9 @@
+//! The numbers of the bounds of command lines that contracts name. A constant of another number is refused here.
+
+ghost use Rattle.std.specs.Prelude.{◌≡◌};
+ghost use Rattle.bike_command_line.specs.declared.task.TheConstants.{MOST_CONNECTIONS};
+
+/// After how many connections `serve` ends at most, where that is asked.
+pub fn word_bounds()
+    ensures connections { MOST_CONNECTIONS ≡ 1000000000 }
+{}
