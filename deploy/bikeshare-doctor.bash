@@ -5,11 +5,16 @@ _bikeshare_doctor() {
     COMPREPLY=()
     if [[ $COMP_CWORD = 1 ]]; then
         compopt -o filenames 2>/dev/null
-        mapfile -t COMPREPLY < <(compgen -W "lines table feed" -- "$typed"; compgen -f -X '*-wal' -- "$typed")
+        mapfile -t COMPREPLY < <(compgen -W "log lines table feed" -- "$typed"; compgen -f -X '*-wal' -- "$typed")
         return
     fi
     case $word in
     lines | table) return ;;
+    log)
+        compopt -o filenames 2>/dev/null
+        mapfile -t COMPREPLY < <(compgen -f -X '*-wal' -- "$typed")
+        return
+        ;;
     feed) known="--here --strict" ;;
     # The value of --port is what is being typed.
     *) [[ ${COMP_WORDS[COMP_CWORD - 1]} = --port ]] || known="--port" ;;
