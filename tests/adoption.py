@@ -558,6 +558,13 @@ ADDED = [
     "trucks (capacity)", "riders (balance)", "riders (rider)", "rentals (start)", "orders (to_end, quantity)",
     "entries (amount)", "kept (req_key)", "counts (type_id, station_id)", "more_names (name)",
 ]
+# The indexes of a new file beside those of the keys: the table of each, and its columns.
+INDEXES = {
+    "bikes_by_dock": ("bikes", "station_id", "dock"), "bikes_by_truck": ("bikes", "truck"),
+    "rentals_by_rider": ("rentals", "rider"), "more_names_by_language": ("more_names", "language"),
+    "more_names_by_thing": ("more_names", "kind", "id", "language", "name"),
+    "kept_by_key": ("kept", "caller", "req_key"),
+}
 EACH_WORD = [
     ["init"], ["check"], ["lines"], ["serve", "--port", "0", "--count", "1"], ["feed", "station_status"],
     ["day", "entries", "2023-11-14", "UTC0"], ["import", "first"], ["raise"],
@@ -719,6 +726,21 @@ def goes_on(program, file):
     checked(program, file, None)
 
 
+def plain_indexes(file):
+    """The indexes of a file that a statement made and that aren't UNIQUE: the table of each, and its columns in their
+    order, as far as they rise by their bytes."""
+    found = {}
+    for name, table, column in rows_of(
+        "SELECT made.name, made.tbl_name, part.name FROM sqlite_schema AS made, "
+        "pragma_index_list(made.tbl_name) AS list, pragma_index_xinfo(made.name) AS part "
+        "WHERE made.type = 'index' AND made.sql IS NOT NULL "
+        'AND list.name = made.name AND NOT list."unique" AND NOT list.partial '
+        "AND part.key AND NOT part.\"desc\" AND part.coll = 'BINARY' ORDER BY made.name, part.seqno", file,
+    ):
+        found[name] = (*found.get(name, (table,)), column)
+    return found
+
+
 def test_a_new_file_gets_the_tables(program):
     ended = program.run("init", "new.db")
     assert ended == READY, ended
@@ -726,6 +748,7 @@ def test_a_new_file_gets_the_tables(program):
     assert rows_of("SELECT * FROM meta", file) == [(1, "bikeshare", 3, 0, 0, 0)]
     made_so = rows_of("SELECT sql FROM sqlite_schema WHERE tbl_name = 'kept' ORDER BY name", file)
     assert made_so == [(UNKEYED,), (BY_KEY,)], made_so
+    assert plain_indexes(file) == INDEXES, plain_indexes(file)
     changed(file)
     checked(program, file, None)
     ended = program.run("init", "new.db")

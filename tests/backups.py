@@ -366,6 +366,8 @@ def test_what_is_no_city_and_what_is_there(program):
     before = sorted(here.iterdir())
     for words, line in (
         ([city], "usage: backup FILE COPY"),
+        (["a\ncity.db", "copy.db"], "a name with a line feed isn't taken: a; city.db copy.db"),
+        ([city, "a\ncopy.db"], f"a name with a line feed isn't taken: {city} a; copy.db"),
         (["none.db", "copy.db"], "there is no none.db"),
         (["empty.db", "copy.db"], f"{here.resolve()}/empty.db is empty"),
         ([city, "none/copy.db"], "there is no folder none"),
@@ -416,6 +418,30 @@ def test_links(program):
     (here / "link.db").symlink_to(city.file)
     assert copying(program, "link.db", "copy.db") == (0, "")
     assert tables(here, "copy.db") == city.wanted and taken(city.file) == city.parts
+
+
+def test_a_log_at_a_link(program):
+    """A log that was left at the name of a link, at any of a chain, is no part of the city that is copied: nothing is
+    copied, and nothing is changed."""
+    here = Path(program.folder)
+    city = Killed(program, tempfile.mkdtemp(dir=here))
+    (here / "middle.db").symlink_to(city.file)
+    (here / "link.db").symlink_to("middle.db")
+    for name in "link.db", "middle.db":
+        left = here / f"{name}-wal"
+        for length, wanted in (567, 0), (568, 1), (100_000, 1):
+            left.write_bytes(b"x" * length)
+            status, said = copying(program, "link.db", "copy.db")
+            assert status == wanted, (name, length, status, said)
+            assert (here / "copy.db").exists() == (not wanted) and left.stat().st_size == length, (name, length)
+            assert not wanted or said.startswith("backup: a log was left at the name of a link to "), said
+            (here / "copy.db").unlink(missing_ok=True)
+        left.unlink()
+        left.symlink_to(f"{city.file}-wal")
+        assert copying(program, "link.db", "copy.db") == (0, ""), name
+        (here / "copy.db").unlink()
+        left.unlink()
+    assert taken(city.file) == city.parts
 
 
 def test_a_process_that_only_reads(program):
@@ -531,13 +557,15 @@ def heeds_signals():
 
 
 @contextlib.contextmanager
-def begun(program, file, copy):
-    """The script, begun on a file, whose cp waits until there is a file `go` beside it."""
+def begun(program, file, copy, before=()):
+    """The script, begun on a file, whose cp waits until there is a file `go` beside it. Programs of the folders before
+    come before others of their names."""
     folder = Path(tempfile.mkdtemp(dir=program.folder))
     waits = f"while [ ! -e {folder}/go ]; do sleep 0.05; done"
     (folder / "cp").write_text(f'#!/bin/sh\ntouch {folder}/begun\n{waits}\nexec {shutil.which("cp")} "$@"\n')
     (folder / "cp").chmod(0o755)
-    env = {**os.environ, "BIKESHARE": program.file, "PATH": f"{folder}:{os.environ['PATH']}"}
+    path = ":".join([*(str(it) for it in before), str(folder), os.environ["PATH"]])
+    env = {**os.environ, "BIKESHARE": program.file, "PATH": path}
     words = [DEPLOY / "backup", file, copy]
     script = subprocess.Popen(words, env=env, stderr=subprocess.PIPE, start_new_session=True, preexec_fn=heeds_signals)
     try:
@@ -565,7 +593,9 @@ def is_stopped(child):
 
 
 ENDS = [(signal.SIGKILL, False), (signal.SIGTERM, False), (signal.SIGHUP, False)]
-ENDS += [(signal.SIGTERM, True), (signal.SIGHUP, True), (signal.SIGINT, True)]
+ENDS += [(signal.SIGTERM, True), (signal.SIGHUP, True), (signal.SIGINT, True), *[(signal.SIGKILL, True)] * 10]
+# Within how many seconds the program goes on.
+AT_ONCE = 1
 
 
 def test_a_script_that_is_ended(program):
@@ -578,9 +608,51 @@ def test_a_script_that_is_ended(program):
             with begun(program, here / "city.db", copy) as (script, _):
                 assert is_stopped(server.child)
                 (os.killpg if to_all else os.kill)(script.pid, kind)
+                since = time.monotonic()
                 with told_with(f"{kind.name}, to all: {to_all}"):
                     assert goes_on(server, number), "the program stands still"
+                    took = time.monotonic() - since
+                    assert took < AT_ONCE, f"the program stood still for {took:.1f} seconds"
             assert not copy.exists()
+
+
+def test_a_copying_that_hangs(program):
+    """The program stands still no longer than what lets it go on waits: a minute, and here two seconds."""
+    here = Path(program.folder)
+    (here / "shorter").mkdir()
+    words = 'exec /usr/bin/setsid "$1" "$2" "${3/-t 60/-t 2}" "${@:4}"'
+    (here / "shorter/setsid").write_text(f"#!/bin/bash\n{words}\n")
+    (here / "shorter/setsid").chmod(0o755)
+    with Server(program, seconds=SECONDS / 8) as server:
+        made_over(server)
+        with begun(program, here / "city.db", here / "copy.db", [here / "shorter"]) as (script, go):
+            since = time.monotonic()
+            assert goes_on(server, 1), "the program stands still"
+            took = time.monotonic() - since
+            assert 1 < took < 2 + AT_ONCE, took
+            go.touch()
+            said = script.communicate(timeout=SECONDS)[1]
+        assert script.returncode == 1 and b" went on while " in said, (script.returncode, said)
+    assert not (here / "copy.db").exists()
+
+
+def test_nothing_is_stopped_that_nothing_would_let_go_on(program):
+    here = Path(program.folder)
+    (here / "none").mkdir()
+    (here / "none/setsid").write_text("#!/bin/sh\nexit 1\n")
+    (here / "none/setsid").chmod(0o755)
+    with Server(program, seconds=SECONDS) as server:
+        made_over(server)
+        status, said = copying(program, "city.db", "copy.db", PATH=f"{here}/none:{os.environ['PATH']}")
+        assert status == 1 and "setsid doesn't run" in said and top_ups(server, [1]) == [1], said
+    assert not (here / "copy.db").exists()
+
+
+def test_the_unit_lets_the_city_go_on(_):
+    """A kill of all processes of the unit ends also what lets the program go on. Then the unit does."""
+    unit = (DEPLOY / "bikeshare-backup@.service").read_text()
+    kill = "/usr/bin/systemctl kill --kill-who=main --signal=CONT bikeshare@%i.service"
+    assert re.findall(r"^ExecStopPost=(.*)$", unit, re.M) == [f"-+{kill}"], unit
 
 
 def test_a_city_that_changes_while_it_is_copied(program):
@@ -601,3 +673,60 @@ def test_a_city_that_changes_while_it_is_copied(program):
         said = script.communicate(timeout=SECONDS)[1]
     assert script.returncode == 1 and b" was changed while it was copied" in said, (script.returncode, said)
     assert not (here / "copy.db").exists() and not (here / "other.db").exists()
+
+
+# ---- damaged logs
+
+STATUS_DAMAGED = 3
+
+
+def damaged(parts, at, bit):
+    """The parts of a city with a bit of its log turned."""
+    log = bytearray(parts["-wal"])
+    log[at] ^= 1 << bit
+    return {**parts, "-wal": bytes(log)}
+
+
+def test_a_damaged_log(program):
+    """Of a city whose log is damaged behind its head no copy is made: the program would pass over what stands behind.
+    Wherever a bit is turned, either the copy is the city, or there is none. What was being written as a program was
+    killed is no damage."""
+    here = Path(program.folder)
+    city = Killed(program, tempfile.mkdtemp(dir=here))
+    page = 24 + int.from_bytes(city.parts["-wal"][8:12], "big")
+    frames = (len(city.parts["-wal"]) - 32) // page
+    stride = STRIDE or frames // 2 - 1
+    within = 0, 5, 9, 16, 23, 24, page - 1
+    places = [32 + page * frame + at for frame in range(0, frames - 1, stride) for at in within]
+    ends = collections.Counter()
+    for number, at in enumerate(places):
+        parts = damaged(city.parts, at, number % 8)
+        put(parts, city.file)
+        status, said = copying(program, city.file, "copy.db")
+        ends[status] += 1
+        if status == 0:
+            assert tables(here, "copy.db") == city.wanted, f"bit {number % 8} of byte {at}: an older city"
+            removed(here, "copy.db")
+            continue
+        assert not (here / "copy.db").exists() and taken(city.file) == parts, at
+        line = r"backup: \S+/city\.db-wal: passed over: frame \d+ is damaged.* \(what was copied is in \S+\)\n"
+        assert status == STATUS_DAMAGED and re.fullmatch(line, said), (at, status, said)
+        left = {it.name for it in (here / "copy.db.unfinished").iterdir()}
+        assert left == {"city.db", "city.db-wal", "city.db-log"}, left
+        shutil.rmtree(here / "copy.db.unfinished")
+    assert ends[STATUS_DAMAGED] > 10, ends
+
+
+def test_a_log_that_nothing_can_look_at(program):
+    """Where bikeshare-doctor doesn't run, as without Python, the copy is made all the same, and a line says so."""
+    here = Path(program.folder)
+    city = Killed(program, tempfile.mkdtemp(dir=here))
+    (here / "alone").mkdir()
+    shutil.copy(DEPLOY / "backup", here / "alone/backup")
+    (here / "alone/bikeshare-doctor").write_text("#!/none/python3\n")
+    (here / "alone/bikeshare-doctor").chmod(0o755)
+    env = {**os.environ, "BIKESHARE": program.file}
+    made = finished([here / "alone/backup", city.file, "copy.db"], cwd=here, env=env)
+    said = f"whether the log is damaged wasn't looked at: {here}/alone/bikeshare-doctor doesn't run\n"
+    assert (made.returncode, made.stdout.decode(), made.stderr) == (0, said, b""), made
+    assert tables(here, "copy.db") == city.wanted

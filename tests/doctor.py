@@ -30,9 +30,9 @@ from pathlib import Path
 from adoption import KEY_DECLARED
 from package import sections_of
 from shared import (
-    CITY, FEEDS, FOREIGN, HEADER, KEYED, READY, READ_FAILED, SOUND, STORE_FAILED, TOP, UNKEYED, Program, Server,
-    accepted, changed, free_port, held, killed, line_of, loaded, needs, office, put, ran, removed, requests_of, rows_of,
-    taken,
+    CITY, FEEDS, FOREIGN, HEADER, KEYED, KILLED, READ_FAILED, READY, SOUND, STORE_FAILED, TOP, UNKEYED, Program,
+    Server, accepted, changed, disturbed, free_port, held, killed, line_of, loaded, needs, office, put, ran,
+    removed, requests_of, rows_of, taken,
 )
 
 SCRIPT = TOP / "deploy/bikeshare-doctor"
@@ -437,6 +437,24 @@ def killed_city(program, name="killed.db"):
     return Path(program.folder, name)
 
 
+def test_a_log_that_was_being_written(program):
+    """Wherever a kill meets a program, before a call or in the midst of a write, what it had begun is no damage."""
+    given, file = requests_of(CITY), Path(program.folder, "city.db")
+    calls = disturbed(program, ["lines", "city.db"], given).calls
+    unfinished = 0
+    for number, how in itertools.product(range(1, calls, 7), ("STOP_AT", "PART_AT")):
+        removed(file)
+        ended = disturbed(program, ["lines", "city.db"], given, **{how: number})
+        assert ended.status in (KILLED, 0), ended
+        assert doctor.findings_of_log(str(file)) == [], (how, number, ended.hit)
+        log = doctor.bytes_of_log(str(file))
+        page = int.from_bytes(log[8:12], "big")
+        frames = [log[at + 8 : at + 16] for at in range(32, len(log) - 24, 24 + page)] if page else []
+        unfinished += any(it[0] == 0 and it[1:] == log[17:24] for it in frames)
+    # Such a log is what this is about.
+    assert unfinished > 2, unfinished
+
+
 def test_logs(program):
     """A log is read with its FILE, in a copy. Where it is damaged behind its head, or another file's, that is told;
     check passes what is damaged over."""
@@ -462,6 +480,8 @@ def test_logs(program):
             (told,) = looked_at(file)
             assert "copy FILE and this log before" in told.text and "has requests which this lacks" in told.text
         assert program.run("check", "city.db") == SOUND and taken(file)["-wal"] == data, wanted
+        found = [place_of(it) for it in doctor.findings_of_log(str(file))]
+        assert found == ([(f"{file}-wal", wanted)] if wanted == "passed over" else []), found
     other = Path(program.folder, "other.db")
     changed(other, "PRAGMA page_size = 4096; CREATE TABLE notes (a)")
     Path(f"{other}-wal").write_bytes(log)
@@ -1549,7 +1569,7 @@ def test_words(program):
     """Wrong words have the status 2 and the usage. Lines and tables are read from standard input. Of a good file a line
     says what isn't seen."""
     wrong = ("", "--port 1", "x.db --port 65536", "x.db --port 080", "lines x", "table --strict", "feed", "feed a b")
-    for words in (*wrong, "x.db --x"):
+    for words in (*wrong, "log", "log a b", "x.db --x"):
         status, lines = told(*words.split())
         assert status == 2 and lines[0].startswith("usage: bikeshare-doctor "), (words, status, lines)
     assert told("--help")[0] == 0 and told("feed", "--help")[0] == 0
@@ -1580,13 +1600,13 @@ def test_the_manual_page_and_the_completion(program):
     usage = [it.removeprefix("usage:").strip() for it in told("--help")[1]]
     wanted = [text for _, text in page["SYNOPSIS"]]
     assert usage[: len(wanted)] == wanted and usage[len(wanted)] == "", (usage, wanted)
-    assert {head for head, _ in page["EXIT STATUS"] if head} == {"0", "1", "2"}
+    assert {head for head, _ in page["EXIT STATUS"] if head} == {"0", "1", "2", "3"}
     words = {it.split()[1] for it in wanted} - {"FILE"}
     for file in "city.db", "city.db-wal":
         (Path(program.folder) / file).touch()
     assert set(completed(program.folder, "")) == words | {"city.db"} and completed(program.folder, "ta") == ["table"]
     assert completed(program.folder, "feed", "x", "-") == ["--here", "--strict"]
-    assert completed(program.folder, "lines", "") == []
+    assert completed(program.folder, "lines", "") == [] and completed(program.folder, "log", "") == ["city.db"]
     assert completed(program.folder, "city.db", "-") == ["--port"]
     assert completed(program.folder, "city.db", "--port", "") == []
 

@@ -18,6 +18,11 @@ from doctor import BAD_FIELD, FOR_GOOD, FOR_NOW, NOW, SYSTEM, doctor, number_in,
 from shared import CITY, HEADER, TOP, requests_of
 
 
+def doubted(data):
+    """What is found in lines but for those that name what isn't there yet."""
+    return [it for it in doctor.findings_of_lines(data, NOW) if not it.word.startswith("unknown_")]
+
+
 # ---- the fields
 
 
@@ -440,7 +445,7 @@ def test_names_that_lines_correct(program):
         (["remove-name\tsystem\tmetro\ten"], "(de, fr)"), (["set-name\tsystem\tmetro\tDE\tRom"], "(de, fr)"),
     ):
         lines = f"{system_line()}\n".encode() + requests_of([*begin, *more], at=NOW, key="n")
-        found = doctor.findings_of_lines(lines, NOW)
+        found = doubted(lines)
         assert [place_of(it) for it in found] == [("line 4, name", FOR_NOW)] * bool(wanted), (more, found)
         assert not wanted or f"further languages {wanted} stay" in found[0].text, (more, found)
     # The further one went before: the own one may change.
@@ -508,7 +513,7 @@ def test_doubts_that_later_lines_mend(program):
     refused mends nothing."""
     for fields, commands, wanted, *refused in MENDED:
         lines = f"{system_line(**fields)}\n".encode() + requests_of(commands, at=NOW, key="n")
-        found = doctor.findings_of_lines(lines, NOW)
+        found = doubted(lines)
         assert sorted(it.where for it in found) == sorted(f"line {it}" for it in wanted), (commands, found)
         answers = program.run(given=lines)[1].splitlines()
         assert answers[-1].startswith(b"refused") == bool(refused), (commands, answers)
@@ -580,7 +585,14 @@ def test_places_of_lines(program):
     moved = (system_line() + station_lines(*rome, (0, 0))).encode() + requests_of(
         ["move-station\ts4\t41.9\t12.51", "move-station\ts1\t12.5\t41.9", "move-station\ts9\t0\t0"], at=NOW, key="m"
     )
-    assert [place_of(it) for it in doctor.findings_of_lines(moved, NOW)] == [("line 7, lat and lon", FOR_NOW)]
+    assert [place_of(it) for it in doubted(moved)] == [("line 7, lat and lon", FOR_NOW)]
+    # Of two stations the one is told that is further from the city's zone.
+    for places, line in (((41.9, 12.5), (12.49, 41.91)), 3), (((12.49, 41.91), (41.9, 12.5)), 2):
+        found = doctor.findings_of_lines((system_line() + station_lines(*places)).encode(), NOW)
+        assert [place_of(it) for it in found] == [(f"line {line}, lat and lon", FOR_NOW)], (places, found)
+        assert f"near that of line {5 - line}." in found[0].text, found
+    found = doctor.findings_of_table((HEADER + "a,A,41.9,12.5,5\nb,B,12.49,41.91,5\n").encode())
+    assert [it.where for it in found] == ["row 2 (line 3), lat and lon"] and "row 1 (line 2)." in found[0].text, found
     exchanged = (system_line() + station_lines((41.9, 120.5), (120.5, 41.9))).encode()
     found = doctor.findings_of_lines(exchanged, NOW)
     assert [place_of(it) for it in found] == [("line 3, lat", BAD_FIELD)] and "exchanged" in found[0].text, found
@@ -715,7 +727,7 @@ def test_stations_that_are_there_twice(program):
         ([f"set-name\tstation\ta{it}\ten\tCanal" for it in (1, 2, 3)], [("line 3", FOR_GOOD)]),
     ):
         lines = f"{system_line()}\n".encode() + requests_of([*near, *named], at=NOW, key="n")
-        assert [place_of(it) for it in doctor.findings_of_lines(lines, NOW)] == wanted, named
+        assert [place_of(it) for it in doubted(lines)] == wanted, named
     feeds = doctor.Feeds("https://x.example", NOW)
     rows = [("a1", "Canal", 41.9), ("a2", "Harbour", 41.900017), ("a3", "harbour", 41.9008), ("a4", "Canal", 41.901)]
     rows = [{"station_id": it, "name": [{"text": name}], "lat": lat, "lon": 12.5} for it, name, lat in rows]
@@ -727,6 +739,69 @@ def test_stations_that_are_there_twice(program):
     again = HEADER + 'c1,"HÃ´tel",45,9.1,10\n' * 2
     found = [place_of(it) for it in doctor.findings_of_table(again.encode())]
     assert ("row 2 (line 3), station_id", "already_there") in found and len(found) == 3, found
+
+
+THINGS = {
+    "plan": "add-plan\t{}\tBasic\t1\tfalse\tText\t-",
+    "type": "add-type\t{}\tCity\tbicycle\thuman\t0\t{}",
+    "station": "add-station\t{}\tName\t{lat}\t12.5\t5",
+    "region": "add-region\t{}\tName",
+    "bike": "add-bike\t{}\t{}",
+    "rider": "add-rider\t{}",
+    "truck": "add-truck\t{}\t20",
+}
+NAMING = (
+    "set-plan\t{type}\t{plan}", "move-station\t{station}\t{lat}\t12.5", "set-station\t{station}\ttrue\ttrue\ttrue",
+    "set-region\t{station}\t{region}", "set-region\t{station}\t*", "mark-dock\t{station}\t1\tworking",
+    "mark-bike\t{bike}\tfit", "set-rider\t{rider}\topen", "top-up\t{rider}\t5",
+    "open-order\t{truck}\t*\t{station}\t{type}\t1", "set-name\tregion\t{region}\ten\tOther",
+    "set-name\tdescription\t{plan}\ten\tOther", "set-name\ttype\t{type}\ten\tOther",
+)
+
+
+def test_what_isnt_there_yet(program):
+    """Lines in any order that add things and name them: just those are told that the program refuses for what isn't
+    there, or is there already; of those that name one thing the first, with how many there are."""
+    rnd = random.Random(7)
+    tried = set()
+    for _ in range(60):
+        texts = "plan", "type", "station", "region"
+        names = {it: [f"{it[0]}{at}" if it in texts else str(at) for at in (1, 2)] for it in THINGS}
+        commands = []
+        for at in range(rnd.randrange(4, 25)):
+            named = {it: rnd.choice(names[it]) for it in THINGS} | {"lat": f"{41 + at * 0.01:.2f}"}
+            if rnd.random() < 0.5:
+                kind = rnd.choice([*THINGS])
+                other = named["plan" if kind == "type" else "type"]
+                commands.append(THINGS[kind].format(named[kind], other, **named))
+            else:
+                commands.append(rnd.choice(NAMING).format(**named))
+        lines = f"{system_line()}\n".encode() + requests_of(commands, at=NOW, key="t")
+        answers = program.run(given=lines)[1].decode().splitlines()
+        refused = {at: it.split("\t")[2] for at, it in enumerate(answers, 1) if it.startswith("refused")}
+        assert len(answers) == len(commands) + 1 and set(refused.values()) <= {
+            "already_there", *(f"unknown_{it}" for it in THINGS)
+        }, (refused, commands)
+        found = [it for it in doctor.findings_of_lines(lines, NOW) if it.word in refused.values()]
+        for it in found:
+            assert refused.get(number_in(it.where)) == it.word, (it, refused, commands)
+        more = [int(it[1]) for it in (re.search(r"\(and (\d+) more lines name it\)", one.text) for one in found) if it]
+        assert len(found) + sum(more) == len(refused), (found, refused, commands)
+        tried.update(refused.values())
+    assert len(tried) == 8, tried
+    # What is told of it: where it comes later, where that is refused, and stations that a table adds.
+    first = requests_of(["add-bike\t1\tcity", "add-plan\tp\tP\t1\tfalse\tText\t-",
+                         "add-type\tcity\tCity\tbicycle\thuman\t0\tp", "set-station\ta1\ttrue\ttrue\ttrue",
+                         "add-type\tlong\tLong\tbicycle\thuman\t0\tnone", "add-bike\t2\tlong"], at=NOW, key="t")
+    found = doctor.findings_of_lines(f"{system_line()}\n".encode() + first, NOW)
+    wanted = {2: "type", 5: "station", 6: "plan", 7: "type"}
+    assert [place_of(it) for it in found] == [(f"line {at}", f"unknown_{it}") for at, it in wanted.items()], found
+    for it, word in zip(found, ("line 4 adds it", "a table of stations", "no line adds it", "line 6 would add it")):
+        assert word in it.text, (it, word)
+    # Without a system these aren't the first lines of a city: what they name may be there.
+    assert doctor.findings_of_lines(first, NOW) == []
+    again = f"{system_line()}\n".encode() + requests_of(["add-rider\t1"], at=NOW, key="t") * 2
+    assert doctor.findings_of_lines(again, NOW) == []
 
 
 def test_keys_of_lines(program):

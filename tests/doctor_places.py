@@ -21,15 +21,15 @@ def killed_city(program, name="city.db"):
 
 
 def test_a_log_beside_a_link(program):
-    """It isn't read, and so its requests are missing until it is moved beside FILE."""
+    """It isn't read, and so the program refuses the city until it is moved beside FILE."""
     city, whole = killed_city(program)
     (city.parent / "big").mkdir()
     real = city.parent / "big/city.db"
     city.rename(real)
     city.symlink_to(real)
-    assert program.run("check", "city.db") == SOUND and held(real) != whole
+    assert program.run("check", "city.db") == STORE_FAILED and held(real) != whole
     found = looked_at(city)
-    assert [(it.where, it.word) for it in found] == [(f"{city}-wal", "passed over")], found
+    assert [(it.where, it.word) for it in found] == [(f"{city}-wal", "store failed")], found
     command = f"mv {city}-wal {real}-wal"
     assert command in found[0].text, found
     # So it is where another link leads to that one.

@@ -42,6 +42,18 @@ def test_new_file(program):
     assert page_size(program) == 2048
 
 
+def test_who_may_use_a_new_file(program):
+    """Its owner may read and write it, and others may read it where the process doesn't forbid that; so its log."""
+    for umask, wanted in (0, 0o644), (0o022, 0o644), (0o027, 0o640), (0o077, 0o600):
+        for word, *more in ["init"], ["lines"], ["import", "spring"]:
+            name = f"{word}{umask:o}.db"
+            status, _, said = program.run(word, name, *more, given=HEADER.encode() if more else b"", umask=umask)
+            assert (status, said) == (0, b""), (word, status, said)
+            for part in Path(program.folder).glob(f"{name}*"):
+                found = part.stat().st_mode & 0o777
+                assert found == wanted, f"umask {umask:o}, {part.name}: {found:o}, not {wanted:o}"
+
+
 def test_stop_before_the_first_name_goes(program):
     """Both names stand there: the next start takes the first one away, whatever its word, and goes on."""
     serves(program)

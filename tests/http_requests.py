@@ -13,6 +13,7 @@ from serving import NOT_RIDING
 from shared import (
     BAD_FIELD, FEEDS, MOMENT, START, STARTED, Server, answer, city, error, get, holds, post, refused, request, rest,
 )
+from system_faults import System
 
 
 def fields(count):
@@ -151,6 +152,16 @@ def test_bodies_that_are_no_object(program):
         (get("/riders/17"), NOT_RIDING),
         (post("/riders/17/start", members + ',"x":' + nested(126) + "}"), STARTED),
     ])
+
+
+def test_long_bodies_that_are_no_object(program):
+    """They are the client's fault too, and no want of memory."""
+    city(program)
+    bad = ["{" + " " * 12_000, "x" * 16_000, "[" * 16_000, '{"key":' * 2000, '"' + "y" * 15_000, f"[{'1,' * 8000}]"]
+    bad += [START[:-1] + ',"x":' + '[{"y":' * 2000, START + " " * 12_000 + "x", "\0" * 16_384, "{" * 10_001]
+    for target in "/riders/17/start", "/office", "/docks/a1/end", "/crews/3/load":
+        holds(program, [(post(target, it), error(400)) for it in bad])
+    holds(program, [(get("/riders/17"), NOT_RIDING), (post("/riders/17/start", START + " " * 12_000), STARTED)])
 
 
 def test_bodies_that_are_objects(program):
@@ -408,6 +419,22 @@ def test_one_byte_a_write(program):
                     client.shutdown(socket.SHUT_WR)
                 found = rest(client)
             assert found == wanted, (asked, found)
+
+
+def test_requests_of_many_reads(program):
+    """Whatever the system gives at a time, a request is answered as one that came whole."""
+    city(program)
+    padding = " " * (16_384 - len(START))
+    riding = answer(200, '{"rider":17,"state":"open","balance_cents":2500,"rental":1}')
+    for most, asked, wanted in (
+        (1, post("/riders/17/start", START), STARTED), (1, post("/riders/17/start", START + padding[:2000]), STARTED),
+        (1, get("/nowhere"), error(404)), (1, post("/office", "{" + padding[:200]), error(400)),
+        (10, post("/riders/17/start", START + padding), STARTED), (100, padded(8192), riding),
+    ):
+        system = System(program, RECEIVES=str(most))
+        with Server(program, 1, env=system.env) as server:
+            found = server.ask(asked)
+            assert found == wanted, (most, asked[:80], found)
 
 
 def test_cuts_between_head_and_body(program):

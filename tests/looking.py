@@ -1,20 +1,24 @@
 """Words that only look. `check`, `feed` and `day` change nothing: no byte of FILE and of its log, whatever these hold,
 and not FILE's journal mode. They make no table, and leave no log where there was none. They and `raise` make no FILE. A
-file that is refused gets no log, and a log whose header is damaged is refused by every word.
+file that is refused gets no log, and a log whose header is damaged is refused by every word. So is a file in which
+something else has a name that our tables take.
 """
 
+import collections
 import contextlib
+import itertools
 import os
 import random
 import sqlite3
+import subprocess
 from pathlib import Path
 
 import adoption
 import lone_logs
 from days import ENTRIES, RENTALS
 from shared import (
-    DONE, FOREIGN, HEADER, NO_SYSTEM, READY, SOUND, STORE_FAILED, Server, changed, held, office, put, quickly, removed,
-    taken, told_with,
+    DISTURBED, DONE, FOREIGN, HEADER, NO_SYSTEM, READY, SOUND, STORE_FAILED, Server, at_once, changed, city, held,
+    office, put, quickly, removed, rows_of, taken, told_with,
 )
 
 LOOKS = {
@@ -247,6 +251,49 @@ def foreign(program):
     return list(files)
 
 
+NOTES = "CREATE TABLE notes (note TEXT); "
+# Files without our tables, in which something else has a name that they or their indexes take.
+TAKEN = [
+    "CREATE VIEW meta AS SELECT 1 AS one", "CREATE VIEW kept AS SELECT 1 AS one", "CREATE VIEW Kept AS SELECT 1 AS one",
+    "CREATE VIEW kept_by_key AS SELECT 1 AS one", "CREATE TABLE bikes_by_dock (note TEXT)",
+    "CREATE TABLE more_names_by_thing (note TEXT)",
+    *(f"{NOTES}CREATE INDEX {it} ON notes (note)" for it in ("meta", "bikes", "bikes_by_dock", "kept_by_key")),
+    *(
+        f"{NOTES}CREATE TRIGGER {it} AFTER INSERT ON notes BEGIN SELECT 1; END"
+        for it in ("meta", "bikes", "bikes_by_dock", "more_names")
+    ),
+]
+# .. and such in which nothing has.
+FREE = [
+    "CREATE VIEW stations AS SELECT 1 AS one", f"{NOTES}CREATE INDEX notes_by_note ON notes (note)",
+    f"{NOTES}CREATE TRIGGER stations_2 AFTER INSERT ON notes BEGIN SELECT 1; END",
+]
+
+
+@quickly
+def test_a_name_of_ours_that_is_taken(program):
+    """No word takes the file, and none changes it."""
+    file = Path(program.folder, "taken.db")
+    for sql in TAKEN:
+        changed(file, sql)
+        with told_with(sql):
+            gets_no_log(program, file.name, STORE_FAILED, adoption.EACH_WORD)
+        removed(file)
+
+
+@quickly
+def test_names_of_ours_that_are_free(program):
+    file = Path(program.folder, "free.db")
+    for sql in FREE:
+        changed(file, sql)
+        with told_with(sql):
+            stays(program, file.name)
+            assert program.run("raise", file.name) == (0, b"version 3\n", b"")
+            assert program.run("init", file.name) == READY
+            assert program.run("check", file.name) == SOUND
+        removed(file)
+
+
 @quickly
 def test_a_foreign_file_that_is_looked_at_gets_no_log(program):
     for file in foreign(program):
@@ -257,3 +304,59 @@ def test_a_foreign_file_that_is_looked_at_gets_no_log(program):
 def test_a_foreign_file_gets_no_log_from_other_words(program):
     for file in foreign(program):
         gets_no_log(program, file, FOREIGN, [it for it in adoption.EACH_WORD if it[0] not in ("check", "feed", "day")])
+
+
+# ---- Looks and other programs at one time
+
+ROWS = HEADER.encode() + b"".join(b"s%d,Station %d,45.%06d,9.1,10\n" % (it, it, it) for it in range(2000))
+
+
+@quickly
+def test_a_look_holds_its_file(program):
+    """While a look isn't done, since nobody reads what it writes, no other program opens FILE. Then it is as whole as
+    ever."""
+    city(program)
+    ended = program.run("import", "city.db", "spring", given=ROWS)
+    assert ended == (0, b"rows 2000\n", b""), ended
+    before, words = beside(program), ["feed", "city.db", "station_information", "--at", "1700000000"]
+    wanted = program.run(*words)
+    assert wanted[0] == 0 and len(wanted[1]) > 200000, len(wanted[1])
+    with program.started(*words) as looking:
+        first = os.read(looking.stdout.fileno(), 1)
+        for word, *more in adoption.EACH_WORD:
+            ended = program.run(word, "city.db", *more, given=lone_logs.INPUT)
+            assert ended == STORE_FAILED, (word, ended)
+            assert beside(program) == before, (word, "something was changed")
+        out, said = looking.communicate(timeout=DISTURBED)
+    assert (looking.returncode, first + out, said) == wanted
+    assert beside(program) == before
+
+
+@quickly
+def test_looks_while_another_program_begins(program):
+    """Each says what it sees or `store failed`, and no request is lost by it."""
+    parts = lone_logs.left(program.file, False)[0]
+    keys = itertools.count()
+
+    def began(turn):
+        """`lines` and a look at once. Returns whether the look saw the city, and how many requests were answered."""
+        name, (words, _) = f"turn{turn}.db", list(LOOKS.values())[turn % len(LOOKS)]
+        put(parts, program.folder, name)
+        given = b"".join(b"1700009000\toffice\tn%d\tadd-rider\t%d\n" % (next(keys), 500 + it) for it in range(3))
+        with program.started("lines", name, stdin=subprocess.PIPE) as lines:
+            status, out, said = asks(program, words, name)
+            answers, fault = lines.communicate(given, timeout=DISTURBED)
+        assert (status, said) == (0, b"") or (status, out, said) == STORE_FAILED, (status, out, said)
+        assert (lines.returncode, answers, fault) in ((0, b"ok\n" * 3, b""), STORE_FAILED), (lines.returncode, answers)
+        if answers:
+            again = program.run("lines", name, given=given)
+            assert again == (0, b"ok\n" * 3, b""), again
+        else:
+            assert taken(program.folder, name) == parts, "something was changed"
+        ((riders,),) = rows_of("SELECT count(*) FROM riders WHERE rider >= 500", program.folder, name)
+        assert riders == answers.count(b"ok\n"), riders
+        return status != 3, bool(answers)
+
+    ends = collections.Counter(at_once(began, range(40), 4))
+    # Neither holds up the other for good.
+    assert (False, False) not in ends, ends

@@ -139,15 +139,15 @@ def test_the_row_of_a_rider_of_an_older_rental(program):
 
 
 # Closed rentals of rider 17 at 1 hundredth each. A sound file holds them as it holds those of requests.
-RODE = 2000
-RIDES = f"""
-WITH RECURSIVE counted (n) AS (SELECT 1 UNION ALL SELECT n + 1 FROM counted WHERE n < {RODE})
+FEW, MANY = 200, 4000
+RIDES = """
+WITH RECURSIVE counted (n) AS (SELECT 1 UNION ALL SELECT n + 1 FROM counted WHERE n < {0})
 INSERT INTO rentals (rental, rider, bike, plan_id, from_station, start, to_station, finish, fare, refunded)
 SELECT n, 17, 7, 'basic', 'a1', 1699999200, 'a1', 1699999200, 1, 0 FROM counted;
 INSERT INTO entries (entry, kind, rider, rental, amount, at)
 SELECT rental + (SELECT max(entry) FROM entries), 2, 17, rental, 1, 1699999200 FROM rentals;
-UPDATE riders SET balance = balance - {RODE} WHERE rider = 17;
-UPDATE meta SET revenue = revenue + {RODE}
+UPDATE riders SET balance = balance - {0} WHERE rider = 17;
+UPDATE meta SET revenue = revenue + {0}
 """
 
 
@@ -156,27 +156,37 @@ def processor(child):
     return int(Path(f"/proc/{child.pid}/schedstat").read_text().split()[0])
 
 
-def test_the_row_of_a_rider_of_many_rentals_costs_no_more(program):
-    """They are read once after the opening, and each row then costs what that of a rider without rentals does."""
-    shared.city(program, "add-rider\t18")
-    changed(Path(program.folder, "city.db"), RIDES)
-    assert program.run("check", "city.db") == SOUND
-    times = 20
-    with Server(program) as server:
+def costs_beside(program, rides):
+    """What rows of a rider without rentals, a start of that rider, and rows of rider 17 cost beside so many rentals of
+    rider 17. The first row reads each rental once."""
+    file, times = f"rides{rides}.db", 20
+    shared.accepted(program, [*shared.CITY, "add-rider\t18", "top-up\t18\t2500"], file=file, key="f")
+    changed(Path(program.folder, file), RIDES.format(rides))
+    assert program.run("check", file) == SOUND
+    with Server(program, file=file) as server:
 
-        def cost(rider, wanted):
-            """What so many rows cost."""
+        def cost(asked):
+            """What these requests cost, each with what it is to be answered."""
             before = processor(server.child)
-            for _ in range(times):
-                found = server.ask(get(f"/riders/{rider}"))
+            for request, wanted in asked:
+                found = server.ask(request)
                 assert found == wanted, found
             return processor(server.child) - before
 
-        assert server.ask(get("/riders/17")) == row(17, 500, 0)
-        few = cost(18, row(18, 0, 0))
-        for begun in False, True:
-            if begun:
-                found = server.ask(post("/riders/17/start", '{"key":"s1","station":"a1","dock":1}'))
-                assert found == answer(200, f'{{"result":"ok","rental":{RODE + 1},"bike":7}}'), found
-            many = cost(17, row(17, 500, RODE + 1 if begun else 0))
-            assert many < 3 * few, f"{times} rows took {many} ns of a processor, and {few} of a rider without rentals"
+        first = get("/riders/17"), row(17, 2500 - rides, 0)
+        cost([first])
+        plain = cost([(get("/riders/18"), row(18, 2500, 0))] * times)
+        start = answer(200, f'{{"result":"ok","rental":{rides + 1},"bike":7}}')
+        begun = cost([(post("/riders/18/start", '{"key":"s1","station":"a1","dock":1}'), start)])
+        own = cost([first] * times)
+    return {"rows of a rider without rentals": plain, "a start": begun, "rows of a rider of many": own}
+
+
+def test_rows_and_starts_cost_no_more_beside_many_rentals(program):
+    """A rider's row and start don't grow with the rentals of the city, nor with the rider's own."""
+    few, many = costs_beside(program, FEW), costs_beside(program, MANY)
+    for name, cost in many.items():
+        most = (6 if name == "a start" else 3) * few[name]
+        assert cost < most, f"{name}: {cost} ns of a processor beside {MANY} rentals, and {few[name]} beside {FEW}"
+    own, plain = (many[it] for it in ("rows of a rider of many", "rows of a rider without rentals"))
+    assert own < 3 * plain, f"rows took {own} ns of a processor, and {plain} of a rider without rentals"

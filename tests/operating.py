@@ -18,6 +18,7 @@ import ssl
 import subprocess
 import threading
 import time
+from concurrent.futures import ThreadPoolExecutor
 from datetime import datetime
 from email.utils import parsedate_to_datetime
 from pathlib import Path
@@ -356,6 +357,8 @@ def test_release(program):
         "bikeshare",
         "deploy/backup",
         "deploy/bikeshare-doctor",
+        "deploy/bikeshare-office",
+        "deploy/bikeshare-watch",
         "deploy/keep-copies",
         "examples/city/run",
         "examples/map/map.py",
@@ -476,6 +479,7 @@ def test_the_gateways_lines_for_tls(program):
     make_certificate(folder)
     (folder / "nginx.conf").write_text(on_the_network((DEPLOY / "nginx.conf").read_text(), free_port()))
     (folder / "metro.callers").touch()
+    (folder / "logs").mkdir()
     words = ["-p", f"{folder}/", "-e", "error.log", "-c", folder / "nginx.conf", "-t"]
     status, said = ran(shutil.which("nginx") or "/usr/sbin/nginx", *words)
     assert status == 0 and "test is successful" in said and "warn" not in said, said
@@ -488,7 +492,7 @@ class Gateway:
     def __init__(self, program, cities, tokens=None, ttl=30, is_public=False):
         self.port = free_port()
         self.folder = Path(program.folder, "public" if is_public else "gateway")
-        self.folder.mkdir()
+        (self.folder / "logs").mkdir(parents=True)
         # Its lines for trying it have this port, by which those for TLS are put there.
         text = configuration(8081 if is_public else self.port, cities, ttl)
         (self.folder / "nginx.conf").write_text(on_the_network(text, self.port) if is_public else text)
@@ -518,7 +522,8 @@ class Gateway:
                 return self
             if self.child.poll() is not None or time.monotonic() > until:
                 self.__exit__(None, None, None)
-                raise AssertionError(f"the gateway didn't begin: {(self.folder / 'error.log').read_text()}")
+                said = [it.read_text() for it in self.folder.rglob("error.log")]
+                raise AssertionError(f"the gateway didn't begin: {said}")
             time.sleep(0.02)
 
     def __exit__(self, kind, fault, trace):
@@ -624,11 +629,9 @@ def test_gateway_requests(program):
         found = [gateway.told("GET", "/riders/17", "rider:17")[0] for _ in range(10)]
         assert 200 in found and found[-1] == 429, found
         assert gateway.told("GET", "/bikes/7", "crew:3") == (200, "")
-    log = [json.loads(it) for it in (gateway.folder / "access.log").read_text().splitlines()]
-    assert (
-        [it["caller"] for it in log[:3]] == ["rider:17"] * 3
-        and TOKENS["rider:17"] not in (gateway.folder / "access.log").read_text()
-    )
+    text = (gateway.folder / "logs/metro.log").read_text()
+    log = [json.loads(it) for it in text.splitlines()]
+    assert [it["caller"] for it in log[:3]] == ["rider:17"] * 3 and TOKENS["rider:17"] not in text
 
 
 # What nginx can't read: heads of requests, and what ends a head.
@@ -846,6 +849,38 @@ def test_gateway_feeds_leave_room_for_requests(program):
         time.sleep(7.2)
         found = asked_of_a_slow_program(server, gateway, 150, "office:anna")
         assert [status for status, _, _ in found] == [200] * 151, [status for status, _, _ in found]
+
+
+@needs("nginx")
+def test_gateway_feeds_of_a_program_that_stands_still(program):
+    """Whoever asks meanwhile gets the feed of before within some two seconds, however old; what there is none of is
+    unavailable as soon. Other requests wait for the program. When it goes on so do the feeds."""
+    city(program)
+    other = "/gbfs/3.0/station_status.json"
+    with Server(program) as server, Gateway(program, {"metro": server.port}, ttl=1) as gateway:
+        _, before, _ = gateway.ask("GET", FEED)
+        time.sleep(7.2)
+
+        def timed(path):
+            since = time.monotonic()
+            status, head, _ = gateway.ask("GET", path)
+            return status, head["Date"] == before["Date"], time.monotonic() - since
+
+        os.kill(server.child.pid, signal.SIGSTOP)
+        try:
+            with ThreadPoolExecutor(9) as pool:
+                row = pool.submit(gateway.ask, "GET", "/riders/17", "office:anna")
+                found = list(pool.map(timed, [FEED] * 6 + [other] * 2))
+                assert not row.done(), "a row was answered"
+                os.kill(server.child.pid, signal.SIGCONT)
+                assert row.result()[0] == 200
+        finally:
+            os.kill(server.child.pid, signal.SIGCONT)
+        assert [it[:2] for it in found] == [(200, True)] * 6 + [(503, False)] * 2, found
+        assert max(took for _, _, took in found) < 3, found
+        time.sleep(1.1)
+        status, head, _ = gateway.ask("GET", FEED)
+        assert status == 200 and head["Date"] != before["Date"] and gateway.ask("GET", other)[0] == 200
 
 
 def asked_of_a_slow_program(server, gateway, count, caller=None):

@@ -21,6 +21,9 @@ from shared import TOP, needs, ran
 DEPLOY = TOP / "deploy"
 SECONDS = 120
 DOCUMENTS = "usr/share/doc/bikeshare"
+# The scripts for administrators and staff, each with a manual page and a completion beside it.
+SCRIPTS = "bikeshare-doctor", "bikeshare-office", "bikeshare-watch"
+PAGES = [f"{name}.1" for name in ("bikeshare", *SCRIPTS)]
 
 
 # ---- the package
@@ -50,19 +53,17 @@ def wanted_files():
     """The files that a package has, and where each comes from, if it is there as it is."""
     wanted = {
         "usr/bin/bikeshare": None,
-        "usr/bin/bikeshare-doctor": DEPLOY / "bikeshare-doctor",
         "usr/lib/systemd/system/bikeshare@.service": None,
         "usr/lib/systemd/system/bikeshare-gateway.service": None,
         "usr/lib/systemd/system/bikeshare-backup@.service": None,
+        "usr/lib/systemd/system/bikeshare-logs.service": None,
+        "usr/lib/systemd/system/bikeshare-logs.timer": None,
         "usr/lib/systemd/system/bikeshare-backup@.timer": None,
         "usr/lib/systemd/system-preset/50-bikeshare.preset": TOP / "tools/debian/preset",
-        "usr/share/bash-completion/completions/bikeshare": DEPLOY / "bikeshare.bash",
-        "usr/share/bash-completion/completions/bikeshare-doctor": DEPLOY / "bikeshare-doctor.bash",
         "usr/share/bikeshare/backup": None,
         "usr/share/bikeshare/keep-copies": DEPLOY / "keep-copies",
+        "usr/share/bikeshare/logrotate.conf": DEPLOY / "logrotate.conf",
         "usr/share/lintian/overrides/bikeshare": TOP / "tools/debian/lintian-overrides",
-        "usr/share/man/man1/bikeshare.1.gz": None,
-        "usr/share/man/man1/bikeshare-doctor.1.gz": None,
         f"{DOCUMENTS}/RELEASE": None,
         f"{DOCUMENTS}/changelog.gz": None,
         f"{DOCUMENTS}/copyright": TOP / "tools/debian/copyright",
@@ -75,6 +76,10 @@ def wanted_files():
         f"{DOCUMENTS}/examples/nginx.conf": DEPLOY / "nginx.conf",
         f"{DOCUMENTS}/examples/begin.txt": DEPLOY / "begin.txt",
     }
+    wanted |= {f"usr/bin/{name}": DEPLOY / name for name in SCRIPTS}
+    wanted |= {f"usr/share/man/man1/{page}.gz": None for page in PAGES}
+    for name in ("bikeshare", *SCRIPTS):
+        wanted[f"usr/share/bash-completion/completions/{name}"] = DEPLOY / f"{name}.bash"
     found = [it for name in ("docs", "examples") for it in (TOP / name).rglob("*") if it.is_file()]
     return wanted | {f"{DOCUMENTS}/{it.relative_to(TOP)}": it for it in found if it.parent.name != "__pycache__"}
 
@@ -103,9 +108,8 @@ def has_good_files(program, found):
     they are."""
     wanted = wanted_files()
     assert {name for name, (_, data) in found.items() if data is not None} == wanted.keys(), sorted(found)
-    programs = {
-        "usr/bin/bikeshare", "usr/bin/bikeshare-doctor", "usr/share/bikeshare/backup", "usr/share/bikeshare/keep-copies"
-    }
+    programs = {"usr/bin/bikeshare", "usr/share/bikeshare/backup", "usr/share/bikeshare/keep-copies"}
+    programs |= {f"usr/bin/{name}" for name in SCRIPTS}
     programs |= {name for name, it in wanted.items() if "/examples/" in name and it.stat().st_mode & 0o100}
     for name, (it, data) in found.items():
         assert (it.uid, it.gid, it.uname, it.gname) == (0, 0, "root", "root"), name
@@ -121,7 +125,8 @@ def has_good_files(program, found):
 
 def has_good_paths(found):
     """Holds the unit files and the script for backups to those of deploy/, with the paths of the package."""
-    units = "bikeshare@.service", "bikeshare-gateway.service", "bikeshare-backup@.service", "bikeshare-backup@.timer"
+    units = sorted(it.name for it in DEPLOY.iterdir() if it.suffix in (".service", ".timer"))
+    assert len(units) == 6, units
     for name in units:
         text = (DEPLOY / name).read_text()
         text = text.replace("/opt/bikeshare/bikeshare", "/usr/bin/bikeshare").replace(
@@ -131,7 +136,7 @@ def has_good_paths(found):
         assert found[f"usr/lib/systemd/system/{name}"][1].decode() == text, name
         named = re.findall(r"^(?:ExecStart=|Documentation=file:)/(usr/\S+)", text, re.M)
         assert len(named) == 1 + name.endswith(".service"), named
-        assert {it for it in named if it != "usr/sbin/nginx"} <= found.keys(), named
+        assert {it for it in named if it not in ("usr/bin/sh", "usr/sbin/logrotate")} <= found.keys(), named
     backup = found["usr/share/bikeshare/backup"][1].decode()
     assert "\nprogram=${BIKESHARE:-/usr/bin/bikeshare}\n" in backup and "../" not in backup
     for name, (_, data) in found.items():
@@ -252,7 +257,7 @@ def test_package(program):
     assert packages[0].name == f"bikeshare_{told['version']}_amd64.deb"
     assert (one / "release/RELEASE").read_bytes() == found[f"{DOCUMENTS}/RELEASE"][1]
     has_good_changes(gzip.decompress(found[f"{DOCUMENTS}/changelog.gz"][1]).decode(), told["version"])
-    for name in ("bikeshare.1", "bikeshare-doctor.1"):
+    for name in PAGES:
         page = gzip.decompress(found[f"usr/share/man/man1/{name}.gz"][1])
         assert page == (one / "release/deploy" / name).read_bytes() and f'"{told["version"]}"'.encode() in page, name
         rest = re.sub(rb"bikeshare(\\-backup)?@CITY", b"", page)
@@ -330,8 +335,8 @@ def test_the_manual_page_tells_the_usage_text(program):
 
 @needs("groff")
 def test_the_manual_page_is_laid_out(program):
-    """groff finds nothing wrong in it, nor in that of the script beside."""
-    for name in ("bikeshare.1", "bikeshare-doctor.1"):
+    """groff finds nothing wrong in it, nor in those of the scripts beside."""
+    for name in PAGES:
         said = ran("groff", "-man", "-Tutf8", "-ww", "-z", DEPLOY / name)
         assert said == (0, ""), (name, said)
 

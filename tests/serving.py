@@ -15,11 +15,13 @@ import sqlite3
 import time
 from datetime import datetime, timezone
 
+from newest import processor
 from shared import (
     BAD_FIELD, CITY, DONE, FEEDS, FOREIGN, MOMENT, READY, READ_FAILED, SECONDS, START, STARTED, STORE_FAILED, Server,
     answer, ask, city, error, feed, free_port, get, get_feed, holds, is_sound, line_of, office, post, refused, reset,
     rest, tells_mistake, timeless,
 )
+from slow_clients import with_sockets
 
 NOT_RIDING = answer(200, '{"rider":17,"state":"open","balance_cents":2500,"rental":0}')
 
@@ -681,12 +683,11 @@ def test_moments_are_the_clocks(program):
 
 
 def test_a_clock_behind_the_city(program):
-    """The city's time never goes back, though a feed is for the moment of its request."""
+    """The city's time never goes back, and a feed is no older than what it tells."""
     city(program)
     assert program.run("lines", "city.db", given=b"4102444800\toffice\tlater\ttop-up\t17\t1\n") == (
         0, b"balance\t2501\n", b""
     )
-    before = int(time.time())
     with Server(program, 4) as server:
         assert server.ask(post("/riders/17/start", START)) == STARTED
         found = server.ask(get("/rentals/1"))
@@ -694,8 +695,7 @@ def test_a_clock_behind_the_city(program):
         feed = server.told("/gbfs/3.0/station_status.json")
         found = server.ask(post("/docks/a1/end", '{"key":"e1","bike":7,"dock":1}'))
         assert found == answer(200, '{"result":"ok","fare_cents":100,"balance_cents":2401}'), found
-    assert before <= seconds(feed["last_updated"]) <= int(time.time()), feed
-    assert feed["data"]["stations"][0]["last_reported"] == "2100-01-01T00:00:00Z", feed
+    assert feed["last_updated"] == feed["data"]["stations"][0]["last_reported"] == "2100-01-01T00:00:00Z", feed
 
 
 def test_what_is_refused_changes_nothing(program):
@@ -795,6 +795,57 @@ def test_few_descriptors(program):
             ends.append(ended)
     assert READ_FAILED in ends and ends == sorted(ends, key=[STORE_FAILED, READ_FAILED, "serves"].index), ends
     is_sound(program)
+
+
+def test_a_low_limit_of_descriptors_below_a_high_one(program):
+    """What counts is how many it may have, and not how many it could ask for."""
+    city(program)
+    limit = lambda: resource.setrlimit(resource.RLIMIT_NOFILE, (256, 4096))
+    with program.started("serve", "city.db", "--port", "0", "--count", "1", preexec_fn=limit) as child:
+        line = line_of(child)
+        assert line == b"", line
+        out, said = child.communicate(timeout=SECONDS)
+        assert (child.returncode, out, said) == READ_FAILED, (child.returncode, out, said)
+    is_sound(program)
+
+
+def test_descriptors_that_it_was_given(program):
+    """Others than its own are open already: it has room for 1,000 clients, or doesn't listen."""
+    city(program)
+    for count in 8, 16, 40:
+        with contextlib.ExitStack() as closing:
+            given = tuple(closing.enter_context(open(os.devnull, "rb")).fileno() for _ in range(count))
+            words = ["serve", "city.db", "--port", "0"]
+            child = closing.enter_context(program.started(*words, pass_fds=given, preexec_fn=limited(1024)))
+            listens = re.fullmatch(rb"listening 127\.0\.0\.1:([0-9]+)\n", line_of(child))
+            if not listens:
+                out, said = child.communicate(timeout=SECONDS)
+                assert (child.returncode, out, said) == READ_FAILED, (count, child.returncode, out, said)
+                continue
+            room = closing.enter_context(with_sockets(1200))
+            assert room, "this process may not have 1,200 descriptors"
+            clients = [
+                closing.enter_context(socket.create_connection(("127.0.0.1", int(listens[1])), timeout=SECONDS))
+                for _ in range(1000)
+            ]
+            for client in clients:
+                client.sendall(get("/riders/17"))
+            found = {rest(client) for client in clients}
+            assert found == {NOT_RIDING} and child.poll() is None, (count, found, child.poll())
+
+
+def test_a_server_that_has_nothing_to_do(program):
+    """With nobody there, and with 900 clients that say nothing, it takes no processor to speak of."""
+    city(program)
+    with Server(program) as server, with_sockets(1200) as may, contextlib.ExitStack() as closing:
+        for count in (0, 1, 900) if may else (0, 1):
+            for _ in range(count):
+                closing.enter_context(server.connect())
+            time.sleep(0.5)
+            before = processor(server.child)
+            time.sleep(1)
+            took = processor(server.child) - before
+            assert took < 20_000_000, f"{count} silent clients: {took} ns of a processor in a second"
 
 
 def test_wrong_words(program):

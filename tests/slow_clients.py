@@ -290,8 +290,8 @@ def told_at(found):
 
 
 def moments_are_those_of_acceptance(case):
-    """A request that becomes whole later has the moment at which it was accepted, or a later one of a request that was
-    answered before. So the city's time never goes back, and no feed is older than what it tells."""
+    """A request that becomes whole later has the moment at which its connection was accepted, or a later one of a
+    request that acted before. So the city's time never goes back, and no feed is older than what it tells."""
     with case.serve() as server:
         first, second, third = begin(server, [server.connect] * 3)
         at = clock()
@@ -474,6 +474,38 @@ def test_clients_that_send_on(program):
         for client, asked, wanted in clients:
             found = rest(client)
             assert found == wanted, (asked, found)
+
+
+def test_an_early_answer_is_not_lost(program):
+    """Who is refused before all that he sends has come, sends on for a moment and reads only then: the answer is there,
+    and behind it an end, and no reset, by which some systems drop what wasn't read yet."""
+    city(program)
+    long = b"x" * 20_000
+    early = {
+        "too long a body": (request("POST", "/office", "Content-Length: 20000"), error(413)),
+        "a bad length": (request("POST", "/office", "Content-Length: x"), error(400)),
+        "another method": (request("POST", "/riders/17", "Content-Length: 2", body=b"{}"), error(405, "GET")),
+        "no such path": (request("POST", "/nowhere", "Content-Length: 2", body=b"{}"), error(404)),
+        "a coded body": (request("POST", "/office", "Transfer-Encoding: chunked"), error(400)),
+    }
+    with Server(program) as server:
+        for name, (asked, wanted) in early.items():
+            with server.connect() as client:
+                client.sendall(asked)
+                # By now it is answered.
+                client.settimeout(SOON)
+                assert client.recv(1, socket.MSG_PEEK) == wanted[:1], name
+                for at in range(0, 16_000, 4000):
+                    time.sleep(LINGER / 20)
+                    client.sendall(long[at : at + 4000])
+                client.shutdown(socket.SHUT_WR)
+                found = b""
+                try:
+                    while piece := client.recv(65536):
+                        found += piece
+                except ConnectionResetError as fault:
+                    raise AssertionError(f"{name}: the connection was reset behind {len(found)} bytes") from fault
+                assert found == wanted, (name, found)
 
 
 def test_a_server_that_stands_still(program):
