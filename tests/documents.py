@@ -157,19 +157,6 @@ def test_libraries_of_crates(program):
     assert not unused, unused
 
 
-MOST_WAYS = 240_000
-
-
-def test_ways_through_crates(program):
-    """There are at most so many ways down from a library to itself or to one below it, by crates.txt: at the end of
-    each the gate reads a crate's files, twice."""
-    on, ways = libraries(), {}
-    for crate in on:  # the lowest come first
-        ways[crate] = 1 + sum(ways[it] for it in on[crate] if it in on)
-    most = sorted(ways, key=ways.get)[-9:]
-    assert sum(ways.values()) - ways["bikeshare"] <= MOST_WAYS, [(it, ways[it]) for it in most]
-
-
 # Words and phrases that no document has any more, each with the plain one that stands in its place.
 GONE = {
     "dear": "expensive",

@@ -3,8 +3,8 @@
 //! `decide` answers, on the view of an operator, exactly the first refusal that holds, or else the reply and what makes the
 //! effect. It takes no memory.
 //!
-//! What a caller names stands here too: commands, requests, replies and refusals, a command's text and its readers, the
-//! view of an operator and what an accepted command makes.
+//! What a caller names stands here too: commands, requests, replies and refusals, the view of an operator and what an
+//! accepted command makes. A command's text and its readers stand in `bike_requests`.
 #![tactic(auto)]
 
 mod decide_bikes;
@@ -19,5 +19,4 @@ mod decision;
 pub use bike_accepted::{Accepted, Change, Decision, Moved};
 pub use bike_commands::{Command, Refusal, Reply, Request};
 pub use bike_operator::View;
-pub use bike_requests::{command_text, read_command, read_line};
 pub use decision::decide;

@@ -22,7 +22,7 @@ use bike_queries::{
     find_rental_info, find_rider_info, find_station_counts, find_system, find_type_ids,
 };
 use bike_schema::StatementFault;
-use bike_stored::find_figures;
+use bike_views::find_figures;
 use sqlite::Alter;
 use std::alloc::Global;
 

@@ -4,5 +4,5 @@
 
 mod stored;
 
-pub use bike_views::{Known, Sight, find_figures, find_view, know_figures};
+pub use bike_views::{Known, Sight, find_view, know_figures};
 pub use stored::find_stored;
