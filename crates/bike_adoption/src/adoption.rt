@@ -10,7 +10,8 @@ ghost use Rattle.bike_schema.specs.Tables.{HasNone};
 ghost use Rattle.bike_schema.specs.Stands.{TreesStandFor};
 ghost use Rattle.bike_desk.specs.Desk.{desk_state};
 ghost use Rattle.bike_audit.specs.Watching.{WasTold};
-ghost use Rattle.bike_adoption.specs.Adoption.{failed, cause_of, found_as, Adopts, AreToldBy, Begins, IsOfStatement, LeavesOrStands};
+ghost use Rattle.bike_adoption.specs.Adoption.{failed, cause_of, found_as, Adopts, AreToldBy, Begins, IsOfStatement};
+ghost use Rattle.bike_adoption.specs.Adoption.{LeavesOrStands};
 
 use crate::tables::make_tables;
 use bike_audit::{BadRow, Finding, Unwatched, Watch, audit};
@@ -113,7 +114,8 @@ pub(crate) fn cause_of(finding: Finding) -> Option<AdoptCause>
     }
 }
 
-/// Makes the tables in a database that has none of them, in one transaction. Where it has no room for them the store fails.
+/// Makes the tables in a database that has none of them, in one transaction. Where it has no room for them the store
+/// fails.
 fn begin<S: Alter>(mut conn: Connection<S>) -> Result<Desk<S>, AdoptFault<S>>
     requires { conn.in_transaction ≡ false }
     ensures clean { MatchResult result
@@ -148,11 +150,12 @@ fn found<S: Alter>(conn: Connection<S>, finding: Finding) -> Result<Desk<S>, Ado
     }
 }
 
-/// Takes a connection outside a transaction into service. A database with none of the product's tables, and no
-/// foreign key that names one, gets them with their indexes in one transaction, and the desk begins with the operator of
-/// which nothing was asked; where something else has a name that they take, the store fails, and nothing is changed. Of any
-/// other database the tables are audited, and nothing is changed: the desk stands for their operator, if there is one. Tables
-/// of other names stay. A fault tells what the database is, or that memory or the store failed, and hands the connection back.
+/// Takes a connection outside a transaction into service. A database with none of the product's tables, and no foreign
+/// key that names one, gets them with their indexes in one transaction, and the desk begins with the operator of which
+/// nothing was asked; where something else has a name that they take, the store fails, and nothing is changed. Of any
+/// other database the tables are audited, and nothing is changed: the desk stands for their operator, if there is one.
+/// Tables of other names stay. A fault tells what the database is, or that memory or the store failed, and hands the
+/// connection back.
 pub fn adopt<S: Alter>(alloc: Global, conn: Connection<S>) -> Result<Desk<S>, AdoptFault<S>>
     requires { conn.in_transaction ≡ false }
     ensures { Adopts S.Store conn result }
@@ -160,8 +163,8 @@ pub fn adopt<S: Alter>(alloc: Global, conn: Connection<S>) -> Result<Desk<S>, Ad
     adopt_watched(alloc, conn, &mut Unwatched)
 }
 
-/// Takes a connection into service as `adopt` does, and tells `watch` of each table before it is audited, so that a caller can
-/// show how far the audit is.
+/// Takes a connection into service as `adopt` does, and tells `watch` of each table before it is audited, so that a
+/// caller can show how far the audit is.
 pub fn adopt_watched<S: Alter, P: Watch>(
     alloc: Global,
     mut conn: Connection<S>,

@@ -29,10 +29,11 @@ fn seen_as<S: Alter>(conn: Connection<S>, finding: Finding) -> Result<Looked<S>,
     }
 }
 
-/// Looks at a database over a connection outside a transaction, and changes nothing of it: what it is, and whether its tables stand for an
-/// operator, as `adopt` finds it. A database with none of the product's tables gets none; where something else has a name that they
-/// take, the store fails, as it does in `adopt`. A fault tells what the database is, or that memory or the store failed, and hands the
-/// connection back. `watch` is told of each table before it is audited.
+/// Looks at a database over a connection outside a transaction, and changes nothing of it: what it is, and whether its
+/// tables stand for an operator, as `adopt` finds it. A database with none of the product's tables gets none; where
+/// something else has a name that they take, the store fails, as it does in `adopt`. A fault tells what the database
+/// is, or that memory or the store failed, and hands the connection back. `watch` is told of each table before it is
+/// audited.
 pub fn look<S: Alter, P: Watch>(
     alloc: Global,
     mut conn: Connection<S>,

@@ -50,8 +50,8 @@ fn push_number(out: &mut ArrayString<HEAD_ROOM>, number: u64)
     out.push_str(buffer.format(number));
 }
 
-/// The head of an answer with that status, whose body is JSON of so many bytes (RFC 9112, section 4): the status line, the
-/// fields, of which `Allow` comes last, and the empty line.
+/// The head of an answer with that status, whose body is JSON of so many bytes (RFC 9112, section 4): the status line,
+/// the fields, of which `Allow` comes last, and the empty line.
 #[tactic(auto, unfolding(crate::specs::Head::head_text))]
 pub fn head_text(status: u16, allow: Option<Allow>, length: u64) -> ArrayString<HEAD_ROOM>
     ensures { result.bytes ≡ head_text status allow length }

@@ -3,7 +3,9 @@
 ghost use Rattle.std.specs.Prelude.{◌≡◌, ◌<◌, ◌++◌, IsTrue, length, map, pos};
 ghost use Rattle.bike_json.specs.State.{WroteNext, IsAt, takes_value, after_value};
 ghost use Rattle.bike_json.specs.Tree.{text_of};
-ghost use Rattle.bike_answers.specs.Bodies.{rider_state, open_rental, rider_tree, state_name, bike_tree, ended_at, closed_members, members, rental_object, rental_tree, scalar_tree, end_name, order_tree};
+ghost use Rattle.bike_answers.specs.Bodies.{rider_state, open_rental, rider_tree, state_name, bike_tree, ended_at};
+ghost use Rattle.bike_answers.specs.Bodies.{closed_members, members, rental_object, rental_tree, scalar_tree, end_name};
+ghost use Rattle.bike_answers.specs.Bodies.{order_tree};
 
 use crate::answer::RiderRow;
 use crate::members::{Scalar, signed, whole, write_object};
@@ -148,7 +150,8 @@ fn write_rental_with<'a, W: Output>(
     requires value { IsTrue (takes_value json.old.top) }
     requires room { length json.old.round < 16 }
     ensures wrote { WroteNext json.old json.new (W.contents out.old) (W.contents out.new)
-        (text_of (rental_object number rental.now start.now (members (map (λ m. (m.0.now, scalar_tree m.1)) closing.now)))) }
+        (text_of (rental_object number rental.now start.now
+        (members (map (λ m. (m.0.now, scalar_tree m.1)) closing.now)))) }
     ensures place { IsAt json.new (after_value json.old.top) json.old.round }
 {
     write_object(

@@ -46,8 +46,9 @@ fn send<W: Write>(out: &mut W, answer: &Answer, size: u64) -> Result<u16, WriteF
     }
 }
 
-/// Writes an answer, and gives its status. Fails where a write fails, and then a front of the answer is written; so too where the
-/// length of its body can't be counted, which is told as a failed write: another answer is never sent in its place.
+/// Writes an answer, and gives its status. Fails where a write fails, and then a front of the answer is written; so too
+/// where the length of its body can't be counted, which is told as a failed write: another answer is never sent in its
+/// place.
 pub fn write_answer<W: Write>(out: &mut W, answer: &Answer) -> Result<u16, WriteFault>
     ensures ok { IfOk result (λ status. Sends (W.contents out.old) (W.contents out.new) answer.now status) }
     ensures err { OnErr result (AppendsFront (W.contents out.old) (W.contents out.new) (answer_text answer.now)) }

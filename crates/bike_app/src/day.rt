@@ -47,8 +47,8 @@ fn report_at<S: Alter, W: Write>(
     told(written)
 }
 
-/// Writes the table of a database that has none of the product's tables: that of the empty operator, over a database in memory which is
-/// made for it and let go at the end.
+/// Writes the table of a database that has none of the product's tables: that of the empty operator, over a database in
+/// memory which is made for it and let go at the end.
 fn report_nobodys<W: Write>(
     alloc: Global,
     table: DayTable,
@@ -65,10 +65,10 @@ fn report_nobodys<W: Write>(
     }
 }
 
-/// Looks at the database over a connection outside a transaction and writes a table of a day of it: the day of that date
-/// (`YYYY-MM-DD`) in that zone (POSIX's `TZ`). Nothing of the database changes: what a crash may leave of it is what it could leave
-/// before. Gives the connection back with the number 0, or with the fault at which that ended: `BadDate`, `BadZone` and
-/// `DayOutOfRange` come where there is no such day, and then nothing is written.
+/// Looks at the database over a connection outside a transaction and writes a table of a day of it: the day of that
+/// date (`YYYY-MM-DD`) in that zone (POSIX's `TZ`). Nothing of the database changes: what a crash may leave of it is
+/// what it could leave before. Gives the connection back with the number 0, or with the fault at which that ended:
+/// `BadDate`, `BadZone` and `DayOutOfRange` come where there is no such day, and then nothing is written.
 pub fn report_day<S: Alter, W: Write>(
     alloc: Global,
     table: DayTable,

@@ -79,8 +79,8 @@ fn publish_at<S: Alter, W: Write>(
     }
 }
 
-/// What is told of a feed of a database that has none of the product's tables: no system is set. `NoClock` where the clock gave no
-/// moment.
+/// What is told of a feed of a database that has none of the product's tables: no system is set. `NoClock` where the
+/// clock gave no moment.
 fn publish_nobodys(moment: Option<Moment>) -> Result<u64, Fault>
     ensures { (feed : Feed) (written : _) → TellsFeed no_operator feed moment written written result }
 {
@@ -90,9 +90,9 @@ fn publish_nobodys(moment: Option<Moment>) -> Result<u64, Fault>
     }
 }
 
-/// Looks at the database over a connection outside a transaction and writes a feed of it. Nothing of the database changes: what a crash
-/// may leave of it is what it could leave before. Gives the connection back with the number 0, or with the fault at which that ended: of
-/// a database with none of the product's tables `SystemMissing`.
+/// Looks at the database over a connection outside a transaction and writes a feed of it. Nothing of the database
+/// changes: what a crash may leave of it is what it could leave before. Gives the connection back with the number 0, or
+/// with the fault at which that ended: of a database with none of the product's tables `SystemMissing`.
 pub fn publish<S: Alter, W: Write>(
     alloc: Global,
     feed: Feed,

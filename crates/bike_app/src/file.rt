@@ -19,11 +19,12 @@ use bike_fixed::Moment;
 use sqlite::{Connection, FileFrom, FileStore, Start};
 use std::io::{Read, Write};
 
-/// Does the task over the database file at a path, as `run_words` does over the database that the file's bytes hold. Gives the connection
-/// back, none where the file couldn't be opened: then nothing was read, nothing written, and the fault is that of the opening.
+/// Does the task over the database file at a path, as `run_words` does over the database that the file's bytes hold.
+/// Gives the connection back, none where the file couldn't be opened: then nothing was read, nothing written, and the
+/// fault is that of the opening.
 ///
-/// However `Raise` ends, a file that held an operator at some version holds after a crash that operator, at that version or at the
-/// newest.
+/// However `Raise` ends, a file that held an operator at some version holds after a crash that operator, at that
+/// version or at the newest.
 pub fn run_file<F: Start, R: Read, W: Write, P: Watch>(
     rt: &HostRuntime,
     task: &FileTask<'_>,
@@ -103,13 +104,14 @@ fn look_at_file<F: Start, R: Read, W: Write, P: Watch>(
     }
 }
 
-/// Does the task over the database file at a path, as `run_file` does, from the path on to the closing. Tasks that only look, and
-/// `Raise`, make no file: where there is none that is `StoreFailed`, and for `Raise` a file of at most one byte too. Tasks that only look
-/// change no byte of the file and of its log. A log that may hold commits is `StoreFailed` for all tasks, and stays, where it has no
-/// file, or one of at most one byte, or its header is damaged. Tasks that may change the database bring the log into the file at
-/// their end, so that after a number the file is the whole database by itself; where that fails, they end with `StoreFailed`, and the file
-/// and its log are the database together. Tasks that only look, and a file that is refused, leave no log where there was none. Gives
-/// back what is left of the connection, none where no file was opened or it was only looked at, and how the task ended.
+/// Does the task over the database file at a path, as `run_file` does, from the path on to the closing. Tasks that only
+/// look, and `Raise`, make no file: where there is none that is `StoreFailed`, and for `Raise` a file of at most one
+/// byte too. Tasks that only look change no byte of the file and of its log. A log that may hold commits is
+/// `StoreFailed` for all tasks, and stays, where it has no file, or one of at most one byte, or its header is damaged.
+/// Tasks that may change the database bring the log into the file at their end, so that after a number the file is the
+/// whole database by itself; where that fails, they end with `StoreFailed`, and the file and its log are the database
+/// together. Tasks that only look, and a file that is refused, leave no log where there was none. Gives back what is
+/// left of the connection, none where no file was opened or it was only looked at, and how the task ended.
 pub fn run_on_file<F: Start, R: Read, W: Write, P: Watch>(
     rt: &HostRuntime,
     task: &FileTask<'_>,

@@ -88,11 +88,11 @@ fn import_at<S: Alter, R: Read, W: Write>(
     }
 }
 
-/// Takes the connection, which is outside a transaction, into service and imports the stations of the input, a CSV table, as the
-/// caller `import:NAME`. Where all its rows are accepted the line `rows N` tells their number, and at a fault there is no line. Gives
-/// the connection back with the number of rows, or with the fault at which that ended: `BadHeader`, `RowUnreadable` and `RowRefused`
-/// come for the table, whose rows before that stay, `ReadFailed` where the input fails or is too long, and `NoClock` where the clock
-/// gave no moment.
+/// Takes the connection, which is outside a transaction, into service and imports the stations of the input, a CSV
+/// table, as the caller `import:NAME`. Where all its rows are accepted the line `rows N` tells their number, and at a
+/// fault there is no line. Gives the connection back with the number of rows, or with the fault at which that ended:
+/// `BadHeader`, `RowUnreadable` and `RowRefused` come for the table, whose rows before that stay, `ReadFailed` where
+/// the input fails or is too long, and `NoClock` where the clock gave no moment.
 pub fn import_from<S: Alter, R: Read, W: Write>(
     alloc: Global,
     name: &str,

@@ -1,5 +1,5 @@
-//! The tasks of the program's words over a database: it is taken into service, and then request lines are served, a feed or a day's
-//! table is written, or an import is taken in; or it is raised to the newest version.
+//! The tasks of the program's words over a database: it is taken into service, and then request lines are served, a
+//! feed or a day's table is written, or an import is taken in; or it is raised to the newest version.
 #![tactic(auto)]
 
 mod bounds;

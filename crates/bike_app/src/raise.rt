@@ -13,8 +13,8 @@ use sqlite::{Alter, Connection};
 use std::alloc::Global;
 use std::io::Write;
 
-/// Raises the database to the newest version, as `raise` of `bike_migrate` does, and tells that by the line `version` with its number.
-/// `watch` is told how far the audit is.
+/// Raises the database to the newest version, as `raise` of `bike_migrate` does, and tells that by the line `version`
+/// with its number. `watch` is told how far the audit is.
 pub fn raise_up<S: Alter, W: Write, P: Watch>(
     alloc: Global,
     conn: Connection<S>,

@@ -1,7 +1,8 @@
-//! What the catalogue's records are made of: rates and segments of plans, positions of stations, forms and propulsions of
-//! vehicles, and the kinds of what has names in further languages.
+//! What the catalogue's records are made of: rates and segments of plans, positions of stations, forms and propulsions
+//! of vehicles, and the kinds of what has names in further languages.
 //!
-//! A value of a type here keeps the type's bounds. A number of any record is tested here against the range of its field.
+//! A value of a type here keeps the type's bounds. A number of any record is tested here against the range of its
+//! field.
 #![tactic(auto)]
 
 mod limits;

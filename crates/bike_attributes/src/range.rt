@@ -8,8 +8,8 @@ ghost use Rattle.bike_attributes.specs.Faults.{value_or_fault, range_fault, sign
 use crate::rate::Rate;
 use bike_fields::{Bound, Field, FieldFault, Micro, Within};
 
-/// The number as that field. The one error is `Broken`, of this field and its range, where the number is below `LO` or above
-/// `HI`.
+/// The number as that field. The one error is `Broken`, of this field and its range, where the number is below `LO` or
+/// above `HI`.
 pub fn in_range<const LO: u32, const HI: u32, K>(
     field: Field,
     number: u32,
@@ -39,8 +39,8 @@ pub(crate) fn rate_of(hundredths: i32) -> Result<Rate, FieldFault>
     }
 }
 
-/// A coordinate as that field, in microdegrees. The one error is `Broken`, of this field and its range, where its size is
-/// above `greatest`.
+/// A coordinate as that field, in microdegrees. The one error is `Broken`, of this field and its range, where its size
+/// is above `greatest`.
 pub fn coordinate(field: Field, microdegrees: i32, greatest: u32) -> Result<Micro, FieldFault>
     requires { IsCoordinateBound greatest }
     ensures value { result ≡ value_or_fault microdegrees (at_field field (signed_fault greatest microdegrees)) }

@@ -68,8 +68,9 @@ fn find_doubled<S: Alter>(conn: &mut Connection<S>) -> Result<Finding, Statement
     }
 }
 
-/// What the database is; it stays as it is. `NoMemory` where memory is refused, `StoreFailed` where the store fails. `watch` is
-/// told of each table before it is judged; of none where two rows of `kept` have one key, which is told before all else.
+/// What the database is; it stays as it is. `NoMemory` where memory is refused, `StoreFailed` where the store fails.
+/// `watch` is told of each table before it is judged; of none where two rows of `kept` have one key, which is told
+/// before all else.
 pub fn audit<S: Alter, P: Watch>(
     alloc: Global,
     conn: &mut Connection<S>,

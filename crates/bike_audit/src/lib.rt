@@ -1,7 +1,8 @@
 //! The audit of a database: what it is, and the first row that is not an operator's.
 //!
-//! `audit` recognises the database, and judges its tables one after the other in the order of the schema; a `Watch` is told of each. `specs/Audit` says
-//! what it finds; by the laws of the rules a database is `Sound` exactly where its tables stand for an operator.
+//! `audit` recognises the database, and judges its tables one after the other in the order of the schema; a `Watch` is
+//! told of each. `specs/Audit` says what it finds; by the laws of the rules a database is `Sound` exactly where its
+//! tables stand for an operator.
 #![tactic(auto)]
 
 mod finding;

@@ -43,9 +43,9 @@ impl Model for Plan {
 }
 
 impl Plan {
-    /// The plan of these fields, else the first bad field with the first bound that it breaks: an identifier, a name,
-    /// a price of at most `GREATEST_PRICE` hundredths, a description and at most `MOST_SEGMENTS` segments. Memory is asked
-    /// for only where all keep their bounds, and `NoMemory` comes where that is refused.
+    /// The plan of these fields, else the first bad field with the first bound that it breaks: an identifier, a name, a
+    /// price of at most `GREATEST_PRICE` hundredths, a description and at most `MOST_SEGMENTS` segments. Memory is
+    /// asked for only where all keep their bounds, and `NoMemory` comes where that is refused.
     pub fn new(
         alloc: Global,
         plan_id: &str,

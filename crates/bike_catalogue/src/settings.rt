@@ -6,8 +6,8 @@ ghost use Rattle.bike_catalogue.specs.Rows.{settings_of_fields};
 use bike_fields::{Ascii, Name, TimeToLive};
 use std::marker::Model;
 
-/// What of a system may change once it is set. Its identifier, its language and its currency stay: feeds, names and money
-/// hang on them.
+/// What of a system may change once it is set. Its identifier, its language and its currency stay: feeds, names and
+/// money hang on them.
 #[derive(Debug, Drop)]
 pub struct Settings {
     name: Name,

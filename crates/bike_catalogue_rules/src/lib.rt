@@ -1,5 +1,5 @@
-//! The audit's rules of the catalogue: the rows of `meta` and of the system, of plans with their segments, of vehicle types,
-//! of regions, of names in further languages, and of kept requests.
+//! The audit's rules of the catalogue: the rows of `meta` and of the system, of plans with their segments, of vehicle
+//! types, of regions, of names in further languages, and of kept requests.
 //!
 //! Each function names the first bad key of its table, where all tables before it are good. It reads the table's
 //! lines once and keeps one line at a time; the sums in `meta` take a pass over all entries too, and names are read

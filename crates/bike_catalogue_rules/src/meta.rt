@@ -97,8 +97,8 @@ impl Judge for MetaJudge {
     }
 }
 
-/// The first bad key of `meta`: the sums in its one row are those of all entries that are spelled. The database stays as
-/// it is. `StoreFailed` where the store fails or was shut, or where a sum passes 64 bits; `NoMemory` where memory is
+/// The first bad key of `meta`: the sums in its one row are those of all entries that are spelled. The database stays
+/// as it is. `StoreFailed` where the store fails or was shut, or where a sum passes 64 bits; `NoMemory` where memory is
 /// refused.
 pub fn judge_meta<S: Alter>(conn: &mut Connection<S>) -> Result<Option<BadKey>, StatementFault>
     ensures { ReadsWhere S.Store IsOurs conn.old conn.new result (JudgesTable Meta) }

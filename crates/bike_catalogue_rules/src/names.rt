@@ -9,7 +9,9 @@ ghost use Rattle.bike_readings.specs.ReadOff.{operator_of};
 ghost use Rattle.bike_readings.specs.Readings.{name_read};
 ghost use Rattle.bike_readings.specs.Views.{name_of};
 ghost use Rattle.bike_judges.specs.Verdicts.{JudgesTable};
-ghost use Rattle.bike_catalogue_rules.specs.Names.{system_key, with_system, is_of_same, names_since, is_own_id, is_further, next_run, first_misnamed, is_place_there, is_offer_there, has_place, has_offer};
+ghost use Rattle.bike_catalogue_rules.specs.Names.{system_key, with_system, is_of_same, names_since, is_own_id};
+ghost use Rattle.bike_catalogue_rules.specs.Names.{is_further, next_run, first_misnamed, is_place_there};
+ghost use Rattle.bike_catalogue_rules.specs.Names.{is_offer_there, has_place, has_offer};
 
 use crate::key::columns_key;
 use bike_attributes::NameKind;
@@ -124,7 +126,8 @@ impl NameJudge {
         }
     }
 
-    /// How many names of the same thing there are with the line's, where it has a name which may follow those before it.
+    /// How many names of the same thing there are with the line's, where it has a name which may follow those before
+    /// it.
     fn next_run(&self, line: &Row) -> Option<u32>
         ensures { result ≡ next_run self.now.own (option_and_then name_read self.now.last) self.now.run
             (name_read line.now) }
@@ -235,9 +238,9 @@ fn find_own<S: Alter>(
     Ok(first.key)
 }
 
-/// The first bad key of `more_names`, where all tables before it are good: a row that spells no name, a name where no system
-/// is set or of a thing that isn't there, one in the system's own language, or one past the limit of its thing. The database
-/// stays as it is. `StoreFailed` where the store fails or was shut, `NoMemory` where memory is refused.
+/// The first bad key of `more_names`, where all tables before it are good: a row that spells no name, a name where no
+/// system is set or of a thing that isn't there, one in the system's own language, or one past the limit of its thing.
+/// The database stays as it is. `StoreFailed` where the store fails or was shut, `NoMemory` where memory is refused.
 pub fn judge_names<S: Alter>(
     alloc: Global,
     conn: &mut Connection<S>,

@@ -32,8 +32,8 @@ impl LineTest for RegionTest {
     }
 }
 
-/// The first bad key of `regions`, where all tables before it are good. The database stays as it is. `StoreFailed` where
-/// the store fails or was shut, `NoMemory` where memory is refused.
+/// The first bad key of `regions`, where all tables before it are good. The database stays as it is. `StoreFailed`
+/// where the store fails or was shut, `NoMemory` where memory is refused.
 pub fn judge_regions<S: Alter>(conn: &mut Connection<S>) -> Result<Option<BadKey>, StatementFault>
     ensures { ReadsWhere S.Store IsOurs conn.old conn.new result (JudgesTable Regions) }
 {

@@ -95,8 +95,8 @@ impl Judge for SegmentJudge {
     }
 }
 
-/// The first bad key of `segments`, where all tables before it are good. The database stays as it is. `StoreFailed` where
-/// the store fails or was shut, `NoMemory` where memory is refused.
+/// The first bad key of `segments`, where all tables before it are good. The database stays as it is. `StoreFailed`
+/// where the store fails or was shut, `NoMemory` where memory is refused.
 pub fn judge_segments<S: Alter>(conn: &mut Connection<S>) -> Result<Option<BadKey>, StatementFault>
     ensures { ReadsWhere S.Store IsOurs conn.old conn.new result (JudgesTable Segments) }
 {

@@ -21,7 +21,8 @@ const TYPE_AT: usize = 0;
 /// Where that of its plan stands.
 const PLAN_AT: usize = TYPE_AT + types::COLUMNS;
 
-/// Whether the plan is there whose row begins in this column, behind that of the segment or vehicle type which names it.
+/// Whether the plan is there whose row begins in this column, behind that of the segment or vehicle type which names
+/// it.
 pub(crate) fn has_plan(line: &Row, at: usize) -> bool
     ensures { result ≡ has_plan at line.now }
 {

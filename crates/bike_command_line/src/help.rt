@@ -1,4 +1,5 @@
-//! How the program is used: all its words, or one of them. The texts stand in pieces, which are joined when they are written.
+//! How the program is used: all its words, or one of them. The texts stand in pieces, which are joined when they are
+//! written.
 
 ghost use Rattle.std.specs.Prelude.{◌≡◌, ◌⊎◌, codes, true};
 ghost use Rattle.bike_command_line.specs.Program.{form_of, has_line, tells, word_of};
@@ -21,7 +22,8 @@ const CHECK_DOES: &str =
 const RAISE: &str = "raise FILE";
 
 const RAISE_DOES: &str =
-    "                       makes a sound FILE of an earlier version one of the newest, and prints version with its number\n";
+    "                       makes a sound FILE of an earlier version one of the newest, and prints version with its \
+     number\n";
 
 const LINES: &str = "lines FILE";
 
@@ -48,7 +50,8 @@ const SERVE_DOES: &str = "  answers HTTP requests on 127.0.0.1\n";
 
 // The options and the values.
 const AT: &str =
-    "  --at M     the moment of the feed or the import in whole seconds since 1970, 0 to 253402300799; the clock's where it is left out\n";
+    "  --at M     the moment of the feed or the import in whole seconds since 1970, 0 to 253402300799; the clock's \
+     where it is left out\n";
 
 const PORT: &str = "  --port P   the port, 0 to 65535; 0 is a free one\n";
 
@@ -58,10 +61,12 @@ const COUNT: &str =
 const FEED_IS: &str = "A feed's NAME is ";
 
 pub(crate) const FEEDS: &str =
-    "gbfs, system_information, vehicle_types, station_information, station_status, system_pricing_plans or system_regions";
+    "gbfs, system_information, vehicle_types, station_information, station_status, system_pricing_plans \
+     or system_regions";
 
 const DAY_IS: &str =
-    "WHICH is entries or rentals, DATE is the day's date as 2024-03-31, and ZONE a POSIX time zone as CET-1CEST,M3.5.0,M10.5.0/3.\n";
+    "WHICH is entries or rentals, DATE is the day's date as 2024-03-31, and ZONE a POSIX time zone as \
+     CET-1CEST,M3.5.0,M10.5.0/3.\n";
 
 const IMPORT_IS: &str =
     "An import's NAME is 1 to 36 of a-z 0-9 _ -, and stands for the caller import:NAME.\n";

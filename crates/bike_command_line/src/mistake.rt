@@ -52,7 +52,8 @@ pub enum Mistake<'a> {
         /// The value.
         value: Value,
     },
-    /// A value is none of its kind. A text that begins with a hyphen, as a negative number, is told so behind its option.
+    /// A value is none of its kind. A text that begins with a hyphen, as a negative number, is told so behind its
+    /// option.
     BadValue {
         /// The word.
         word: Word,

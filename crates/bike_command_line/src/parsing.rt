@@ -131,7 +131,8 @@ fn has_one_hyphen(text: &str) -> bool
     }
 }
 
-/// The value that a text is meant for which clap takes for an option: it has one hyphen, and stands behind an option of the word.
+/// The value that a text is meant for which clap takes for an option: it has one hyphen, and stands behind an option of
+/// the word.
 fn value_meant(word: Word, before: &str, text: &str) -> Option<Value>
     ensures { result ≡ value_meant word (Some before.now) text.now }
 {
@@ -142,8 +143,8 @@ fn value_meant(word: Word, before: &str, text: &str) -> Option<Value>
     }
 }
 
-/// What is wrong with words that begin with this one, at the place where clap knows no such option: a bad value, as a negative number,
-/// or a word too much.
+/// What is wrong with words that begin with this one, at the place where clap knows no such option: a bad value, as a
+/// negative number, or a word too much.
 fn unknown_at<'a>(words: &'a [&'a str], word: Word, place: usize) -> Mistake<'a>
     requires leads { Leads (texts_of words.now) word }
     requires against { Against (texts_of words.now) ErrorKind.UnknownArgument }

@@ -3,13 +3,14 @@
 ghost use Rattle.std.specs.Prelude.{◌≡◌, IfOk, false};
 ghost use Rattle.clap.specs.Words.{App, Rule, app_of, rule_of, with_rule, with_subcommand};
 ghost use Rattle.clap.specs.declared.builder.command.Command.TheViews.{out-Command as fields_of};
-ghost use Rattle.bike_command_line.specs.Program.{day_word, named_word, on_file, option_rule, program, serve_word, value_rule};
+ghost use Rattle.bike_command_line.specs.Program.{day_word, named_word, on_file, option_rule, program, serve_word};
+ghost use Rattle.bike_command_line.specs.Program.{value_rule};
 
 use clap::{Arg, Command};
 use std::alloc::{AllocError, Global};
 
-/// A value that is told by its place. None is required of clap, which wouldn't tell which is missing: what is missing is told where the
-/// values are read.
+/// A value that is told by its place. None is required of clap, which wouldn't tell which is missing: what is missing
+/// is told where the values are read.
 fn value<'a>(alloc: Global, id: &'a str) -> Arg<'a>
     ensures rule { rule_of result ≡ value_rule id.entry.now }
     ensures local { result.global ≡ false }

@@ -5,7 +5,8 @@ ghost use Rattle.std.specs.Prelude.{IfOk, IfErr, IsOkAnd, MatchResult, Some, Non
 ghost use Rattle.std.specs.Str.Parse.{starts_with_minus};
 ghost use Rattle.clap.specs.Words.{Text, fault_of, subcommand_of, subcommand_rows_of};
 ghost use Rattle.bike_command_line.specs.Program.{IsWithin, program, words_for};
-ghost use Rattle.bike_command_line.specs.Asked.{Ask, AskNothing, IsFound, IsNothing, IsTold, name_in, task_of, texts_of, value_in, want_of};
+ghost use Rattle.bike_command_line.specs.Asked.{Ask, AskNothing, IsFound, IsNothing, IsTold, name_in, task_of};
+ghost use Rattle.bike_command_line.specs.Asked.{texts_of, value_in, want_of};
 ghost use Rattle.bike_command_line.specs.Names.{word_name, word_named};
 ghost use Rattle.bike_command_line.specs.Wrong.{IsWrong};
 ghost use Rattle.bike_command_line.specs.Told.{Against, IsOfValue, IsSo, Leads};
@@ -120,9 +121,9 @@ fn fault_in<'a>(
 }
 
 /// What the words ask for; the program's own name is none of them. No words are the lines of a database in memory.
-/// `Usage` comes where clap refuses the words, where they are a wish for help, where a value is missing, where a feed's or a table's
-/// name is none, where an import's name is no identifier, and where a number isn't the decimal of one within its bounds. It tells which
-/// word or value is wrong. `NoMemory` comes where memory is refused.
+/// `Usage` comes where clap refuses the words, where they are a wish for help, where a value is missing, where a feed's
+/// or a table's name is none, where an import's name is no identifier, and where a number isn't the decimal of one
+/// within its bounds. It tells which word or value is wrong. `NoMemory` comes where memory is refused.
 pub fn read_words<'a>(alloc: Global, words: &'a [&'a str]) -> Result<Words<'a>, WordsFault<'a>>
     ensures none { words.entry.now ≡ []
         → IsOkAnd result (λ asked. (asked.task ≡ Task.OnFile FileTask.Lines) × (asked.file.now ≡ codes ":memory:")) }

@@ -2,7 +2,8 @@
 
 ghost use Rattle.std.specs.Prelude.{◌≡◌, MatchResult, None, Some, option_map};
 ghost use Rattle.clap.specs.Words.{subcommand_rows_of};
-ghost use Rattle.bike_command_line.specs.Asked.{count_in, day_task, feed_in, feed_task, import_in, import_task, moment_in, port_in, serve_task};
+ghost use Rattle.bike_command_line.specs.Asked.{count_in, day_task, feed_in, feed_task, import_in, import_task};
+ghost use Rattle.bike_command_line.specs.Asked.{moment_in, port_in, serve_task};
 ghost use Rattle.bike_command_line.specs.Asked.{table_in, task_of, value_in, want_of};
 ghost use Rattle.bike_command_line.specs.Names.{id_of, word_name};
 ghost use Rattle.bike_command_line.specs.Wrong.{IsRead, IsWrong};

@@ -142,8 +142,8 @@ impl fmt::Display for Line<'_> {
     }
 }
 
-/// What is wrong and what is wanted, on a line, and how the word is used, or the program where it is no word's. Of a wish for help the
-/// usage alone.
+/// What is wrong and what is wanted, on a line, and how the word is used, or the program where it is no word's. Of a
+/// wish for help the usage alone.
 impl fmt::Display for Mistake<'_> {
     fn fmt<W: fmt::Write>(&self, f: &mut fmt::Formatter<W>) -> fmt::Result {
         let usage = match self.word() {

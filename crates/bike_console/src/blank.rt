@@ -5,14 +5,15 @@ use std::io::{ErrorKind, Write};
 use std::os::unix::fs::{MetadataExt, OpenOptionsExt};
 use std::{fs, io};
 
-/// How long a page of a new file is, in bytes. A commit writes each page that it touches and takes a digest of it, so that pages of
-/// half the engine's own length make a request a fifth cheaper.
+/// How long a page of a new file is, in bytes. A commit writes each page that it touches and takes a digest of it, so
+/// that pages of half the engine's own length make a request a fifth cheaper.
 const PAGE: usize = 2_048;
 
 /// Who may read and write a new file: its owner, and others only read. So the engine makes one too.
 const MODE: u32 = 0o644;
 
-/// An empty database: its one page, with the fields of a file's header that aren't 0 (<https://www.sqlite.org/fileformat2.html>).
+/// An empty database: its one page, with the fields of a file's header that aren't 0
+/// (<https://www.sqlite.org/fileformat2.html>).
 fn blank_page() -> [u8; PAGE] {
     let mut page = [0; PAGE];
     page[..16].copy_from_slice(b"SQLite format 3\0");
@@ -51,7 +52,8 @@ fn write_blank(rt: &HostRuntime, path: &str) -> io::Result<()> {
     file.sync_all()
 }
 
-/// Takes the first name of the file at a path away, where an earlier process stopped before it did so, and tells whether it stood there.
+/// Takes the first name of the file at a path away, where an earlier process stopped before it did so, and tells
+/// whether it stood there.
 fn take_first_name(rt: &HostRuntime, path: &str) -> io::Result<bool> {
     let made = format!(in rt.alloc(); "{path}-new")?;
     if !is_one_file(rt, made.as_str(), path) {
@@ -61,8 +63,8 @@ fn take_first_name(rt: &HostRuntime, path: &str) -> io::Result<bool> {
     Ok(true)
 }
 
-/// Makes an empty database file where the path has none, and no log. It is written beside it, under the name with `-new` behind it, and
-/// takes its own name once it is whole, so that a stop leaves no part of it there.
+/// Makes an empty database file where the path has none, and no log. It is written beside it, under the name with
+/// `-new` behind it, and takes its own name once it is whole, so that a stop leaves no part of it there.
 fn make_whole(rt: &HostRuntime, path: &str) -> io::Result<()> {
     if take_first_name(rt, path)? {
         return Ok(());
@@ -87,14 +89,15 @@ fn make_whole(rt: &HostRuntime, path: &str) -> io::Result<()> {
     linked
 }
 
-/// Makes the database file at a path, empty, where there is none: its pages are of 2,048 bytes, which costs a request less than the
-/// 4,096 of a file that the engine makes. Where this fails nothing is told, since the engine then makes the file, or tells why it can't.
+/// Makes the database file at a path, empty, where there is none: its pages are of 2,048 bytes, which costs a request
+/// less than the 4,096 of a file that the engine makes. Where this fails nothing is told, since the engine then makes
+/// the file, or tells why it can't.
 pub(crate) fn make_file(rt: &HostRuntime, path: &str) {
     let _ = make_whole(rt, path);
 }
 
-/// Takes the first name of the file at a path away, where a stop left it, and makes nothing. Where this fails nothing is told: the engine
-/// opens no file with two names.
+/// Takes the first name of the file at a path away, where a stop left it, and makes nothing. Where this fails nothing
+/// is told: the engine opens no file with two names.
 pub(crate) fn drop_first_name(rt: &HostRuntime, path: &str) {
     let _ = take_first_name(rt, path);
 }

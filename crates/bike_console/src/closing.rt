@@ -18,8 +18,8 @@ pub enum Remains<D: Disk> {
     Unsettled(FileStore<D>),
 }
 
-/// Whether the log stays beside the file after a task that ended so: where the store failed or memory was refused, and where the
-/// database isn't one that is served, which stays as it is.
+/// Whether the log stays beside the file after a task that ended so: where the store failed or memory was refused, and
+/// where the database isn't one that is served, which stays as it is.
 fn is_log_kept(end: &Result<u64, Fault>) -> bool
     ensures { result ≡ is_log_kept end.now }
 {
@@ -36,9 +36,9 @@ fn is_log_kept(end: &Result<u64, Fault>) -> bool
     }
 }
 
-/// Closes the connection after a task that ended so: the log is brought into the database file, which is then the whole database by
-/// itself. Gives back what is left, and how the task ended: `StoreFailed` where that failed. The log stays then, and so it does
-/// after a task that failed for the store or memory, or whose database isn't one that is served.
+/// Closes the connection after a task that ended so: the log is brought into the database file, which is then the whole
+/// database by itself. Gives back what is left, and how the task ended: `StoreFailed` where that failed. The log stays
+/// then, and so it does after a task that failed for the store or memory, or whose database isn't one that is served.
 pub fn settle<D: Disk + Drop>(
     conn: Connection<FileStore<D>>,
     end: Result<u64, Fault>,

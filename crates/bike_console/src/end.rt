@@ -7,7 +7,8 @@ ghost use Rattle.bike_migrate.specs.Adoption.{handed};
 ghost use Rattle.bike_migrate.specs.Raising.{handed as handed_back};
 ghost use Rattle.bike_console.specs.Pieces.{Puts, PutsLine};
 ghost use Rattle.bike_console.specs.Ends.{word_of, row_detail, detail_of, fault_status, status_of, line_of};
-ghost use Rattle.bike_console.specs.Ends.{adopt_fault, raise_fault, day_fault, fault_of_desk, feed_fault, import_fault, table_fault};
+ghost use Rattle.bike_console.specs.Ends.{adopt_fault, raise_fault, day_fault, fault_of_desk, feed_fault, import_fault};
+ghost use Rattle.bike_console.specs.Ends.{table_fault};
 
 use crate::pieces::{put, put_key, put_number};
 use bike_commands::Refusal;
@@ -69,8 +70,8 @@ pub enum Fault {
 }
 
 impl Fault {
-    /// The first words of its line on standard error. An input of too many reads, and a clock, a port and a connection that fail, are told
-    /// as a read that failed.
+    /// The first words of its line on standard error. An input of too many reads, and a clock, a port and a connection
+    /// that fail, are told as a read that failed.
     pub fn word(&self) -> &'static str
         ensures { result.now ≡ word_of self.now }
     {
@@ -301,8 +302,9 @@ fn put_detail<W: Output>(out: &mut W, going: bool, fault: &Fault) -> bool
 }
 
 /// Writes the fault at which the program ends, if there is one, as a line, and gives the exit status, which is the same
-/// where the output refuses a part of that line: then a front of it is written. A fault's line is its first words; `row` has the row's number behind them and
-/// the refusal's name or `unreadable`, `unsound` a table and a key, whose columns are parted by `/`, and `older` and `newer` a version.
+/// where the output refuses a part of that line: then a front of it is written. A fault's line is its first words;
+/// `row` has the row's number behind them and the refusal's name or `unreadable`, `unsound` a table and a key, whose
+/// columns are parted by `/`, and `older` and `newer` a version.
 pub fn exit_code<W: Output>(errors: &mut W, end: &Result<u64, Fault>) -> ExitCode
     ensures status { exit_status result ≡ status_of end.now }
     ensures told { PutsLine (W.contents errors.old) (W.contents errors.new) (line_of end.now) }

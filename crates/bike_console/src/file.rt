@@ -9,7 +9,8 @@ ghost use Rattle.sqlite_std_file.specs.File.{file_is_usable, IsFresh};
 ghost use Rattle.sqlite_wal.specs.Files.{image_at};
 ghost use Rattle.bike_recognition.specs.Added.{has_added_unique};
 ghost use Rattle.bike_console.specs.declared.end.Fault.TheVariants.{Foreign};
-ghost use Rattle.bike_console.specs.Files.{IsDamagedLog, IsLoneLog, IsLostLog, IsOpeningFault, TellsBarred, TellsUnopened, TellsWhy};
+ghost use Rattle.bike_console.specs.Files.{IsDamagedLog, IsLoneLog, IsLostLog, IsOpeningFault, TellsBarred};
+ghost use Rattle.bike_console.specs.Files.{TellsUnopened, TellsWhy};
 
 use crate::end::Fault;
 use crate::log::would_lose_log;
@@ -53,7 +54,8 @@ pub(crate) fn draw_seed(rt: &HostRuntime) -> Option<u64> {
     }
 }
 
-/// Opens the database that these files hold, or makes one. Where they are refused, the log that wasn't there before is taken away.
+/// Opens the database that these files hold, or makes one. Where they are refused, the log that wasn't there before is
+/// taken away.
 pub(crate) fn open_over<D: Disk + Drop>(
     rt: &HostRuntime,
     seed: u64,
@@ -106,8 +108,8 @@ fn open_database<F: Start>(
     open_over(rt, seed, files, made)
 }
 
-/// The connection, unless somebody added a UNIQUE index to a table of the product's: that is `Foreign`. A good request could fail on
-/// such an index, and each time that it is sent.
+/// The connection, unless somebody added a UNIQUE index to a table of the product's: that is `Foreign`. A good request
+/// could fail on such an index, and each time that it is sent.
 pub(crate) fn refuse_added<S: Alter + Drop>(
     rt: &HostRuntime,
     conn: Connection<S>,
@@ -125,12 +127,13 @@ pub(crate) fn refuse_added<S: Alter + Drop>(
     Ok(conn)
 }
 
-/// Opens the database file at a path, or makes it. `F` stands for the bytes that it and its log hold: what is promised is promised
-/// whatever these are. `OutOfMemory` where memory is refused. `Foreign` where somebody added a UNIQUE index to a table of the
-/// product's. Else `StoreFailed`: the file can't be opened, another program holds it, the disk failed, what it holds is no database, or
-/// its log may hold commits and the engine would begin anew over it, since the file is empty or the log's header is damaged. Such a log
-/// stays as it is. Where nothing else wrote to a file that holds a database, with no such index, it is refused for memory, for the disk or
-/// for another program alone. A file that is refused gets no log beside it.
+/// Opens the database file at a path, or makes it. `F` stands for the bytes that it and its log hold: what is promised
+/// is promised whatever these are. `OutOfMemory` where memory is refused. `Foreign` where somebody added a UNIQUE index
+/// to a table of the product's. Else `StoreFailed`: the file can't be opened, another program holds it, the disk
+/// failed, what it holds is no database, or its log may hold commits and the engine would begin anew over it, since the
+/// file is empty or the log's header is damaged. Such a log stays as it is. Where nothing else wrote to a file that
+/// holds a database, with no such index, it is refused for memory, for the disk or for another program alone. A file
+/// that is refused gets no log beside it.
 pub fn open_file<F: Start>(
     rt: &HostRuntime,
     path: &str,

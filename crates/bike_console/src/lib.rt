@@ -1,7 +1,7 @@
 //! What the program tells on its streams, and the files that it opens.
 //!
-//! How it ends is told by a line on standard error and an exit status, and long work by a line that is taken away at its end. No
-//! line takes memory: each is written in pieces, of which a failure leaves a front.
+//! How it ends is told by a line on standard error and an exit status, and long work by a line that is taken away at
+//! its end. No line takes memory: each is written in pieces, of which a failure leaves a front.
 #![tactic(auto)]
 
 mod blank;

@@ -39,8 +39,8 @@ fn log_that_is_read(rt: &HostRuntime, path: &str) -> Option<FoundFile> {
     }
 }
 
-/// Whether the path, or a link that it leads to, is the name of a link beside which a log stands that is passed over. Each link is followed
-/// by itself. `StoreFailed` where one can't be followed, or where they don't end.
+/// Whether the path, or a link that it leads to, is the name of a link beside which a log stands that is passed over.
+/// Each link is followed by itself. `StoreFailed` where one can't be followed, or where they don't end.
 pub(crate) fn has_log_of_a_link(rt: &HostRuntime, path: &str) -> Result<bool, Fault>
     ensures { IfErr result IsOpeningFault }
 {

@@ -50,8 +50,8 @@ fn is_signed(head: &[u8; 32]) -> bool
     sum.0 == word_at(head, 24) && sum.1 == word_at(head, 28)
 }
 
-/// Whether the engine had begun to write a log's header anew: it puts a 0 in the first byte's place before, and that byte back last. The
-/// bytes of the magic number behind it are the same in the old header and in the new one.
+/// Whether the engine had begun to write a log's header anew: it puts a 0 in the first byte's place before, and that
+/// byte back last. The bytes of the magic number behind it are the same in the old header and in the new one.
 fn is_begun_anew(head: &[u8; 32]) -> bool
     ensures { IsTrue result ↔ IsBegunAnew head.now }
 {
@@ -65,7 +65,8 @@ fn is_broken(head: &[u8; 32]) -> bool
     !is_begun_anew(head) && !is_signed(head)
 }
 
-/// Whether the database file has at most one byte beside a log that may hold commits. Nothing tells then what the log goes on from.
+/// Whether the database file has at most one byte beside a log that may hold commits. Nothing tells then what the log
+/// goes on from.
 fn is_lone<D: Disk>(files: &mut Files<D>) -> Result<bool, Fault>
     requires log { IsTrue (D.Disk.is_usable files.old.log) }
     requires db { IsTrue (D.Disk.is_usable files.old.db) }
@@ -92,9 +93,11 @@ fn is_lone<D: Disk>(files: &mut Files<D>) -> Result<bool, Fault>
 /// Whether the log may hold commits and its header is damaged.
 fn is_damaged<D: Disk>(log: &mut D) -> Result<bool, Fault>
     requires { IsTrue (D.Disk.is_usable log.old) }
-    ensures damaged { IfOk result (λ damaged. IsClean D.Disk log.new → IsTrue damaged ↔ IsDamagedLog (D.Disk.seen log.old)) }
+    ensures damaged { IfOk result (λ damaged. IsClean D.Disk log.new
+        → IsTrue damaged ↔ IsDamagedLog (D.Disk.seen log.old)) }
     ensures failed { IfErr result (λ told.
-        (told ≡ Fault.StoreFailed) × (IsClean D.Disk log.new → MoreFaults (D.Disk.faults log.old) (D.Disk.faults log.new))) }
+        (told ≡ Fault.StoreFailed)
+        × (IsClean D.Disk log.new → MoreFaults (D.Disk.faults log.old) (D.Disk.faults log.new))) }
     ensures counts { D.Disk.faults log.old ≤ D.Disk.faults log.new }
     ensures same { OnlyReads D.Disk log.old log.new }
 {
@@ -118,7 +121,8 @@ pub(crate) fn would_lose_log<D: Disk>(files: &mut Files<D>) -> Result<bool, Faul
     ensures lost { IfOk result (λ lost. AreClean D.Disk files.new.log files.new.db
         → IsTrue lost ↔ IsLostLog (image_of D.Disk files.old)) }
     ensures failed { IfErr result (λ told. (told ≡ Fault.StoreFailed)
-        × (AreClean D.Disk files.new.log files.new.db → MoreFaults (faults_of D.Disk files.old) (faults_of D.Disk files.new))) }
+        × (AreClean D.Disk files.new.log files.new.db
+        → MoreFaults (faults_of D.Disk files.old) (faults_of D.Disk files.new))) }
     ensures counts { faults_of D.Disk files.old ≤ faults_of D.Disk files.new }
     ensures log { OnlyReads D.Disk files.old.log files.new.log }
     ensures db { OnlyReads D.Disk files.old.db files.new.db }

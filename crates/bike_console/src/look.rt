@@ -19,14 +19,15 @@ use bike_read_only::{CopyFault, ReadOnly, Source, copy_of};
 use sqlite::{Connection, FileFrom, FileStore, Files, Start};
 use sqlite_disk::{Disk, Memory};
 
-/// How long a database file is at most of which a copy is looked at, in bytes: the engine writes to no longer one as it opens it, but
-/// finishes one whose making was stopped within its first page.
+/// How long a database file is at most of which a copy is looked at, in bytes: the engine writes to no longer one as it
+/// opens it, but finishes one whose making was stopped within its first page.
 const SHORT: usize = 65_536;
 
 /// What shows the bytes of a database's two files where it's only looked at.
 pub type Looked<D, S> = Source<ReadOnly<D, S>, Memory>;
 
-/// The files of a database that is only looked at, of which copies were made. While they are held, no other program opens them.
+/// The files of a database that is only looked at, of which copies were made. While they are held, no other program
+/// opens them.
 #[derive(Drop)]
 pub struct KeptFiles<D: Disk> {
     /// The log.
@@ -35,7 +36,8 @@ pub struct KeptFiles<D: Disk> {
     pub db: Option<D>,
 }
 
-/// A connection to a database that is only looked at, through which what is written stands in memory, and the files behind it.
+/// A connection to a database that is only looked at, through which what is written stands in memory, and the files
+/// behind it.
 pub type Sight<D, S> = (Connection<FileStore<Looked<D, S>>>, KeptFiles<D>);
 
 /// Copies of the log, and of the database file where it is short.
@@ -134,8 +136,8 @@ fn look_over<D: Disk + Drop, S: Start>(
     }
 }
 
-/// The log and the database file at a path where there is a file. The engine makes one that is missing: so it is looked for right before,
-/// and what was opened has to be what was found. A log that wasn't there is taken away again.
+/// The log and the database file at a path where there is a file. The engine makes one that is missing: so it is looked
+/// for right before, and what was opened has to be what was found. A log that wasn't there is taken away again.
 fn open_there<F: Start>(rt: &HostRuntime, path: &str, start: F) -> Result<Files<FileFrom<F>>, Fault>
     ensures usable { IfOk result (λ files.
         IsTrue (file_is_usable F.Start files.log) × IsTrue (file_is_usable F.Start files.db)) }
@@ -155,9 +157,9 @@ fn open_there<F: Start>(rt: &HostRuntime, path: &str, start: F) -> Result<Files<
     Ok(files)
 }
 
-/// Opens the database file at a path to look at it, as `open_file` does to serve it, with the same faults: no byte of the file and of its
-/// log is changed. The log is copied into memory, and so is a file of at most 65,536 bytes; of a longer one each write is refused. A log
-/// that wasn't there isn't left.
+/// Opens the database file at a path to look at it, as `open_file` does to serve it, with the same faults: no byte of
+/// the file and of its log is changed. The log is copied into memory, and so is a file of at most 65,536 bytes; of a
+/// longer one each write is refused. A log that wasn't there isn't left.
 pub fn open_to_look<F: Start>(
     rt: &HostRuntime,
     path: &str,

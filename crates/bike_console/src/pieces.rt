@@ -14,8 +14,8 @@ use itoa::Buffer;
 use sqlite::Row;
 use sqlite::types::ValueRef;
 
-/// Writes a piece of a line where all before it are written, as `going` says, and says whether now all are. Where the output refuses
-/// bytes a front of the piece is written, and not all.
+/// Writes a piece of a line where all before it are written, as `going` says, and says whether now all are. Where the
+/// output refuses bytes a front of the piece is written, and not all.
 pub fn put<W: Output>(out: &mut W, going: bool, bytes: &[u8]) -> bool
     ensures { Puts (W.contents out.old) (W.contents out.new) bytes.now going result }
 {

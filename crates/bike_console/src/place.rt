@@ -55,9 +55,10 @@ pub enum Wanted {
     FileInUse,
 }
 
-/// Sees to a path before its database file is opened. A file that is missing is made, if any file is wanted; what is wanted and isn't found
-/// is `StoreFailed`, and nothing is made. So is a log that may hold commits and has no file: what it goes on from is gone, and a new file
-/// would take its place. So is one at the name of a link to the file, where the engine doesn't read it.
+/// Sees to a path before its database file is opened. A file that is missing is made, if any file is wanted; what is
+/// wanted and isn't found is `StoreFailed`, and nothing is made. So is a log that may hold commits and has no file:
+/// what it goes on from is gone, and a new file would take its place. So is one at the name of a link to the file,
+/// where the engine doesn't read it.
 pub fn prepare_file(rt: &HostRuntime, path: &str, wanted: Wanted) -> Result<(), Fault>
     ensures { IfErr result IsOpeningFault }
 {
@@ -111,8 +112,8 @@ impl NewLog {
         }
     }
 
-    /// The log that an opening of this path would make, where a database stands there already. A file whose making was stopped
-    /// is known by its log, so that log stays.
+    /// The log that an opening of this path would make, where a database stands there already. A file whose making was
+    /// stopped is known by its log, so that log stays.
     pub(crate) fn beside_database(rt: &HostRuntime, path: &str) -> NewLog {
         match fs::metadata(rt, path) {
             Ok(found) if found.len() > 1 => NewLog::beside(rt, path),
@@ -120,8 +121,8 @@ impl NewLog {
         }
     }
 
-    /// Takes that log away, unless it is so long that it may hold commits. The caller holds the lock of the database file, so that no
-    /// other program has opened it.
+    /// Takes that log away, unless it is so long that it may hold commits. The caller holds the lock of the database
+    /// file, so that no other program has opened it.
     pub fn remove(self, rt: &HostRuntime) {
         let Some(name) = self.name else {
             return;
@@ -135,7 +136,8 @@ impl NewLog {
         }
     }
 
-    /// Takes that log away, as `remove` does, where the connection is still open, and with it the lock of the database file.
+    /// Takes that log away, as `remove` does, where the connection is still open, and with it the lock of the database
+    /// file.
     pub fn remove_where_open<D: Disk>(self, rt: &HostRuntime, remains: &Remains<D>) {
         match remains {
             Remains::Open(_) => self.remove(rt),

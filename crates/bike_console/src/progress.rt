@@ -9,14 +9,15 @@ use std::io::{Read, Write};
 /// What begins the line below a terminal's own anew: its begin, and the erasure of its rest (ECMA-48, EL).
 const ANEW: &[u8] = b"\r\n\x1b[K";
 
-/// What goes back to the begin of the line above (ECMA-48, CUU), where an answer is written as if nobody had been told anything.
+/// What goes back to the begin of the line above (ECMA-48, CUU), where an answer is written as if nobody had been told
+/// anything.
 const BACK: &[u8] = b"\x1b[A\r";
 
 /// What erases this line and all below it (ECMA-48, ED).
 const ERASED: &[u8] = b"\r\x1b[J";
 
-/// One line on an output, below the one that answers are written to, written anew at each step of long work and taken away at the
-/// end. Where nobody looks nothing is written, and a step that can't be written changes nothing.
+/// One line on an output, below the one that answers are written to, written anew at each step of long work and taken
+/// away at the end. Where nobody looks nothing is written, and a step that can't be written changes nothing.
 #[derive(Drop)]
 pub struct Progress<W> {
     out: W,

@@ -6,7 +6,8 @@ ghost use Rattle.bike_rows.specs.Calls.{ReadsWhere};
 ghost use Rattle.bike_schema.specs.Tables.{IsOurs};
 ghost use Rattle.bike_judges.specs.Judging.{key_row};
 ghost use Rattle.bike_judges.specs.Verdicts.{JudgesTable};
-ghost use Rattle.bike_count_rules.specs.Tallies.{run, none_marked, marks_after, tally_in, has_mark, next_of, found_of, bad_key};
+ghost use Rattle.bike_count_rules.specs.Tallies.{run, none_marked, marks_after, tally_in, has_mark, next_of, found_of};
+ghost use Rattle.bike_count_rules.specs.Tallies.{bad_key};
 
 use crate::marks::Marks;
 use crate::names::CountTest;
@@ -40,8 +41,8 @@ impl CountJudge {
         }
     }
 
-    /// Adds the tally of a line, where it has one: the key of the tally that ends with it, where that is bad. `StoreFailed` where a
-    /// number passes 64 bits.
+    /// Adds the tally of a line, where it has one: the key of the tally that ends with it, where that is bad.
+    /// `StoreFailed` where a number passes 64 bits.
     fn add(&mut self, tally: Option<Tally>) -> Result<Option<BadKey>, StatementFault>
         ensures next { OnOk result (self.new.tally ≡ next_of self.old.tally tally) }
         ensures marks { OnOk result (self.new.marks ≡ self.old.marks) }

@@ -37,7 +37,8 @@ pub(crate) fn is_place(line: &Row, at: usize, place: u32) -> bool
     }
 }
 
-/// The identifier; `NoMemory` where memory is refused, `StoreFailed` where the text is none, as no text is that was read as one.
+/// The identifier; `NoMemory` where memory is refused, `StoreFailed` where the text is none, as no text is that was
+/// read as one.
 #[tactic(auto, unfolding(bike_fields::specs::Bytes::ident_of))]
 pub(crate) fn ident(alloc: Global, text: &str) -> Result<Ident, StatementFault>
     ensures { IfOk result (λ made. made ≡ text.now) }

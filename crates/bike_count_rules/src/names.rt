@@ -23,7 +23,8 @@ const STATION_AT: usize = COUNTS_AT + counts::COLUMNS;
 /// Where that of their type stands.
 const TYPE_AT: usize = STATION_AT + stations::COLUMNS;
 
-/// Counts are of a station and of a type that are there. A line has the row of counts with those of its station and type.
+/// Counts are of a station and of a type that are there. A line has the row of counts with those of its station and
+/// type.
 #[derive(Drop)]
 pub(crate) struct CountTest;
 

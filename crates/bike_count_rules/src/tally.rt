@@ -8,7 +8,8 @@ ghost use Rattle.bike_readings.specs.Readings.{count_read, bike_read};
 ghost use Rattle.bike_judges.specs.Judging.{key_row};
 ghost use Rattle.bike_judges.specs.Lines.{part};
 ghost use Rattle.bike_count_rules.specs.declared.marks.TheConstants.{ROW_AT};
-ghost use Rattle.bike_count_rules.specs.Tallies.{is_same, tally_sum, bad_key, count_tally, placed_tally, bike_tally, tally_in, has_mark};
+ghost use Rattle.bike_count_rules.specs.Tallies.{is_same, tally_sum, bad_key, count_tally, placed_tally, bike_tally};
+ghost use Rattle.bike_count_rules.specs.Tallies.{tally_in, has_mark};
 ghost use Rattle.bike_places.specs.Laws.{one};
 ghost use Rattle.bike_readings.specs.Views.{place_of};
 

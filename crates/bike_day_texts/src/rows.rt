@@ -38,8 +38,8 @@ pub struct EndedRental<'a> {
     pub fare: Cents,
 }
 
-/// Writes the names of a table's columns as one line. `NoMemory` comes before anything is written, and after `Write` a front of
-/// the line is, and not all.
+/// Writes the names of a table's columns as one line. `NoMemory` comes before anything is written, and after `Write` a
+/// front of the line is, and not all.
 pub fn write_header<W: Write>(alloc: Global, table: DayTable, out: &mut W) -> Result<(), LineFault>
     ensures { WritesLine (W.contents out.old) (W.contents out.new) (header_line table) result }
 {
@@ -115,8 +115,8 @@ fn stop_of<'a>(to_station: Option<&'a Ident>) -> &'a str
     }
 }
 
-/// Writes the row of a rental that ended as one line; where the bicycle was recovered, the station is `*`. Faults come as those of
-/// `write_header` do.
+/// Writes the row of a rental that ended as one line; where the bicycle was recovered, the station is `*`. Faults come
+/// as those of `write_header` do.
 pub fn write_ended<W: Write>(
     alloc: Global,
     rental: &EndedRental<'_>,

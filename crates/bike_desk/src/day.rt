@@ -13,9 +13,10 @@ use bike_queries::{RentalInfo, find_ended_after, find_entry_after};
 use sqlite::Alter;
 use std::alloc::Global;
 
-/// Each answers the first that has a greater number than the given one and whose moment is `begin` or later and before `end`,
-/// and None exactly where none is left: a caller who begins with 0 and hands back the number that was answered walks over the
-/// whole span, in one pass over the table. Nothing that is kept changes. Faults come as those of the other queries do.
+/// Each answers the first that has a greater number than the given one and whose moment is `begin` or later and before
+/// `end`, and None exactly where none is left: a caller who begins with 0 and hands back the number that was answered
+/// walks over the whole span, in one pass over the table. Nothing that is kept changes. Faults come as those of the
+/// other queries do.
 impl<S: Alter> Desk<S> {
     /// The next entry of the ledger that was booked in the span.
     pub fn entry_after(

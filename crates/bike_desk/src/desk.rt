@@ -75,13 +75,14 @@ impl<S: Alter> Desk<S> {
         conn
     }
 
-    /// Serves one request that comes at the moment, in one transaction. Tables of other names stay as they are. A request
-    /// that changes nothing of the operator, since it is refused or its key is kept, changes nothing of the database.
+    /// Serves one request that comes at the moment, in one transaction. Tables of other names stay as they are. A
+    /// request that changes nothing of the operator, since it is refused or its key is kept, changes nothing of the
+    /// database.
     ///
-    /// `NoMemory` comes before anything changes and leaves everything as it was. `StoreFailed` comes where the
-    /// engine fails, memory for it included, or where what is stored is no sound operator's; on the tables of one
-    /// each decision is booked. It stops the desk, and what a crash may leave then stands for the operator before
-    /// or after the request. A stopped desk answers every request `Stopped` and stays as it is; no other desk answers that.
+    /// `NoMemory` comes before anything changes and leaves everything as it was. `StoreFailed` comes where the engine
+    /// fails, memory for it included, or where what is stored is no sound operator's; on the tables of one each
+    /// decision is booked. It stops the desk, and what a crash may leave then stands for the operator before or after
+    /// the request. A stopped desk answers every request `Stopped` and stays as it is; no other desk answers that.
     pub fn apply(
         &mut self,
         alloc: Global,
@@ -90,7 +91,8 @@ impl<S: Alter> Desk<S> {
     ) -> Result<Reply, DeskFault>
         ensures clean { doubt (desk_state S.Store self.old).is_clean ≤ doubt (desk_state S.Store self.new).is_clean }
         ensures ok { OfOperator S.Store self.old self.new (λ s.
-            IfOk result (λ reply. (reply ≡ (step s moment request.now).0) × IsAt S.Store self.new (step s moment request.now).1)) }
+            IfOk result (λ reply. (reply ≡ (step s moment request.now).0)
+            × IsAt S.Store self.new (step s moment request.now).1)) }
         ensures others { OfOperator S.Store self.old self.new (λ s.
             OnOk result (OthersStay (desk_state S.Store self.old).now (desk_state S.Store self.new).now)) }
         ensures rests { OfOperator S.Store self.old self.new (λ s. (step s moment request.now).1 ≡ s

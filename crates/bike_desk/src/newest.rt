@@ -59,7 +59,8 @@ pub fn know_newest<S: Alter>(
     ensures same { HasCleanDisk (state S.Store conn.new) → (s : Operator) → Keeps (state S.Store conn.old) s
         → OnOk result ((state S.Store conn.new).now ≡ (state S.Store conn.old).now) }
     ensures newest { HasCleanDisk (state S.Store conn.new) → (s : Operator) → Keeps (state S.Store conn.old) s
-        → (IsTrue (knows_newest known) → NewestTells s) → IfOk result (λ newest. IsTrue (knows_newest newest) → NewestTells s) }
+        → (IsTrue (knows_newest known) → NewestTells s)
+        → IfOk result (λ newest. IsTrue (knows_newest newest) → NewestTells s) }
     ensures left { HasCleanDisk (state S.Store conn.new) → (s : Operator) → Keeps (state S.Store conn.old) s
         → AllLeft (state S.Store conn.new) (TreesStandFor s) }
 {

@@ -91,8 +91,8 @@ impl<S: Alter> Desk<S> {
         }
     }
 
-    /// The operator's `now`: the greatest moment of an accepted request, 0 where there was none. It is read once, and known from then
-    /// on.
+    /// The operator's `now`: the greatest moment of an accepted request, 0 where there was none. It is read once, and
+    /// known from then on.
     pub fn now(&mut self) -> Result<Moment, DeskFault>
         ensures query { Queries S.Store self.old self.new result (λ s x. x ≡ s.now) }
         ensures takes_none { result ≢ Err DeskFault.NoMemory }
@@ -124,8 +124,9 @@ impl<S: Alter> Desk<S> {
         self.answer(read)
     }
 
-    /// The rider: whether blocked, the balance, and the number of the open rental. The first such query or start reads each rental
-    /// once; from then on the time doesn't grow with the rider's rentals, where each open rental is its rider's newest.
+    /// The rider: whether blocked, the balance, and the number of the open rental. The first such query or start reads
+    /// each rental once; from then on the time doesn't grow with the rider's rentals, where each open rental is its
+    /// rider's newest.
     pub fn rider(&mut self, rider: RiderNumber) -> Result<Option<RiderInfo>, DeskFault>
         ensures query { Queries S.Store self.old self.new result (λ s x. x ≡ rider_info_at s rider) }
         ensures takes_none { result ≢ Err DeskFault.NoMemory }

@@ -1,6 +1,7 @@
 //! Serving a list of requests.
 
-ghost use Rattle.std.specs.Prelude.{◌≡◌, ◌≢◌, ◌≤◌, ◌<◌, ◌+◌, ◌++◌, IsNone, Some, [], ◌∷◌, length, vec_len, vec_capacity};
+ghost use Rattle.std.specs.Prelude.{◌≡◌, ◌≢◌, ◌≤◌, ◌<◌, ◌+◌, ◌++◌, IsNone, Some, [], ◌∷◌, length, vec_len};
+ghost use Rattle.std.specs.Prelude.{vec_capacity};
 ghost use Rattle.sqlite_trees.specs.View.{doubt};
 ghost use Rattle.bike_schema.specs.Makes.{OthersStay};
 ghost use Rattle.bike_schema.specs.Stands.{AllLeft};
@@ -34,9 +35,9 @@ fn note(replies: &mut Vec<Reply>, reply: Reply)
 }
 
 impl<S: Alter> Desk<S> {
-    /// Serves requests in order, each with the moment at which it comes, up to the first fault. Room for
-    /// the replies is taken first: where that is refused, `NoMemory` comes before the first reply. Tables of other names
-    /// stay as they are, but where the store failed nothing is said of them.
+    /// Serves requests in order, each with the moment at which it comes, up to the first fault. Room for the replies is
+    /// taken first: where that is refused, `NoMemory` comes before the first reply. Tables of other names stay as they
+    /// are, but where the store failed nothing is said of them.
     ///
     /// A stopped desk answers every list `Stopped`, the empty one too, and stays as it is; no other desk
     /// answers that.

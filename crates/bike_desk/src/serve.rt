@@ -46,7 +46,8 @@ pub(crate) struct Served {
 
 /// What a kept key is answered: as before where the command is the same.
 fn kept_answer(kept: &KeptRow, text: &str) -> Reply
-    ensures { result ≡ (if bytes_eq (string_bytes kept.now.command) text.now then kept.now.reply else Reply.Refused Refusal.KeyReused) }
+    ensures { result ≡ (if bytes_eq (string_bytes kept.now.command) text.now then kept.now.reply
+        else Reply.Refused Refusal.KeyReused) }
 {
     if kept.command.as_str() == text {
         kept.reply
@@ -55,8 +56,8 @@ fn kept_answer(kept: &KeptRow, text: &str) -> Reply
     }
 }
 
-/// Makes the row changes of an accepted command, and keeps its request, all in one transaction. `sums` are the operator's with
-/// its entry.
+/// Makes the row changes of an accepted command, and keeps its request, all in one transaction. `sums` are the
+/// operator's with its entry.
 fn store_accepted<'a, S: Alter>(
     conn: &mut Connection<S>,
     command: &Command,
@@ -69,13 +70,16 @@ fn store_accepted<'a, S: Alter>(
     requires outside { conn.old.in_transaction ≡ false }
     ensures ended { conn.new.in_transaction ≡ false }
     ensures clean { doubt (state S.Store conn.old).is_clean ≤ doubt (state S.Store conn.new).is_clean }
-    ensures made { HasCleanDisk (state S.Store conn.new) → (s : Operator) (q : Request) → Keeps (state S.Store conn.old) s
+    ensures made { HasCleanDisk (state S.Store conn.new) → (s : Operator) (q : Request)
+        → Keeps (state S.Store conn.old) s
         → IsSightOf (state S.Store conn.old).now s command.now sight.now → Accepts s now q accepted.now sums texts.now
         → OnOk result (Keeps (state S.Store conn.new) (after_acceptance s now q)) }
-    ensures others { HasCleanDisk (state S.Store conn.new) → (s : Operator) (q : Request) → Keeps (state S.Store conn.old) s
+    ensures others { HasCleanDisk (state S.Store conn.new) → (s : Operator) (q : Request)
+        → Keeps (state S.Store conn.old) s
         → IsSightOf (state S.Store conn.old).now s command.now sight.now → Accepts s now q accepted.now sums texts.now
         → OnOk result (OthersStay (state S.Store conn.old).now (state S.Store conn.new).now) }
-    ensures left { HasCleanDisk (state S.Store conn.new) → (s : Operator) (q : Request) → Keeps (state S.Store conn.old) s
+    ensures left { HasCleanDisk (state S.Store conn.new) → (s : Operator) (q : Request)
+        → Keeps (state S.Store conn.old) s
         → IsSightOf (state S.Store conn.old).now s command.now sight.now → Accepts s now q accepted.now sums texts.now
         → AllLeft (state S.Store conn.new) (TreesStandForEither s (after_acceptance s now q)) }
 {
@@ -85,8 +89,8 @@ fn store_accepted<'a, S: Alter>(
     make_all(conn, rows.as_slice())
 }
 
-/// Serves a request whose key isn't kept by a decision on what was read for it: the operator's figures, and the view with what
-/// was read beside it.
+/// Serves a request whose key isn't kept by a decision on what was read for it: the operator's figures, and the view
+/// with what was read beside it.
 fn serve_read<'a, S: Alter>(
     conn: &mut Connection<S>,
     figures: &Figures,
@@ -106,7 +110,8 @@ fn serve_read<'a, S: Alter>(
         → OnOk result (OthersStay (state S.Store conn.old).now (state S.Store conn.new).now) }
     ensures rests { HasCleanDisk (state S.Store conn.new) → (s : Operator) (t : ℕ) → Keeps (state S.Store conn.old) s
         → IsReadFor (state S.Store conn.old).now s t now asked.entry.request.now figures.entry.now sight.now
-        → (step s t asked.entry.request.now).1 ≡ s → OnOk result ((state S.Store conn.new).now ≡ (state S.Store conn.old).now) }
+        → (step s t asked.entry.request.now).1 ≡ s
+        → OnOk result ((state S.Store conn.new).now ≡ (state S.Store conn.old).now) }
     ensures failed { HasCleanDisk (state S.Store conn.new) → (s : Operator) (t : ℕ) → Keeps (state S.Store conn.old) s
         → IsReadFor (state S.Store conn.old).now s t now asked.entry.request.now figures.entry.now sight.now
         → OnErr result (AllLeft (state S.Store conn.new) (TreesStandForEither s (step s t asked.entry.request.now).1)) }
@@ -175,7 +180,8 @@ fn serve_anew<'a, S: Alter>(
         → OnOk result ((state S.Store conn.new).now ≡ (state S.Store conn.old).now) }
     ensures failed { HasCleanDisk (state S.Store conn.new) → (s : Operator) → Keeps (state S.Store conn.old) s
         → IsRemembered s remembered.now → map.get s.kept (key_in asked.entry.request.now) ≡ None
-        → OnErr result (AllLeft (state S.Store conn.new) (TreesStandForEither s (step s moment asked.entry.request.now).1)) }
+        → OnErr result (AllLeft (state S.Store conn.new)
+            (TreesStandForEither s (step s moment asked.entry.request.now).1)) }
 {
     let figures = know_figures(conn, &remembered.figures)?;
     let known = Known {

@@ -15,7 +15,8 @@ use bike_schema::StatementFault;
 use bike_writes::put;
 use sqlite::{Alter, Connection};
 
-/// Makes all changes in one transaction, or none. Tables of other names stay. An error says nothing of whether the changes were made.
+/// Makes all changes in one transaction, or none. Tables of other names stay. An error says nothing of whether the
+/// changes were made.
 pub fn make_all<S: Alter>(
     conn: &mut Connection<S>,
     changes: &[RowChange<'_>],

@@ -17,10 +17,10 @@ use sqlite::Alter;
 use std::alloc::Global;
 use std::collections::VecDeque;
 
-/// Each answers the first whose identifier comes after the given one in byte order, or the first of all, and None exactly where
-/// none is left: a caller who hands back the identifier that was answered walks over all. So it is of languages by themselves. Of
-/// stations a page is answered, the first ones, which is empty exactly where none is left: a walk goes on after its last.
-/// Nothing that is kept changes. Faults come as those of the other queries do.
+/// Each answers the first whose identifier comes after the given one in byte order, or the first of all, and None
+/// exactly where none is left: a caller who hands back the identifier that was answered walks over all. So it is of
+/// languages by themselves. Of stations a page is answered, the first ones, which is empty exactly where none is left:
+/// a walk goes on after its last. Nothing that is kept changes. Faults come as those of the other queries do.
 impl<S: Alter> Desk<S> {
     /// The next vehicle type.
     pub fn type_after(
@@ -52,8 +52,8 @@ impl<S: Alter> Desk<S> {
         self.answer(read)
     }
 
-    /// The next stations, as many as a page holds. With `translated` each has its further names; else none are asked for, and none
-    /// has any.
+    /// The next stations, as many as a page holds. With `translated` each has its further names; else none are asked
+    /// for, and none has any.
     pub fn stations_after(
         &mut self,
         alloc: Global,
@@ -69,8 +69,9 @@ impl<S: Alter> Desk<S> {
         self.answer(read)
     }
 
-    /// The next stations with their counts, as GBFS's `station_status` shows them, by the stored numbers: as many as a page holds. The
-    /// counts are of the bicycles of the types with these identifiers, in their order: of all, with those that `type_ids` answers.
+    /// The next stations with their counts, as GBFS's `station_status` shows them, by the stored numbers: as many as a
+    /// page holds. The counts are of the bicycles of the types with these identifiers, in their order: of all, with
+    /// those that `type_ids` answers.
     pub fn statuses_after(
         &mut self,
         alloc: Global,

@@ -43,16 +43,16 @@ impl Earlier {
     {
         match self {
             Earlier::First => {
-                "CREATE TABLE stations (station_id TEXT PRIMARY KEY NOT NULL, name TEXT NOT NULL, lat INTEGER NOT NULL, \
-                 lon INTEGER NOT NULL, docks INTEGER NOT NULL, installed INTEGER NOT NULL, renting INTEGER NOT NULL, \
-                 \"returning\" INTEGER NOT NULL, reported INTEGER NOT NULL, free INTEGER NOT NULL, \
-                 broken INTEGER NOT NULL) STRICT"
+                "CREATE TABLE stations (station_id TEXT PRIMARY KEY NOT NULL, name TEXT NOT NULL, \
+                 lat INTEGER NOT NULL, lon INTEGER NOT NULL, docks INTEGER NOT NULL, installed INTEGER NOT NULL, \
+                 renting INTEGER NOT NULL, \"returning\" INTEGER NOT NULL, reported INTEGER NOT NULL, \
+                 free INTEGER NOT NULL, broken INTEGER NOT NULL) STRICT"
             }
             Earlier::Second => {
-                "CREATE TABLE stations_2 (station_id TEXT PRIMARY KEY NOT NULL, name TEXT NOT NULL, lat INTEGER NOT NULL, \
-                 lon INTEGER NOT NULL, docks INTEGER NOT NULL, installed INTEGER NOT NULL, renting INTEGER NOT NULL, \
-                 \"returning\" INTEGER NOT NULL, reported INTEGER NOT NULL, free INTEGER NOT NULL, \
-                 broken INTEGER NOT NULL, region_id TEXT) STRICT"
+                "CREATE TABLE stations_2 (station_id TEXT PRIMARY KEY NOT NULL, name TEXT NOT NULL, \
+                 lat INTEGER NOT NULL, lon INTEGER NOT NULL, docks INTEGER NOT NULL, installed INTEGER NOT NULL, \
+                 renting INTEGER NOT NULL, \"returning\" INTEGER NOT NULL, reported INTEGER NOT NULL, \
+                 free INTEGER NOT NULL, broken INTEGER NOT NULL, region_id TEXT) STRICT"
             }
         }
     }

@@ -4,7 +4,8 @@ ghost use Rattle.std.specs.Prelude.{◌≡◌, ◌≤◌, ◌≤ℤ◌, ◌+ℤ�
 ghost use Rattle.bike_attributes.specs.declared.limits.TheConstants.{MOST_SEGMENTS};
 ghost use Rattle.bike_fares.specs.declared.elapsed.TheConstants.{MINUTES};
 ghost use Rattle.bike_fares.specs.Pricing.{fare_of, greatest_fare};
-ghost use Rattle.bike_fares.specs.Counting.{count_below, minutes_before, segment_total, segments_total, most_of_segment, most_of_segments};
+ghost use Rattle.bike_fares.specs.Counting.{count_below, minutes_before, segment_total, segments_total};
+ghost use Rattle.bike_fares.specs.Counting.{most_of_segment, most_of_segments};
 
 use crate::elapsed::elapsed_seconds;
 use bike_attributes::{Cents, Moment, Segment};

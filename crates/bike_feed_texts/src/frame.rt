@@ -28,8 +28,8 @@ pub(crate) fn open_feed<W: Output>(
     let _ = json.name(out, "data");
 }
 
-/// Begins the feed of a system for a moment whose data are a list of that name (`vehicle_types`, `stations`, `plans` or `regions`),
-/// up to the list's first element.
+/// Begins the feed of a system for a moment whose data are a list of that name (`vehicle_types`, `stations`, `plans` or
+/// `regions`), up to the list's first element.
 pub fn open_list<W: Output>(
     json: &mut JsonState,
     out: &mut W,

@@ -12,8 +12,10 @@ ghost use Rattle.bike_catalogue.specs.Rows.{SystemRow};
 ghost use Rattle.bike_feed_texts.specs.declared.feed.Feed.{Feed as AnyFeed};
 ghost use Rattle.bike_feed_texts.specs.Elements.{status_tree};
 ghost use Rattle.bike_feed_texts.specs.Feeds.{feed_name, feed_of};
-ghost use Rattle.bike_feed_texts.specs.Trees.{feed_tree, report_of, counts_of, further_languages, type_element, station_element, plan_element, region_element};
-ghost use Rattle.bike_feed_texts.specs.Writing.{list_head_text, list_end_text, information_head_text, information_end_text};
+ghost use Rattle.bike_feed_texts.specs.Trees.{feed_tree, report_of, counts_of, further_languages, type_element};
+ghost use Rattle.bike_feed_texts.specs.Trees.{station_element, plan_element, region_element};
+ghost use Rattle.bike_feed_texts.specs.Writing.{list_head_text, list_end_text, information_head_text};
+ghost use Rattle.bike_feed_texts.specs.Writing.{information_end_text};
 
 use crate::feed::Feed;
 
@@ -28,8 +30,9 @@ pub fn further_name_laws()
     ensures { (s : Operator) (kind : NameKind) (id : List ℕ) → further_languages s ≡ [] → further_names s kind id ≡ [] }
 {}
 
-/// The text of a feed whose data are a list: what `open_list` writes, the elements with commas between them, and what `close_list`
-/// writes. Of the system's, what `open_information` writes, the languages, and what `close_information` writes.
+/// The text of a feed whose data are a list: what `open_list` writes, the elements with commas between them, and what
+/// `close_list` writes. Of the system's, what `open_information` writes, the languages, and what `close_information`
+/// writes.
 pub fn list_text_laws()
     ensures system_information { (s : Operator) (x : SystemRow) (seconds : ℕ)
         → text_of (feed_tree s x Feed.SystemInformation seconds) ≡ information_head_text x seconds

@@ -1,13 +1,14 @@
 //! The feeds (GBFS v3.0): their trees over the operator, and their texts written part by part.
 //!
-//! A feed's text depends on the operator, the feed and the moment that is asked for. `write_gbfs` writes a whole feed. Of each other
-//! feed `open_list` writes what stands before the elements of its list, `write_type`, `write_station`, `write_status`, `write_plan`
-//! or `write_region` an element, and `close_list` what stands behind them. The list of `system_information` is that of its languages:
-//! `open_information`, `write_language` and `close_information` write it. `list_text_laws` says that these together are the
-//! feed's text. So a caller needs no more than one element at a time, with its further names. Nothing here takes memory.
+//! A feed's text depends on the operator, the feed and the moment that is asked for. `write_gbfs` writes a whole feed.
+//! Of each other feed `open_list` writes what stands before the elements of its list, `write_type`, `write_station`,
+//! `write_status`, `write_plan` or `write_region` an element, and `close_list` what stands behind them. The list of
+//! `system_information` is that of its languages: `open_information`, `write_language` and `close_information` write
+//! it. `list_text_laws` says that these together are the feed's text. So a caller needs no more than one element at a
+//! time, with its further names. Nothing here takes memory.
 //!
-//! Each function takes the state of the text and the writer beside it, and fails as the calls of `JsonState` do: after a failed
-//! write nothing more is written, so what was written is a front of the text.
+//! Each function takes the state of the text and the writer beside it, and fails as the calls of `JsonState` do: after
+//! a failed write nothing more is written, so what was written is a front of the text.
 #![tactic(auto)]
 
 mod feed;

@@ -24,7 +24,8 @@ fn region_member<W: Output>(json: &mut JsonState, out: &mut W, region: Option<&I
     }
 }
 
-/// Writes a station: its name and further names, its place, the region in which it stands, if any, and how many docks it has.
+/// Writes a station: its name and further names, its place, the region in which it stands, if any, and how many docks
+/// it has.
 pub fn write_station<W: Output>(
     json: &mut JsonState,
     out: &mut W,

@@ -5,7 +5,8 @@ ghost use Rattle.bike_json.specs.State.{IsAt, Wrote, takes_value, takes_array_en
 ghost use Rattle.bike_json.specs.Tree.{text};
 ghost use Rattle.bike_feed_texts.specs.Elements.{members};
 ghost use Rattle.bike_feed_texts.specs.Trees.{contact_members};
-ghost use Rattle.bike_feed_texts.specs.Writing.{WroteMembers, WroteValue, information_head_text, information_end_text, in_feed, in_list};
+ghost use Rattle.bike_feed_texts.specs.Writing.{WroteMembers, WroteValue, information_head_text, information_end_text};
+ghost use Rattle.bike_feed_texts.specs.Writing.{in_feed, in_list};
 
 use crate::frame::open_feed;
 use crate::members::{localized_member, text_member};
@@ -15,7 +16,8 @@ use bike_fixed::Moment;
 use bike_json::{JsonState, Level, Output};
 use bike_stream::WriteFault;
 
-/// Begins the feed `system_information` of a system for a moment, up to the first of its languages: that is the system's.
+/// Begins the feed `system_information` of a system for a moment, up to the first of its languages: that is the
+/// system's.
 pub fn open_information<W: Output>(
     json: &mut JsonState,
     out: &mut W,

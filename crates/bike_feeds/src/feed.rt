@@ -5,7 +5,8 @@ ghost use Rattle.std.specs.Io.KnownBytes.{Keeps};
 ghost use Rattle.bike_json.specs.State.{outset};
 ghost use Rattle.bike_desk.specs.Desk.{OfOperator};
 ghost use Rattle.bike_feeds.specs.declared.fault.FeedFault.TheVariants.{Write as WriteFailed};
-ghost use Rattle.bike_feeds.specs.Publishing.{feed_text, IsPublished, IsBegun, IsLength, IsTooLong, MayFailToWrite, LeavesDesk, WantsNoMemory};
+ghost use Rattle.bike_feeds.specs.Publishing.{feed_text, IsPublished, IsBegun, IsLength, IsTooLong, MayFailToWrite};
+ghost use Rattle.bike_feeds.specs.Publishing.{LeavesDesk, WantsNoMemory};
 ghost use Rattle.bike_feeds.specs.Walking.{IsCounted, WritesText};
 
 use crate::fault::FeedFault;
@@ -80,10 +81,10 @@ fn publish<S: Alter, W: Output>(
 
 /// Writes the feed for a moment: the text of the operator for which the desk stands, and nothing else.
 ///
-/// `SystemMissing` comes only where no system is set, and then nothing is written; after `Write` or a fault of the desk a front of
-/// the text is. What is kept never changes. `Write` leaves the desk as it was, `StoreFailed` stops it, also where memory is
-/// refused while a row is copied out, and a stopped desk answers `Stopped`, stays as it is and writes nothing. `NoMemory` never
-/// comes: nothing here takes memory before the engine does.
+/// `SystemMissing` comes only where no system is set, and then nothing is written; after `Write` or a fault of the desk
+/// a front of the text is. What is kept never changes. `Write` leaves the desk as it was, `StoreFailed` stops it, also
+/// where memory is refused while a row is copied out, and a stopped desk answers `Stopped`, stays as it is and writes
+/// nothing. `NoMemory` never comes: nothing here takes memory before the engine does.
 pub fn write_feed<S: Alter, W: Write>(
     alloc: Global,
     desk: &mut Desk<S>,
@@ -103,8 +104,8 @@ pub fn write_feed<S: Alter, W: Write>(
     publish(alloc, desk, feed, moment, &mut json, out)
 }
 
-/// The length in bytes of what `write_feed` writes. Fails as that does, but that `Write` comes only where the text is longer than any
-/// count tells.
+/// The length in bytes of what `write_feed` writes. Fails as that does, but that `Write` comes only where the text is
+/// longer than any count tells.
 pub fn feed_length<S: Alter>(
     alloc: Global,
     desk: &mut Desk<S>,

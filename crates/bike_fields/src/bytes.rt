@@ -2,7 +2,8 @@
 
 ghost use Rattle.std.specs.Prelude.{◌≡◌};
 ghost use Rattle.std.specs.List.{list_all};
-ghost use Rattle.bike_fields.specs.Bytes.{has_length, is_ident_byte, is_key_byte, is_language_byte, is_name_byte, is_printable, is_upper};
+ghost use Rattle.bike_fields.specs.Bytes.{has_length, is_ident_byte, is_key_byte, is_language_byte, is_name_byte};
+ghost use Rattle.bike_fields.specs.Bytes.{is_printable, is_upper};
 
 /// Whether the text has from `least` to `most` bytes.
 pub fn has_length(text: &str, least: usize, most: usize) -> bool

@@ -2,7 +2,8 @@
 
 ghost use Rattle.std.specs.Prelude.{◌≡◌, ◌≤◌, ◌++◌, List, ℕ, IfOk, IfErr, IfSome, Some, decimal};
 ghost use Rattle.arrayvec.specs.ArrayString.{array_string_len};
-ghost use Rattle.bike_fields.specs.Caller.{IsCaller, HasIdent, HoldsIdent, caller_meant, caller_text, caller_of, caller_named};
+ghost use Rattle.bike_fields.specs.Caller.{IsCaller, HasIdent, HoldsIdent, caller_meant, caller_text, caller_of};
+ghost use Rattle.bike_fields.specs.Caller.{caller_named};
 ghost use Rattle.bike_fields.specs.Reads.{Gives, IsReadAs};
 ghost use Rattle.bike_fields.specs.declared.caller.Caller.{Caller};
 
@@ -74,8 +75,8 @@ impl<'a> CallerName<'a> {
 }
 
 impl Caller {
-    /// The caller whose text this is; an error where memory was refused, which only the text of a dock or an import asks
-    /// for.
+    /// The caller whose text this is; an error where memory was refused, which only the text of a dock or an import
+    /// asks for.
     pub fn read(alloc: Global, text: &str) -> Result<Option<Caller>, AllocError>
         ensures read { IsReadAs (caller_of text.now) result }
         ensures spared { IfErr result (λ _. (c : Caller) → caller_of text.now ≡ Some c → HoldsIdent c) }

@@ -34,7 +34,8 @@ impl<K: TextKind> Text<K> {
         Ok(Text::of(alloc, tested)?)
     }
 
-    /// The text, where it keeps the bounds of that field of a record, else the first that it breaks; this needs no memory.
+    /// The text, where it keeps the bounds of that field of a record, else the first that it breaks; this needs no
+    /// memory.
     pub fn tested<'a>(field: Field, text: &'a str) -> Result<&'a str, FieldFault>
         ensures value { Tests (λ tested. tested.now) text.now (at_field field (K.fault_of text.now)) result }
         ensures good { IfOk result (λ tested. K.is_text tested.now ≡ true) }

@@ -2,8 +2,10 @@
 
 ghost use Rattle.std.specs.Prelude.{◌≡◌, Bool, List, ℕ, Option};
 ghost use Rattle.bike_fields.specs.declared.fault.Bound.{Bound};
-ghost use Rattle.bike_fields.specs.Fault.{ident_fault, key_fault, language_fault, currency_fault, ascii_fault, name_fault};
-ghost use Rattle.bike_fields.specs.Bytes.{is_ident, ident_of, is_key, key_of, is_language, language_of, is_currency, currency_of, is_ascii_field, ascii_of, is_name, name_of};
+ghost use Rattle.bike_fields.specs.Fault.{ident_fault, key_fault, language_fault, currency_fault, ascii_fault};
+ghost use Rattle.bike_fields.specs.Fault.{name_fault};
+ghost use Rattle.bike_fields.specs.Bytes.{is_ident, ident_of, is_key, key_of, is_language, language_of, is_currency};
+ghost use Rattle.bike_fields.specs.Bytes.{currency_of, is_ascii_field, ascii_of, is_name, name_of};
 ghost use Rattle.bike_fields.specs.Texts.{Judges};
 
 use crate::bytes::{

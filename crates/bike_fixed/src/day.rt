@@ -1,8 +1,11 @@
 //! The bounds of a local day.
 
-ghost use Rattle.std.specs.Prelude.{◌≡◌, ℤ, pos, ◌*ℤ◌, ◌+ℤ◌, ◌+◌, ◌-◌, ◌*◌, ◌≤◌, ◌<ℤ◌, MatchOption, true, false, IfOk, IfSome, IfNone, Err, ◌&&◌, [], ◌∷◌};
+ghost use Rattle.std.specs.Prelude.{◌≡◌, ℤ, pos, ◌*ℤ◌, ◌+ℤ◌, ◌+◌, ◌-◌, ◌*◌, ◌≤◌, ◌<ℤ◌, MatchOption, true, false, IfOk};
+ghost use Rattle.std.specs.Prelude.{IfSome, IfNone, Err, ◌&&◌, [], ◌∷◌};
 ghost use Rattle.jiff.specs.Words.{epoch_day, plain_zone, IsDate, IsYmd};
-ghost use Rattle.bike_fixed.specs.Day.{BeginsAt, BeginsBefore1970, IsCovered, HasBounds, HasBadZone, IsInYears, IsOutOfYears, IsOutOfRange, IsNamed, NamesDate, date_parts, is_digit, pair_value};
+ghost use Rattle.bike_fixed.specs.Day.{BeginsAt, BeginsBefore1970, IsCovered, HasBounds, HasBadZone, IsInYears};
+ghost use Rattle.bike_fixed.specs.Day.{IsOutOfYears, IsOutOfRange, IsNamed, NamesDate, date_parts, is_digit};
+ghost use Rattle.bike_fixed.specs.Day.{pair_value};
 
 use crate::moment::Moment;
 use jiff::civil::{Date, Time};

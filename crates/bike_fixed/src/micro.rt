@@ -3,7 +3,8 @@
 ghost use Rattle.std.specs.Prelude.{◌≡◌, ◌<◌, ◌≤◌, ◌^◌, ℕ, ℤ, List, length, IfSome, Some};
 ghost use Rattle.std.specs.List.{list_all};
 ghost use Rattle.std.specs.Char.{is_ascii_digit};
-ghost use Rattle.bike_fixed.specs.Coordinate.{IsMicro, IsCoordinate, digits_of, are_digits, size_of, within, micro_within, micro_of};
+ghost use Rattle.bike_fixed.specs.Coordinate.{IsMicro, IsCoordinate, digits_of, are_digits, size_of, within};
+ghost use Rattle.bike_fixed.specs.Coordinate.{micro_within, micro_of};
 ghost use Rattle.bike_fixed.specs.Text.{micro_text};
 
 use crate::digits::{push_decimal, push_sign, push_six};

@@ -1,6 +1,6 @@
-//! Reads of stations, docks, counts, types, regions, bicycles, trucks and orders. Each answers what is so of the operator
-//! whose tables stand in the database, and changes nothing. `select_types`, `find_type_row_from` and `find_region_row_from` give rows,
-//! for a walk that reads them.
+//! Reads of stations, docks, counts, types, regions, bicycles, trucks and orders. Each answers what is so of the
+//! operator whose tables stand in the database, and changes nothing. `select_types`, `find_type_row_from` and
+//! `find_region_row_from` give rows, for a walk that reads them.
 //!
 //! A private function sends one statement and gives its row, another reads the row's columns, and the public function
 //! joins both. A row that holds what the product never writes is `StoreFailed`; memory that is refused is `NoMemory`.

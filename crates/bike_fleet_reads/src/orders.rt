@@ -160,8 +160,8 @@ pub fn order_count<S: Alter>(conn: &mut Connection<S>) -> Result<u32, StatementF
     last_of(&row)
 }
 
-/// How many bicycles are on a truck for an order that is there, of which it is the truck. All bicycles of an order are on its
-/// truck, by which they are counted: there is an index by truck and none by order.
+/// How many bicycles are on a truck for an order that is there, of which it is the truck. All bicycles of an order are
+/// on its truck, by which they are counted: there is an index by truck and none by order.
 pub fn order_load<S: Alter>(
     conn: &mut Connection<S>,
     order: OrderNumber,

@@ -41,7 +41,8 @@ impl DockNumbers {
     }
 }
 
-/// A station as a command sees it, and the numbers of its docks, both of its row; `None` where there is no such station.
+/// A station as a command sees it, and the numbers of its docks, both of its row; `None` where there is no such
+/// station.
 #[derive(Clone, Copy)]
 pub struct StationRow {
     /// The station.

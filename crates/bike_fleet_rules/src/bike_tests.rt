@@ -11,8 +11,10 @@ ghost use Rattle.bike_judges.specs.Judging.{key_row};
 ghost use Rattle.bike_judges.specs.Lines.{part};
 ghost use Rattle.bike_readings.specs.Readings.{bike_read, order_read, rental_read, station_read, truck_read};
 ghost use Rattle.bike_readings.specs.Views.{bike_of, place_of};
-ghost use Rattle.bike_fleet_rules.specs.declared.bike_tests.TheConstants.{BIKE_AT, STATION_AT, RENTAL_AT, ORDER_AT, TRUCK_AT};
-ghost use Rattle.bike_fleet_rules.specs.Tests.{first_key, has_dock, is_dock_there, is_where_retired, is_ridden, is_carried, is_used, is_truck_there, bike_names, bike_uses, bike_trucks};
+ghost use Rattle.bike_fleet_rules.specs.declared.bike_tests.TheConstants.{BIKE_AT, STATION_AT, RENTAL_AT, ORDER_AT};
+ghost use Rattle.bike_fleet_rules.specs.declared.bike_tests.TheConstants.{TRUCK_AT};
+ghost use Rattle.bike_fleet_rules.specs.Tests.{first_key, has_dock, is_dock_there, is_where_retired, is_ridden};
+ghost use Rattle.bike_fleet_rules.specs.Tests.{is_carried, is_used, is_truck_there, bike_names, bike_uses, bike_trucks};
 
 use crate::key::number_key;
 use crate::partners::{has_truck, has_type};

@@ -11,10 +11,10 @@ use bike_judges::{BadKey, LineJudge, Query, judge_lines, least};
 use bike_schema::StatementFault;
 use sqlite::{Alter, Connection};
 
-/// The first bad key of `bikes`, where all tables before it are good: a row that spells no bicycle in one place, a bicycle
-/// past the limit, one whose type, dock or truck isn't there, a retired one outside the depot, one in a rental or on a truck
-/// that isn't its own, or one in a dock with another of a lesser number. `NoMemory` where memory is refused; every other
-/// fault is the database's.
+/// The first bad key of `bikes`, where all tables before it are good: a row that spells no bicycle in one place, a
+/// bicycle past the limit, one whose type, dock or truck isn't there, a retired one outside the depot, one in a rental
+/// or on a truck that isn't its own, or one in a dock with another of a lesser number. `NoMemory` where memory is
+/// refused; every other fault is the database's.
 pub fn judge_bikes<S: Alter>(conn: &mut Connection<S>) -> Result<Option<BadKey>, StatementFault>
     ensures { ReadsWhere S.Store IsOurs conn.old conn.new result (JudgesTable Bikes) }
 {

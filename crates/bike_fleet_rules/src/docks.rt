@@ -4,7 +4,8 @@ ghost use Rattle.std.specs.Prelude.{◌≡◌, List, Option, Some, None, IfOk, [
 ghost use Rattle.sqlite_value.specs.Order.{Row};
 ghost use Rattle.bike_readings.specs.Views.{bike_of, place_of};
 ghost use Rattle.bike_judges.specs.Judging.{Continues, key_row};
-ghost use Rattle.bike_fleet_rules.specs.Docks.{counted_line, docked_in, is_dock, is_this_dock, is_one_dock, shared_by, lesser_number, dock_pass, number_row};
+ghost use Rattle.bike_fleet_rules.specs.Docks.{counted_line, docked_in, is_dock, is_this_dock, is_one_dock, shared_by};
+ghost use Rattle.bike_fleet_rules.specs.Docks.{lesser_number, dock_pass, number_row};
 
 use crate::counted::{counted_bike, number_in};
 use bike_fields::DockNumber;

@@ -98,9 +98,9 @@ impl Account for OrderAccount {
     }
 }
 
-/// The first bad key of `orders`, where all tables before it are good: a row that spells no order, an order out of number or
-/// past the limit, one whose truck, ends or type aren't there, or one of which more is brought or on trucks than it asks
-/// for. `NoMemory` where memory is refused; every other fault is the database's.
+/// The first bad key of `orders`, where all tables before it are good: a row that spells no order, an order out of
+/// number or past the limit, one whose truck, ends or type aren't there, or one of which more is brought or on trucks
+/// than it asks for. `NoMemory` where memory is refused; every other fault is the database's.
 pub fn judge_orders<S: Alter>(conn: &mut Connection<S>) -> Result<Option<BadKey>, StatementFault>
     ensures { ReadsWhere S.Store IsOurs conn.old conn.new result (JudgesTable Orders) }
 {

@@ -97,8 +97,9 @@ impl Account for TruckAccount {
     }
 }
 
-/// The first bad key of `trucks`, where all tables before it are good: a row that spells no truck, a truck past the limit, or
-/// one that holds more bicycles than it has room for. `NoMemory` where memory is refused; every other fault is the database's.
+/// The first bad key of `trucks`, where all tables before it are good: a row that spells no truck, a truck past the
+/// limit, or one that holds more bicycles than it has room for. `NoMemory` where memory is refused; every other fault
+/// is the database's.
 pub fn judge_trucks<S: Alter>(conn: &mut Connection<S>) -> Result<Option<BadKey>, StatementFault>
     ensures { ReadsWhere S.Store IsOurs conn.old conn.new result (JudgesTable Trucks) }
 {

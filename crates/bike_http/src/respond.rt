@@ -8,7 +8,8 @@ ghost use Rattle.bike_feeds.specs.Queries.{Queries};
 ghost use Rattle.bike_feeds.specs.Publishing.{IsLength};
 ghost use Rattle.bike_http.specs.Shown.{shown_of};
 ghost use Rattle.bike_http.specs.Exchange.{answered, IsGood};
-ghost use Rattle.bike_http.specs.Telling.{Tells, TellsReply, RestsAfter, SendsAnswer, SendsText, Publishes, RespondsTo, refusal_of};
+ghost use Rattle.bike_http.specs.Telling.{Tells, TellsReply, RestsAfter, SendsAnswer, SendsText, Publishes, RespondsTo};
+ghost use Rattle.bike_http.specs.Telling.{refusal_of};
 
 use crate::rows::{bike_answer, order_answer, rental_answer, rider_answer};
 use arrayvec::ArrayVec;
@@ -24,7 +25,8 @@ use sqlite::Alter;
 use std::alloc::Global;
 use std::io::Write;
 
-/// How many bytes of a feed's text are held, so that it is made once. A longer one is made twice, first to count its length.
+/// How many bytes of a feed's text are held, so that it is made once. A longer one is made twice, first to count its
+/// length.
 const HELD_TEXT: usize = 524_288;
 
 /// Why a response wasn't sent whole.
@@ -182,7 +184,8 @@ fn publish_at<S: Alter, W: Write>(
     }
 }
 
-/// Publishes a feed for this moment, or for the operator's `now` where that is later: no feed is older than what it tells.
+/// Publishes a feed for this moment, or for the operator's `now` where that is later: no feed is older than what it
+/// tells.
 fn publish<S: Alter, W: Write>(
     alloc: Global,
     desk: &mut Desk<S>,

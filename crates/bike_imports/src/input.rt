@@ -11,8 +11,8 @@ use std::io::Read;
 /// How many reads of its input an import makes at most.
 pub const MOST_READS: u32 = 1_000_000;
 
-/// How many bytes are read for one record at most, in whole reads; the five fields of a row take less than a hundredth of that. So
-/// a record that doesn't end takes no more memory.
+/// How many bytes are read for one record at most, in whole reads; the five fields of a row take less than a hundredth
+/// of that. So a record that doesn't end takes no more memory.
 pub const MOST_RECORD: usize = 65_536;
 
 /// A reader that fails once so many reads were made, or so many bytes were read for one record.

@@ -39,8 +39,8 @@ fn serve_request<S: Alter>(
     }
 }
 
-/// Serves the row of that number in the import of that name. An error where it isn't accepted: the desk is then as it was,
-/// but where its store failed.
+/// Serves the row of that number in the import of that name. An error where it isn't accepted: the desk is then as it
+/// was, but where its store failed.
 pub fn import_row<S: Alter>(
     alloc: Global,
     desk: &mut Desk<S>,

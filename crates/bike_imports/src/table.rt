@@ -24,7 +24,8 @@ pub fn open_table<R: Read>(alloc: Global, reader: R) -> Reader<Input<R>>
         .from_reader(alloc, Input::new(reader))
 }
 
-/// Takes the next record of a table; false at its end. A record that isn't UTF-8 is `Unreadable`, with the number given.
+/// Takes the next record of a table; false at its end. A record that isn't UTF-8 is `Unreadable`, with the number
+/// given.
 pub fn next_record<R: Read>(
     table: &mut Reader<R>,
     row: &mut StringRecord,

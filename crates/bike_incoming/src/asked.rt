@@ -3,7 +3,8 @@
 ghost use Rattle.std.specs.Prelude.{◌≡◌, IfOk, IfSome, OnErr, option_map};
 ghost use Rattle.serde_json.specs.View.{view};
 ghost use Rattle.serde_json.specs.Data.{Data};
-ghost use Rattle.bike_incoming.specs.Asked.{object_of, application_of, request_of, is_method, posted, shown, got, asked_at, asked_for, MayAct, ActsAt, IsToAct};
+ghost use Rattle.bike_incoming.specs.Asked.{object_of, application_of, request_of, is_method, posted, shown, got};
+ghost use Rattle.bike_incoming.specs.Asked.{asked_at, asked_for, MayAct, ActsAt, IsToAct};
 ghost use Rattle.bike_fields.specs.Caller.{HasIdent, caller_meant};
 ghost use Rattle.bike_fields.specs.Reads.{Gives};
 ghost use Rattle.bike_incoming.specs.Bodies.{caller_at, command_by};
@@ -167,12 +168,12 @@ fn ask_at(
     }
 }
 
-/// What a request asks for, by its method, its target and its body. A path without a route, or whose part isn't the number
-/// or the identifier that the route wants, is not found; then another method than the path's isn't allowed. A method's
-/// letters have their case. A GET's body is ignored. A POST's body that is no JSON object (RFC 8259) of UTF-8, nested at
-/// most 127 deep, is a bad request; a member that is missing, of another kind or out of its bounds is a bad field. Other
-/// members are ignored, and of equal ones the last counts. An error is a want of memory, which a POST alone asks for whose
-/// path and method are good.
+/// What a request asks for, by its method, its target and its body. A path without a route, or whose part isn't the
+/// number or the identifier that the route wants, is not found; then another method than the path's isn't allowed. A
+/// method's letters have their case. A GET's body is ignored. A POST's body that is no JSON object (RFC 8259) of UTF-8,
+/// nested at most 127 deep, is a bad request; a member that is missing, of another kind or out of its bounds is a bad
+/// field. Other members are ignored, and of equal ones the last counts. An error is a want of memory, which a POST
+/// alone asks for whose path and method are good.
 #[tactic(auto, unfolding(crate::specs::Asked::asked_for))]
 pub fn ask(
     alloc: Global,

@@ -4,7 +4,8 @@ ghost use Rattle.std.specs.Prelude.{◌≡◌, ◌==◌, IfOk};
 ghost use Rattle.std.specs.List.{slice_split};
 ghost use Rattle.bike_requests.specs.Readers.{command_at};
 ghost use Rattle.serde_json.specs.View.{view};
-ghost use Rattle.bike_incoming.specs.Bodies.{start_of, end_of, mark_dock_of, mark_bike_of, load_of, unload_of, office_command, dock_command, crew_command, command_by};
+ghost use Rattle.bike_incoming.specs.Bodies.{start_of, end_of, mark_dock_of, mark_bike_of, load_of, unload_of};
+ghost use Rattle.bike_incoming.specs.Bodies.{office_command, dock_command, crew_command, command_by};
 
 use crate::members::{choice_in, ident_in, number_in, side_in, text_in};
 use bike_commands::Command;

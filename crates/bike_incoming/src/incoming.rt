@@ -57,7 +57,14 @@ enum Opening {
 }
 
 /// Reads until the input's head is whole, or no head can come.
-#[tactic(auto, using(crate::proofs::Receiving::grew_then, crate::proofs::Receiving::told_opened, crate::proofs::Receiving::ended_opens))]
+#[tactic(
+    auto,
+    using(
+        crate::proofs::Receiving::grew_then,
+        crate::proofs::Receiving::told_opened,
+        crate::proofs::Receiving::ended_opens
+    )
+)]
 fn receive_head<R: Read>(
     reader: &mut R,
     reads: &mut ReadsLeft,
@@ -136,8 +143,8 @@ fn receive_body<R: Read>(
     Ok(ask(alloc, routes, method, target, &bytes[head.length..end])?)
 }
 
-/// Reads one input, until what it asks for is known: none where it ends before its first byte. No byte behind the body is
-/// waited for.
+/// Reads one input, until what it asks for is known: none where it ends before its first byte. No byte behind the body
+/// is waited for.
 pub fn receive<R: Read>(
     alloc: Global,
     routes: &Routes,

@@ -11,7 +11,8 @@ use crate::level::Level;
 /// After any sequence of calls, each made where the levels take it, what was written begins the text of one
 /// value; and where the value is ended, it is that text.
 pub fn text_laws(_open: Level)
-    ensures begins { (round : List AnyLevel) (top : AnyLevel) (bytes : List ℕ) → Calls round top bytes → BeginsText bytes }
+    ensures begins { (round : List AnyLevel) (top : AnyLevel) (bytes : List ℕ) → Calls round top bytes
+        → BeginsText bytes }
     ensures whole { (bytes : List ℕ) → Calls [] Level.Done bytes → IsText bytes }
 {}
 

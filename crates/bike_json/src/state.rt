@@ -5,7 +5,8 @@ ghost use Rattle.std.specs.Fmt.{signed_decimal};
 ghost use Rattle.bike_fixed.specs.Text.{cents_text, micro_text};
 ghost use Rattle.bike_json.specs.Escapes.{json_escapes, string_text};
 ghost use Rattle.bike_json.specs.Tree.{comma, flag_text};
-ghost use Rattle.bike_json.specs.State.{Wrote, WroteNext, IsAt, outset, takes_value, takes_name, takes_array_end, has_more, after_value};
+ghost use Rattle.bike_json.specs.State.{Wrote, WroteNext, IsAt, outset, takes_value, takes_name, takes_array_end};
+ghost use Rattle.bike_json.specs.State.{has_more, after_value};
 
 use crate::escape::{escape, is_plain};
 use crate::level::Level;
@@ -244,7 +245,8 @@ impl JsonState {
 
     /// The comma before a part that isn't the first.
     fn separate<W: Output>(&mut self, out: &mut W)
-        ensures wrote { Wrote self.old self.new (W.contents out.old) (W.contents out.new) (comma (has_more self.old.top)) }
+        ensures wrote { Wrote self.old self.new (W.contents out.old) (W.contents out.new)
+            (comma (has_more self.old.top)) }
         ensures place { IsAt self.new self.old.top self.old.round }
     {
         match self.top {
@@ -276,8 +278,8 @@ impl JsonState {
         }
     }
 
-    /// The bytes with their escapes, in as few runs as there are. Hardly a text has an escape, so this is no part of the
-    /// function above, which is inlined.
+    /// The bytes with their escapes, in as few runs as there are. Hardly a text has an escape, so this is no part of
+    /// the function above, which is inlined.
     #[inline(never)]
     fn escaped_runs<W: Output>(&mut self, out: &mut W, bytes: &[u8])
         ensures wrote { Wrote self.old self.new (W.contents out.old) (W.contents out.new) (json_escapes bytes.now) }

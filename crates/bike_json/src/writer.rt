@@ -5,7 +5,8 @@ ghost use Rattle.std.specs.Fmt.{signed_decimal};
 ghost use Rattle.bike_fixed.specs.Text.{cents_text, micro_text};
 ghost use Rattle.bike_json.specs.Escapes.{string_text};
 ghost use Rattle.bike_json.specs.Tree.{comma, flag_text};
-ghost use Rattle.bike_json.specs.State.{Wrote, WroteNext, IsAt, outset, takes_value, takes_name, takes_array_end, has_more, after_value};
+ghost use Rattle.bike_json.specs.State.{Wrote, WroteNext, IsAt, outset, takes_value, takes_name, takes_array_end};
+ghost use Rattle.bike_json.specs.State.{has_more, after_value};
 
 use crate::level::Level;
 use crate::output::Output;
@@ -122,7 +123,8 @@ impl<W: Output + Drop> JsonWriter<W> {
     /// A string.
     pub fn text(&mut self, text: &str) -> Result<(), WriteFault>
         requires { IsTrue (takes_value self.old.place.top) }
-        ensures wrote { WroteNext self.old.place self.new.place self.old.contents self.new.contents (string_text text.now) }
+        ensures wrote { WroteNext self.old.place self.new.place self.old.contents self.new.contents
+            (string_text text.now) }
         ensures place { IsAt self.new.place (after_value self.old.place.top) self.old.place.round }
         ensures count { self.new.place.failed ≡ true → self.new.place.count ≡ self.old.place.count }
         ensures outcome { is_ok result ≡ not self.new.place.failed }
@@ -133,7 +135,8 @@ impl<W: Output + Drop> JsonWriter<W> {
     /// A whole number, with a `-` exactly below zero and no leading zero.
     pub fn whole(&mut self, number: i64) -> Result<(), WriteFault>
         requires { IsTrue (takes_value self.old.place.top) }
-        ensures wrote { WroteNext self.old.place self.new.place self.old.contents self.new.contents (signed_decimal number) }
+        ensures wrote { WroteNext self.old.place self.new.place self.old.contents self.new.contents
+            (signed_decimal number) }
         ensures place { IsAt self.new.place (after_value self.old.place.top) self.old.place.round }
         ensures count { self.new.place.failed ≡ true → self.new.place.count ≡ self.old.place.count }
         ensures outcome { is_ok result ≡ not self.new.place.failed }
@@ -144,7 +147,8 @@ impl<W: Output + Drop> JsonWriter<W> {
     /// An amount, in units with two decimals.
     pub fn cents(&mut self, amount: Cents) -> Result<(), WriteFault>
         requires { IsTrue (takes_value self.old.place.top) }
-        ensures wrote { WroteNext self.old.place self.new.place self.old.contents self.new.contents (cents_text amount) }
+        ensures wrote { WroteNext self.old.place self.new.place self.old.contents self.new.contents
+            (cents_text amount) }
         ensures place { IsAt self.new.place (after_value self.old.place.top) self.old.place.round }
         ensures count { self.new.place.failed ≡ true → self.new.place.count ≡ self.old.place.count }
         ensures outcome { is_ok result ≡ not self.new.place.failed }
@@ -155,7 +159,8 @@ impl<W: Output + Drop> JsonWriter<W> {
     /// A coordinate, in degrees with six decimals.
     pub fn micro(&mut self, coordinate: Micro) -> Result<(), WriteFault>
         requires { IsTrue (takes_value self.old.place.top) }
-        ensures wrote { WroteNext self.old.place self.new.place self.old.contents self.new.contents (micro_text coordinate) }
+        ensures wrote { WroteNext self.old.place self.new.place self.old.contents self.new.contents
+            (micro_text coordinate) }
         ensures place { IsAt self.new.place (after_value self.old.place.top) self.old.place.round }
         ensures count { self.new.place.failed ≡ true → self.new.place.count ≡ self.old.place.count }
         ensures outcome { is_ok result ≡ not self.new.place.failed }

@@ -17,7 +17,8 @@ pub trait LineFold: Drop {
     /// What it is after one more line.
     ghost after: { Self → Row → Self };
 
-    /// Adds the next line. It is an error where memory is refused or a number passes its bounds, which no stored city's does.
+    /// Adds the next line. It is an error where memory is refused or a number passes its bounds, which no stored city's
+    /// does.
     fn add(&mut self, line: &Row) -> Result<(), StatementFault>
         ensures { OnOk result (self.new ≡ after self.old line.now) };
 }
@@ -41,8 +42,8 @@ fn add_next<S: Alter, F: LineFold>(
     }
 }
 
-/// What it comes to over all lines of the query, from `first` on. The database stays as it was. `NoMemory` where memory is
-/// refused; every other fault is the database's, or one that the fold answers.
+/// What it comes to over all lines of the query, from `first` on. The database stays as it was. `NoMemory` where memory
+/// is refused; every other fault is the database's, or one that the fold answers.
 pub fn fold_lines<S: Alter, F: LineFold>(
     conn: &mut Connection<S>,
     query: Query,

@@ -55,8 +55,8 @@ fn test_next<S: Alter, T: RowTest>(
     }
 }
 
-/// Whether every row of `kept` passes, in whatever order the rows lie. The database stays as it was. `NoMemory` where memory is
-/// refused; every other fault is the database's, or one that the test answers.
+/// Whether every row of `kept` passes, in whatever order the rows lie. The database stays as it was. `NoMemory` where
+/// memory is refused; every other fault is the database's, or one that the test answers.
 pub fn all_kept_pass<S: Alter, T: RowTest>(
     conn: &mut Connection<S>,
     test: &T,

@@ -1,12 +1,13 @@
 //! The audit's queries, and the judges of their lines.
 //!
-//! `specs/Lines` gives the lines of each query as a list over the tables; the query's text answers those and nothing else.
-//! `judge_lines` shows them to a `Judge`, one at a time, until it names the first bad key; `fold_lines` computes over them. Two
-//! judges make one pass: a `LineJudge` names the key of the first line that fails its test; a `StretchJudge` opens an account at
-//! each head, adds the lines after it, and names the key of the first head whose account isn't good. The lemmas `lines_verdict`,
-//! `merged_verdict`, `merged_of_three_verdict` and `least_verdict` say what that is over tables: the least key of which a demand
-//! fails. `specs/Verdicts` says what the rules of a table answer. `all_kept_pass` tells whether all rows of `kept` pass a test, and
-//! reads them in whatever order they lie, which `specs/AnyOrder` defines.
+//! `specs/Lines` gives the lines of each query as a list over the tables; the query's text answers those and nothing
+//! else. `judge_lines` shows them to a `Judge`, one at a time, until it names the first bad key; `fold_lines` computes
+//! over them. Two judges make one pass: a `LineJudge` names the key of the first line that fails its test; a
+//! `StretchJudge` opens an account at each head, adds the lines after it, and names the key of the first head whose
+//! account isn't good. The lemmas `lines_verdict`, `merged_verdict`, `merged_of_three_verdict` and `least_verdict` say
+//! what that is over tables: the least key of which a demand fails. `specs/Verdicts` says what the rules of a table
+//! answer. `all_kept_pass` tells whether all rows of `kept` pass a test, and reads them in whatever order they lie,
+//! which `specs/AnyOrder` defines.
 #![tactic(auto)]
 
 mod fold;

@@ -56,8 +56,8 @@ fn show_next<S: Alter, J: Judge>(
     }
 }
 
-/// The first bad key that the judge finds in the query's lines. The database stays as it was. `NoMemory` where memory is
-/// refused; every other fault is the database's, or one that the judge answers.
+/// The first bad key that the judge finds in the query's lines. The database stays as it was. `NoMemory` where memory
+/// is refused; every other fault is the database's, or one that the judge answers.
 pub fn judge_lines<S: Alter, J: Judge>(
     conn: &mut Connection<S>,
     query: Query,

@@ -129,19 +129,6 @@ done : IsAnswer Done
 done = (tt, refl)
 
 pub reply_good : (s : Operator) (now : ℕ) (c : Command) → IsSound s → IsCommand c → refusal_of s c ≡ None → s.now ≤ now → IsAnswer (reply_of s now c)
-reply_good s now (command.SetSystem x) order good none later = done
-reply_good s now (command.AddPlan p) order good none later = done
-reply_good s now (command.AddType t) order good none later = done
-reply_good s now (command.SetPlan type_id plan) order good none later = done
-reply_good s now (command.AddStation x) order good none later = done
-reply_good s now (command.SetStation station installed renting returning) order good none later = done
-reply_good s now (command.MarkDock station dock broken) order good none later = done
-reply_good s now (command.AddBike bike type_id) order good none later = done
-reply_good s now (command.MarkBike bike disabled) order good none later = done
-reply_good s now (command.RetireBike bike) order good none later = done
-reply_good s now (command.AddTruck truck capacity) order good none later = done
-reply_good s now (command.AddRider rider) order good none later = done
-reply_good s now (command.SetRider rider blocked) order good none later = done
 reply_good s now (command.TopUp rider amount) order good none later =
     let free = none_holds (tests (view_of s (command.TopUp rider amount)) (command.TopUp rider amount)) none in
     let room = below_of MOST_ENTRIES (length s.entries + open_rentals s) free.1.0 in
@@ -163,14 +150,4 @@ reply_good s now (command.OpenOrder truck from_end to_end type_id count) order g
     let free = none_holds (tests (view_of s (command.OpenOrder truck from_end to_end type_id count)) (command.OpenOrder truck from_end to_end type_id count)) none in
     let few = below_of MOST_ORDERS (length s.orders) free.1.1.1.1.1.1.0 in
     (((omega arith, omega (arith, few), omega arith), tt), refl)
-reply_good s now (command.Load truck number bike) order good none later = done
-reply_good s now (command.Unload truck number bike side dock) order good none later = done
-reply_good s now (command.CloseOrder number) order good none later = done
-reply_good s now (command.AddRegion r) order good none later = done
-reply_good s now (command.SetRegion station region) order good none later = done
-reply_good s now (command.AddName kind id language name) order good none later = done
-reply_good s now (command.SetName kind id language name) order good none later = done
-reply_good s now (command.RemoveName kind id language) order good none later = done
-reply_good s now (command.ChangeSystem x) order good none later = done
-reply_good s now (command.MoveStation station p) order good none later = done
-reply_good s now (command.AddDocks station count) order good none later = done
+reply_good s now c order good none later = done

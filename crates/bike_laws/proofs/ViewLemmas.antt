@@ -138,20 +138,6 @@ bike_viewed : (s : Operator) (bike : ℕ) → IsSound s → (r : RentalView) →
 bike_viewed s bike sound r is = (rental_is s bike (finmap.get s.bikes bike) r sound.bikes refl is).view
 
 pub view_bounded : (s : Operator) (now : ℕ) (c : Command) → IsSound s → s.now ≤ now → IsBounded (view_of s c) now
-view_bounded s now (command.SetSystem x) sound later = plain_bounded now (view_of s (command.SetSystem x)) refl refl refl refl refl
-view_bounded s now (command.AddPlan p) sound later = plain_bounded now (view_of s (command.AddPlan p)) refl refl refl refl refl
-view_bounded s now (command.AddType t) sound later = plain_bounded now (view_of s (command.AddType t)) refl refl refl refl refl
-view_bounded s now (command.SetPlan type_id plan) sound later = plain_bounded now (view_of s (command.SetPlan type_id plan)) refl refl refl refl refl
-view_bounded s now (command.AddStation x) sound later = plain_bounded now (view_of s (command.AddStation x)) refl refl refl refl refl
-view_bounded s now (command.SetStation station installed renting returning) sound later =
-    plain_bounded now (view_of s (command.SetStation station installed renting returning)) refl refl refl refl refl
-view_bounded s now (command.MarkDock station dock broken) sound later = plain_bounded now (view_of s (command.MarkDock station dock broken)) refl refl refl refl refl
-view_bounded s now (command.AddBike bike type_id) sound later = plain_bounded now (view_of s (command.AddBike bike type_id)) refl refl refl refl refl
-view_bounded s now (command.MarkBike bike disabled) sound later = plain_bounded now (view_of s (command.MarkBike bike disabled)) refl refl refl refl refl
-view_bounded s now (command.RetireBike bike) sound later = plain_bounded now (view_of s (command.RetireBike bike)) refl refl refl refl refl
-view_bounded s now (command.AddTruck truck capacity) sound later = plain_bounded now (view_of s (command.AddTruck truck capacity)) refl refl refl refl refl
-view_bounded s now (command.AddRider rider) sound later = plain_bounded now (view_of s (command.AddRider rider)) refl refl refl refl refl
-view_bounded s now (command.SetRider rider blocked) sound later = plain_bounded now (view_of s (command.SetRider rider blocked)) refl refl refl refl refl
 view_bounded s now (command.TopUp rider amount) sound later = record {
   few_rentals = λ room. omega arith;
   rider = λ room. rider_bounded s rider (finmap.get s.riders rider) sound room;
@@ -192,8 +178,6 @@ view_bounded s now (command.Refund rental amount) sound later = record {
   ends = tt;
   filled = tt;
 }
-view_bounded s now (command.OpenOrder truck from_end to_end type_id count) sound later =
-    plain_bounded now (view_of s (command.OpenOrder truck from_end to_end type_id count)) refl refl refl refl refl
 view_bounded s now (command.Load truck order bike) sound later = record {
   few_rentals = λ room. omega arith;
   rider = λ room. tt;
@@ -214,11 +198,4 @@ view_bounded s now (command.CloseOrder order) sound later = record {
   ends = tt;
   filled = order_filled s order sound;
 }
-view_bounded s now (command.AddRegion r) sound later = plain_bounded now (view_of s (command.AddRegion r)) refl refl refl refl refl
-view_bounded s now (command.SetRegion station region) sound later = plain_bounded now (view_of s (command.SetRegion station region)) refl refl refl refl refl
-view_bounded s now (command.AddName kind id language name) sound later = plain_bounded now (view_of s (command.AddName kind id language name)) refl refl refl refl refl
-view_bounded s now (command.SetName kind id language name) sound later = plain_bounded now (view_of s (command.SetName kind id language name)) refl refl refl refl refl
-view_bounded s now (command.RemoveName kind id language) sound later = plain_bounded now (view_of s (command.RemoveName kind id language)) refl refl refl refl refl
-view_bounded s now (command.ChangeSystem x) sound later = plain_bounded now (view_of s (command.ChangeSystem x)) refl refl refl refl refl
-view_bounded s now (command.MoveStation station p) sound later = plain_bounded now (view_of s (command.MoveStation station p)) refl refl refl refl refl
-view_bounded s now (command.AddDocks station count) sound later = plain_bounded now (view_of s (command.AddDocks station count)) refl refl refl refl refl
+view_bounded s now c sound later = plain_bounded now (view_of s c) refl refl refl refl refl

@@ -19,8 +19,8 @@ pub fn view_law()
         → IsCommand c → s.now ≤ now → IsBounded (view_of s c) now }
 {}
 
-/// The law of the ledger's room: a sound operator has no more open rentals than bicycles, so that few entries leave room
-/// without a count of open rentals.
+/// The law of the ledger's room: a sound operator has no more open rentals than bicycles, so that few entries leave
+/// room without a count of open rentals.
 pub fn ledger_room_law()
     ensures bikes { (s : Operator) → IsSound s → open_rentals s ≤ len s.bikes }
     ensures few { (s : Operator) → IsSound s → open_rentals s ≤ MOST_BIKES }

@@ -1,9 +1,11 @@
 //! What one more entry does to the sums.
 
-ghost use Rattle.std.specs.Prelude.{◌≡◌, ◌≢◌, ◌<◌, ◌↔◌, ◌++◌, ◌∷◌, [], ◌+ℤ◌, ◌-ℤ◌, ◌≤ℤ◌, pos, length, IsTrue, List, ℕ, ℤ};
+ghost use Rattle.std.specs.Prelude.{◌≡◌, ◌≢◌, ◌<◌, ◌↔◌, ◌++◌, ◌∷◌, [], ◌+ℤ◌, ◌-ℤ◌, ◌≤ℤ◌, pos, length, IsTrue, List, ℕ};
+ghost use Rattle.std.specs.Prelude.{ℤ};
 ghost use Rattle.bike_fields.specs.declared.numbers.TheConstants.{GREATEST_SERIAL};
 ghost use Rattle.bike_ledger.specs.Entries.{Entry};
-ghost use Rattle.bike_ledger.specs.Ledger.{total, credit, cash_in, revenue_in, given_back_of, share, balance_of, cash_of, revenue_of, refunded_of, IsAmount, IsBalance, AreAmounts};
+ghost use Rattle.bike_ledger.specs.Ledger.{total, credit, cash_in, revenue_in, given_back_of, share, balance_of};
+ghost use Rattle.bike_ledger.specs.Ledger.{cash_of, revenue_of, refunded_of, IsAmount, IsBalance, AreAmounts};
 ghost use Rattle.bike_ledger.specs.Money.{AreDistinct, AreOf, IsConserved};
 
 use crate::entry::{Entry, EntryKind};

@@ -125,11 +125,11 @@ impl Judge for EntryJudge {
     }
 }
 
-/// The first bad key of `entries`, where all tables before it are good: a row that spells no entry, one whose number isn't the next,
-/// that is past the limit with the open rentals, whose rider is missing, that is after the last accepted request, or that is a fare
-/// or a refund of no closed rental of the rider, a fare of another amount, or a second fare. It takes 8 bytes of memory for each
-/// rental, and a byte or two for each number of a rider. `NoMemory` where memory is refused, `StoreFailed` where the database fails
-/// or a count passes 64 bits.
+/// The first bad key of `entries`, where all tables before it are good: a row that spells no entry, one whose number
+/// isn't the next, that is past the limit with the open rentals, whose rider is missing, that is after the last
+/// accepted request, or that is a fare or a refund of no closed rental of the rider, a fare of another amount, or a
+/// second fare. It takes 8 bytes of memory for each rental, and a byte or two for each number of a rider. `NoMemory`
+/// where memory is refused, `StoreFailed` where the database fails or a count passes 64 bits.
 pub fn judge_entries<S: Alter>(
     alloc: Global,
     conn: &mut Connection<S>,

@@ -5,7 +5,9 @@ ghost use Rattle.std.specs.FinSet as set;
 ghost use Rattle.bike_rows.specs.Calls.{ReadsWhere};
 ghost use Rattle.bike_schema.specs.Tables.{IsOurs, tables_of};
 ghost use Rattle.bike_readings.specs.Views.{place_of};
-ghost use Rattle.bike_ledger_rules.specs.Known.{value_at, has_rider, is_listed, with_rider, rental_at, bike_rental, with_bike, has_plan, with_plan, has_station, with_station, known_in, held_in};
+ghost use Rattle.bike_ledger_rules.specs.Known.{value_at, has_rider, is_listed, with_rider, rental_at, bike_rental};
+ghost use Rattle.bike_ledger_rules.specs.Known.{with_bike, has_plan, with_plan, has_station, with_station, known_in};
+ghost use Rattle.bike_ledger_rules.specs.Known.{held_in};
 
 use crate::idents::Idents;
 use crate::numbers::ByNumber;
@@ -125,7 +127,8 @@ pub(crate) fn read_riders<S: Alter>(
     Ok(riders.numbers)
 }
 
-/// The numbers of all bicycles, each with the rental in which it is, if any. Of the lines with their trucks it takes the bicycles.
+/// The numbers of all bicycles, each with the rental in which it is, if any. Of the lines with their trucks it takes
+/// the bicycles.
 fn read_bikes<S: Alter>(
     alloc: Global,
     conn: &mut Connection<S>,

@@ -1,11 +1,11 @@
 //! The rules of riders, rentals and entries in code: for each table the first bad key.
 //!
-//! `specs/Riders`, `specs/Rentals` and `specs/Entries` say what is asked of the lines of the audit's queries; each function answers
-//! by `JudgesTable` of bike_judges.
+//! `specs/Riders`, `specs/Rentals` and `specs/Entries` say what is asked of the lines of the audit's queries; each
+//! function answers by `JudgesTable` of bike_judges.
 //!
-//! Each query walks one table in the order of its key, alone or with one partner beside each row, so the database holds no table
-//! in memory. What each rental or entry names is read once, into sets of numbers and identifiers (`known`), which the limits of a city
-//! bound. What is summed over another table stands in `Sums`, an array by number.
+//! Each query walks one table in the order of its key, alone or with one partner beside each row, so the database holds
+//! no table in memory. What each rental or entry names is read once, into sets of numbers and identifiers (`known`),
+//! which the limits of a city bound. What is summed over another table stands in `Sums`, an array by number.
 #![tactic(auto)]
 
 mod columns;

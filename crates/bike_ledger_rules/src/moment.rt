@@ -22,7 +22,8 @@ fn find_meta_row<S: Alter>(conn: &mut Connection<S>) -> Result<Option<Row>, Stat
     first_row(conn, "SELECT * FROM meta WHERE one = ?1", params![1_i64])
 }
 
-/// The moment in row 1 of `meta`. `StoreFailed` where there is none, or the database fails; `NoMemory` where memory is refused.
+/// The moment in row 1 of `meta`. `StoreFailed` where there is none, or the database fails; `NoMemory` where memory is
+/// refused.
 pub(crate) fn find_moment<S: Alter>(conn: &mut Connection<S>) -> Result<Moment, StatementFault>
     ensures { ReadsWhere S.Store IsOurs conn.old conn.new result
         (λ db moment. MetaGood (tables_of db) → moment ≡ moment_of (tables_of db).meta) }

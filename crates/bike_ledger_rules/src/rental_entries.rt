@@ -43,8 +43,8 @@ impl LineFold for RentalEntries {
     }
 }
 
-/// Whether a rental has a fare where it is closed, and what its row has as refunded is what its entries give back, in hundredths, and
-/// its fare at most.
+/// Whether a rental has a fare where it is closed, and what its row has as refunded is what its entries give back, in
+/// hundredths, and its fare at most.
 fn is_booked(rental: &StoredRental<'_>, fares: i64, refunded: i64) -> bool
     ensures { result ≡ is_booked fares refunded (rental_of rental.now).1 (rental_of rental.now).2 }
 {
@@ -56,7 +56,8 @@ fn is_booked(rental: &StoredRental<'_>, fares: i64, refunded: i64) -> bool
 }
 
 impl RentalEntries {
-    /// Whether it has the next number where so many stand before it, and is booked with the fares and refunds of its number.
+    /// Whether it has the next number where so many stand before it, and is booked with the fares and refunds of its
+    /// number.
     pub(crate) fn has_books(&self, before: u64, rental: &StoredRental<'_>) -> bool
         ensures { result ≡ books_test (sum_at self.now.fares) (sum_at self.now.refunds) before (rental_of rental.now) }
     {
@@ -78,8 +79,8 @@ fn no_entries(alloc: Global, next: usize) -> Result<RentalEntries, StatementFaul
     Ok(RentalEntries { fares, refunds })
 }
 
-/// What the entries of each rental come to, for each number that a good rental has. `NoMemory` where memory is refused, `StoreFailed`
-/// where the database fails or a sum passes 64 bits.
+/// What the entries of each rental come to, for each number that a good rental has. `NoMemory` where memory is refused,
+/// `StoreFailed` where the database fails or a sum passes 64 bits.
 pub(crate) fn sum_entries<S: Alter>(
     alloc: Global,
     conn: &mut Connection<S>,

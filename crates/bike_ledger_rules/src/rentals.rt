@@ -103,11 +103,12 @@ impl LineTest for RentalTest {
     }
 }
 
-/// The first bad key of `rentals`, where all tables before it are good: a row that spells no rental, one whose number isn't the next,
-/// whose rider, bicycle, plan or station is missing, whose moments are wrong, whose bicycle is elsewhere while it is open, that is
-/// closed with no fare, or whose refunds are not what is stored or over the fare. It takes 16 bytes of memory for each rental, and
-/// holds the numbers of riders and bicycles and the identifiers of plans and stations. `NoMemory` where memory is refused,
-/// `StoreFailed` where the database fails or a sum passes 64 bits.
+/// The first bad key of `rentals`, where all tables before it are good: a row that spells no rental, one whose number
+/// isn't the next, whose rider, bicycle, plan or station is missing, whose moments are wrong, whose bicycle is
+/// elsewhere while it is open, that is closed with no fare, or whose refunds are not what is stored or over the fare.
+/// It takes 16 bytes of memory for each rental, and holds the numbers of riders and bicycles and the identifiers of
+/// plans and stations. `NoMemory` where memory is refused, `StoreFailed` where the database fails or a sum passes 64
+/// bits.
 pub fn judge_rentals<S: Alter>(
     alloc: Global,
     conn: &mut Connection<S>,

@@ -7,7 +7,8 @@ ghost use Rattle.bike_schema.specs.Tables.{IsOurs, tables_of};
 ghost use Rattle.bike_readings.specs.ReadOff.{operator_of};
 ghost use Rattle.bike_judges.specs.Verdicts.{JudgesTable};
 ghost use Rattle.bike_ledger_rules.specs.Lines.{FindsFailing, first_column};
-ghost use Rattle.bike_ledger_rules.specs.Riders.{with_number, with_entry, with_rental, with_credit, with_ride, rider_test, ArePast};
+ghost use Rattle.bike_ledger_rules.specs.Riders.{with_number, with_entry, with_rental, with_credit, with_ride};
+ghost use Rattle.bike_ledger_rules.specs.Riders.{rider_test, ArePast};
 
 use crate::columns::number_key;
 use crate::sums::Sums;
@@ -152,9 +153,9 @@ fn judge_rows<S: Alter>(
     )
 }
 
-/// The first bad key of `riders`: a row that spells no rider, a rider past the limit, one whose stored balance isn't the sum of his
-/// entries, or one with two open rentals. `NoMemory` where memory is refused, `StoreFailed` where the database fails or a sum
-/// passes 64 bits.
+/// The first bad key of `riders`: a row that spells no rider, a rider past the limit, one whose stored balance isn't
+/// the sum of his entries, or one with two open rentals. `NoMemory` where memory is refused, `StoreFailed` where the
+/// database fails or a sum passes 64 bits.
 pub fn judge_riders<S: Alter>(
     alloc: Global,
     conn: &mut Connection<S>,

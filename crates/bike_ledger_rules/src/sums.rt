@@ -41,8 +41,8 @@ impl Sums {
         }
     }
 
-    /// Adds the amount to the number's sum; past the end it changes nothing. `StoreFailed` where the sum passes 64 bits; the sums
-    /// are then as they were.
+    /// Adds the amount to the number's sum; past the end it changes nothing. `StoreFailed` where the sum passes 64
+    /// bits; the sums are then as they were.
     pub(crate) fn add(&mut self, number: usize, amount: i64) -> Result<(), StatementFault>
         ensures added { OnOk result (self.new ≡ with_added self.old number amount) }
         ensures fault { IfErr result (λ fault. fault ≡ StoreFailed) }

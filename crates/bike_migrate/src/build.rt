@@ -10,7 +10,8 @@ ghost use Rattle.sqlite.specs.Effect.{IsDatabase};
 ghost use Rattle.bike_migrate.specs.Calls.{ChangesInside};
 ghost use Rattle.bike_schema.specs.Indexes.{more_names_by_language, more_names_by_thing};
 ghost use Rattle.bike_migrate.specs.Raised.{IsUnnamed, AreUnnamed, HasStations, HasOld};
-ghost use Rattle.bike_migrate.specs.Raised.{MakesTable, MakesIndex, MakesIndexes, MakesNewer, MakesTables, Fills, DropsStations};
+ghost use Rattle.bike_migrate.specs.Raised.{MakesTable, MakesIndex, MakesIndexes, MakesNewer, MakesTables, Fills};
+ghost use Rattle.bike_migrate.specs.Raised.{DropsStations};
 
 use crate::copy::fill;
 use crate::inside::run;

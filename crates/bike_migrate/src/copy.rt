@@ -72,7 +72,8 @@ fn put_station<S: Alter>(conn: &mut Connection<S>, row: &Row) -> Result<(), Stat
     )
 }
 
-/// Adds a station as the old table has it. A sound database stores in a column only what suits it: anything else is `StoreFailed`.
+/// Adds a station as the old table has it. A sound database stores in a column only what suits it: anything else is
+/// `StoreFailed`.
 fn copy_station<S: Alter>(conn: &mut Connection<S>, row: &Row) -> Result<(), StatementFault>
     ensures { ChangesInside S.Store IsOurs conn.old conn.new result (WritesOnly (station_writes (row.now ∷ []))) }
 {

@@ -43,8 +43,8 @@ pub enum RaiseCause {
     Newer(u64),
     /// Memory was refused. What is stored stands for the operator for which it stood.
     NoMemory,
-    /// The store failed, or failed to undo what was begun before memory was refused. What is stored stands for the operator for which
-    /// it stood.
+    /// The store failed, or failed to undo what was begun before memory was refused. What is stored stands for the
+    /// operator for which it stood.
     StoreFailed,
 }
 

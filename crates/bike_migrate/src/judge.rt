@@ -81,8 +81,8 @@ fn first_of(found: Option<BadRow>, over: Option<Row>) -> Option<BadRow>
     }
 }
 
-/// The first bad row of the raised tables, by the rules of the audit and the bound of docks, where `rows` are those of the old table of
-/// stations. `watch` is told of each table before it is judged.
+/// The first bad row of the raised tables, by the rules of the audit and the bound of docks, where `rows` are those of
+/// the old table of stations. `watch` is told of each table before it is judged.
 pub(crate) fn judge<S: Alter, P: Watch>(
     alloc: Global,
     conn: &mut Connection<S>,

@@ -7,7 +7,8 @@ ghost use Rattle.bike_adoption.specs.Audit.{row_name};
 ghost use Rattle.bike_recognition.specs.Recognition.{ReadsAny};
 ghost use Rattle.bike_migrate.specs.Calls.{DoesInside};
 ghost use Rattle.bike_migrate.specs.Raised.{WasRead};
-ghost use Rattle.bike_migrate.specs.Raising.{IsOnNewest, IsJudged, Attempts, IsCommitted, IsUndone, CommitsBy, EndsTransaction};
+ghost use Rattle.bike_migrate.specs.Raising.{IsOnNewest, IsJudged, Attempts, IsCommitted, IsUndone, CommitsBy};
+ghost use Rattle.bike_migrate.specs.Raising.{EndsTransaction};
 ghost use Rattle.bike_migrate.specs.Raising.{RaisesInPlace, cause_of, ComesTo, IsRaise};
 
 use crate::build::{build, drop_stations};
@@ -22,7 +23,8 @@ use bike_schema::{StatementFault, has_room};
 use sqlite::{Alter, Connection, Row};
 use std::alloc::Global;
 
-/// Makes the newest tables and judges them. Where no row is bad the old table of stations is dropped. `rows` are its rows.
+/// Makes the newest tables and judges them. Where no row is bad the old table of stations is dropped. `rows` are its
+/// rows.
 fn raise_inside<S: Alter, P: Watch>(
     alloc: Global,
     conn: &mut Connection<S>,
@@ -121,7 +123,8 @@ fn attempt_whole<S: Alter, P: Watch>(
     end(conn, bad)
 }
 
-/// Raises the database of the version, or tells its first bad row and leaves it as it is. No transaction is open then, whatever it answers.
+/// Raises the database of the version, or tells its first bad row and leaves it as it is. No transaction is open then,
+/// whatever it answers.
 fn raise_earlier<S: Alter, P: Watch>(
     alloc: Global,
     conn: &mut Connection<S>,
@@ -205,8 +208,8 @@ pub fn raise<S: Alter>(alloc: Global, conn: Connection<S>) -> Result<Connection<
     raise_watched(alloc, conn, &mut Unwatched)
 }
 
-/// Raises the database as `raise` does, and tells `watch` of each table before it is audited, so that a caller can show how far
-/// the audit is.
+/// Raises the database as `raise` does, and tells `watch` of each table before it is audited, so that a caller can show
+/// how far the audit is.
 pub fn raise_watched<S: Alter, P: Watch>(
     alloc: Global,
     mut conn: Connection<S>,

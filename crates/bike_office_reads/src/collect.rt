@@ -1,5 +1,5 @@
-//! All rows of a walk, each read where the engine has it. A copy of a row, as `query_all` makes it, takes some two fifths of what the walk
-//! takes.
+//! All rows of a walk, each read where the engine has it. A copy of a row, as `query_all` makes it, takes some two
+//! fifths of what the walk takes.
 
 ghost use Rattle.std.specs.Prelude.{◌≡◌, false, IfOk, OnOk, OnErr};
 ghost use Rattle.std.specs.List.{AllZip};
@@ -25,7 +25,8 @@ pub trait ReadRow: Drop {
     /// What it holds of the row.
     ghost reads: { Row → Self → Type 0 };
 
-    /// What stands in the row. `StoreFailed` where it holds what the product never writes, `NoMemory` where a text finds no room.
+    /// What stands in the row. `StoreFailed` where it holds what the product never writes, `NoMemory` where a text
+    /// finds no room.
     fn read(alloc: Global, row: &Row) -> Result<Self, StatementFault>
         ensures { IfOk result (reads row.now) };
 }
@@ -74,8 +75,8 @@ fn read_next<S: Alter, R: ReadRow>(
     }
 }
 
-/// What is read of all rows that are to come, one after another. `NoMemory` where memory is refused; every other fault is the
-/// database's, or one of a row that can't be read.
+/// What is read of all rows that are to come, one after another. `NoMemory` where memory is refused; every other fault
+/// is the database's, or one of a row that can't be read.
 pub fn collect_rows<S: Alter, R: ReadRow>(
     alloc: Global,
     rows: &mut Rows<'_, S>,

@@ -1,8 +1,8 @@
-//! The reads of the tables of riders, rentals, plans, further names, the ledger and kept requests. Each answers what the
-//! operator has whose tables stand in the database, and changes nothing.
+//! The reads of the tables of riders, rentals, plans, further names, the ledger and kept requests. Each answers what
+//! the operator has whose tables stand in the database, and changes nothing.
 //!
-//! Some give rows, for a walk or a page that reads them (`select_names`, `find_plan_row_from`). `collect_rows` reads all rows of a walk
-//! where the engine has them, into what a `ReadRow` keeps of each.
+//! Some give rows, for a walk or a page that reads them (`select_names`, `find_plan_row_from`). `collect_rows` reads
+//! all rows of a walk where the engine has them, into what a `ReadRow` keeps of each.
 #![tactic(auto)]
 
 mod collect;

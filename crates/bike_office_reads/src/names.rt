@@ -98,13 +98,14 @@ fn begin_names<'a, S: Alter>(
         (λ db. map owned_name (filter (is_name_within kind first.now last.now) (tables_of db).more_names)) }
 {
     conn.query(
-        "SELECT id, language, name FROM more_names WHERE kind = ?1 AND id >= ?2 AND id <= ?3 ORDER BY kind, id, language",
+        "SELECT id, language, name FROM more_names WHERE kind = ?1 AND id >= ?2 AND id <= ?3 \
+         ORDER BY kind, id, language",
         params![kind.as_str(), first, last],
     )
 }
 
-/// The rows of the further names of a kind, those of the identifiers from one up to another: each with its identifier before it, in
-/// byte order of identifiers and languages.
+/// The rows of the further names of a kind, those of the identifiers from one up to another: each with its identifier
+/// before it, in byte order of identifiers and languages.
 pub fn select_names<S: Alter>(
     alloc: Global,
     conn: &mut Connection<S>,
@@ -172,8 +173,8 @@ fn read_system_key(alloc: Global, row: &Row) -> Result<(Ident, Language), Statem
     Ok((system_id, language))
 }
 
-/// The system's identifier and its language, if the system is set. `NoMemory` where they find no room; every other fault
-/// is the database's.
+/// The system's identifier and its language, if the system is set. `NoMemory` where they find no room; every other
+/// fault is the database's.
 pub fn find_system_key<S: Alter>(
     alloc: Global,
     conn: &mut Connection<S>,

@@ -6,7 +6,8 @@ ghost use Rattle.bike_book.specs.Tables.{Rentals};
 ghost use Rattle.bike_book.specs.Found.{rows_of, rows_open};
 ghost use Rattle.bike_book.specs.Stored.{stored_rental};
 ghost use Rattle.bike_schema.specs.Answers.{Answers};
-ghost use Rattle.bike_office_reads.specs.Newest.{NewestTells, newest_rental, number_if_open, newest_open, newest_number, open_after, ride_of};
+ghost use Rattle.bike_office_reads.specs.Newest.{NewestTells, newest_rental, number_if_open, newest_open};
+ghost use Rattle.bike_office_reads.specs.Newest.{newest_number, open_after, ride_of};
 
 use crate::numbers::last_number;
 use bike_book::columns::rentals;

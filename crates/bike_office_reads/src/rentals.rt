@@ -143,8 +143,9 @@ fn read_number(row: &Option<Row>) -> Result<Option<RentalNumber>, StatementFault
     }
 }
 
-/// The number of the rider's open rental, where there is one. Where the caller knows that each open rental is its rider's
-/// newest, as `newest_tells` answers, the newest alone is read; else his rentals are walked. Every fault is the database's.
+/// The number of the rider's open rental, where there is one. Where the caller knows that each open rental is its
+/// rider's newest, as `newest_tells` answers, the newest alone is read; else his rentals are walked. Every fault is the
+/// database's.
 pub fn find_open_rental<S: Alter>(
     conn: &mut Connection<S>,
     rider: RiderNumber,
@@ -181,8 +182,8 @@ pub fn rental_count<S: Alter>(conn: &mut Connection<S>) -> Result<u32, Statement
     last_number(&row)
 }
 
-/// How many rentals are open, by their rows: no more than there are bicycles. `NoMemory` where these find no room; every other
-/// fault is the database's.
+/// How many rentals are open, by their rows: no more than there are bicycles. `NoMemory` where these find no room;
+/// every other fault is the database's.
 pub fn open_rental_count<S: Alter>(conn: &mut Connection<S>) -> Result<u32, StatementFault>
     ensures { Answers S.Store conn.old conn.new result (λ s m x. x ≡ open_rentals s) }
 {

@@ -120,8 +120,8 @@ pub fn find_rider<S: Alter>(
     }
 }
 
-/// The balance of the rider of a rental. `StoreFailed` where there is no rider of this number, as no rental lacks its rider;
-/// every other fault is the database's.
+/// The balance of the rider of a rental. `StoreFailed` where there is no rider of this number, as no rental lacks its
+/// rider; every other fault is the database's.
 pub fn find_rider_balance<S: Alter>(
     conn: &mut Connection<S>,
     rider: RiderNumber,

@@ -1,8 +1,9 @@
-//! The operator of a bike share, defined: what it keeps, when it is sound, its 30 commands with their tests, effects and
-//! replies, and the view by which a command is decided.
+//! The operator of a bike share, defined: what it keeps, when it is sound, its 30 commands with their tests, effects
+//! and replies, and the view by which a command is decided.
 //!
 //! The code here is data: the records and how many there may be, where a bicycle is put, and the view of an operator
-//! for a command, with the test whether its numbers are those of a sound one. Decisions, and what they make, stand above.
+//! for a command, with the test whether its numbers are those of a sound one. Decisions, and what they make, stand
+//! above.
 #![tactic(auto)]
 
 mod bounds;

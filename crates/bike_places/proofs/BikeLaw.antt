@@ -202,8 +202,6 @@ for_order order truck p is e =
     subst T f itself
 
 pub bikes_law : AcceptedKeeps AreBikesSound
-bikes_law s now (command.SetSystem x) k order good free late = unchanged s now (command.SetSystem x) k refl order.bikes
-bikes_law s now (command.AddPlan p) k order good free late = unchanged s now (command.AddPlan p) k refl order.bikes
 bikes_law s now (command.AddType t) k order good free late =
     types_bikes (at_moment s now k) (map.insert s.types t.type_id t) (known_added text_order s.types t.type_id t) (later_bikes s now k order.bikes)
 bikes_law s now (command.SetPlan type_id plan) k order good free late =
@@ -229,10 +227,6 @@ bikes_law s now (command.RetireBike bike) k order good free late =
     let tested = none_holds (tests (view_of s (command.RetireBike bike)) (command.RetireBike bike)) free in
     bike_marked_bikes (at_moment s now k) bike Retired
     (λ b found e. depot_of b.place (holds (is_depot b.place) (on_row (λ (b : Bike). not (is_depot b.place)) (map.get s.bikes bike) b found tested.1.1.0))) (later_bikes s now k order.bikes)
-bikes_law s now (command.AddTruck truck capacity) k order good free late = unchanged s now (command.AddTruck truck capacity) k refl order.bikes
-bikes_law s now (command.AddRider rider) k order good free late = unchanged s now (command.AddRider rider) k refl order.bikes
-bikes_law s now (command.SetRider rider blocked) k order good free late = unchanged s now (command.SetRider rider blocked) k refl order.bikes
-bikes_law s now (command.TopUp rider amount) k order good free late = unchanged s now (command.TopUp rider amount) k refl order.bikes
 bikes_law s now (command.Start rider station dock) k order good free late =
     let tested = none_holds (tests (view_of s (command.Start rider station dock)) (command.Start rider station dock)) free in
     started_bikes s now k rider station dock (docked_view s (docked_at s station dock)) refl tested.1.1.1.1.1.1.1.1.1.0 (later_bikes s now k order.bikes)
@@ -272,15 +266,11 @@ bikes_law s now (command.CloseOrder order) k o good free late =
     let none = no_more (order_load s order) tested.1.1.0 in
     order_changed_bikes (at_moment s now k) order (λ o. record o { is_open = false }) (λ bike b truck found is. for_order order truck b.place is (uncounted number_order (λ (y : Bike). is_for_order order y.place) s.bikes bike b none found))
     (later_bikes s now k o.bikes)
-bikes_law s now (command.AddRegion r) k order good free late = unchanged s now (command.AddRegion r) k refl order.bikes
 bikes_law s now (command.SetRegion station region) k order good free late =
     let at : Operator = at_moment s now k in
     let f : Station → Station = λ x. record x { region = region } in
     stations_bikes at (key_changed s.stations station f) (docks_changed at (record at { stations = key_changed s.stations station f }) station f (λ x. omega arith) refl) (later_bikes s now k order.bikes)
-bikes_law s now (command.AddName kind id language name) k order good free late = unchanged s now (command.AddName kind id language name) k refl order.bikes
 bikes_law s now (command.SetName kind id language name) k order good free late = named_bikes s now k kind id language name (is_own_language s.system language) order.bikes
-bikes_law s now (command.RemoveName kind id language) k order good free late = unchanged s now (command.RemoveName kind id language) k refl order.bikes
-bikes_law s now (command.ChangeSystem x) k order good free late = unchanged s now (command.ChangeSystem x) k refl order.bikes
 bikes_law s now (command.MoveStation station p) k order good free late =
     let at : Operator = at_moment s now k in
     let f : Station → Station = λ x. record x { row = moved_to p x.row } in
@@ -289,3 +279,4 @@ bikes_law s now (command.AddDocks station count) k order good free late =
     let at : Operator = at_moment s now k in
     let f : Station → Station = λ x. record x { row = more_docks count x.row } in
     stations_bikes at (key_changed s.stations station f) (docks_changed at (record at { stations = key_changed s.stations station f }) station f (λ x. omega arith) refl) (later_bikes s now k order.bikes)
+bikes_law s now c k order good free late = unchanged s now c k refl order.bikes

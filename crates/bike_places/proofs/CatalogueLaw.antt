@@ -187,14 +187,8 @@ catalogue_law s now (command.MarkDock station dock broken) k order good free lat
     let no = none_holds (tests (view_of s (command.MarkDock station dock broken)) (command.MarkDock station dock broken)) free in
     let has = dock_of (at_moment s now k) station dock (map.get s.stations station) refl no.0 no.1.0 good.1.0.0 in
     station_reported (at_moment (dock_marked station dock broken s) now k) station now (omega arith) (dock_marked_catalogue (at_moment s now k) station dock broken has (later_catalogue s now k late order.catalogue))
-catalogue_law s now (command.AddBike bike type_id) k order good free late = unchanged s now (command.AddBike bike type_id) k late refl order.catalogue
 catalogue_law s now (command.MarkBike bike disabled) k order good free late =
     bike_reported_catalogue s now k (later_catalogue s now k late order.catalogue) (bike_marked bike (if disabled then Disabled else Fit) s).bikes (map.get s.bikes bike)
-catalogue_law s now (command.RetireBike bike) k order good free late = unchanged s now (command.RetireBike bike) k late refl order.catalogue
-catalogue_law s now (command.AddTruck truck capacity) k order good free late = unchanged s now (command.AddTruck truck capacity) k late refl order.catalogue
-catalogue_law s now (command.AddRider rider) k order good free late = unchanged s now (command.AddRider rider) k late refl order.catalogue
-catalogue_law s now (command.SetRider rider blocked) k order good free late = unchanged s now (command.SetRider rider blocked) k late refl order.catalogue
-catalogue_law s now (command.TopUp rider amount) k order good free late = unchanged s now (command.TopUp rider amount) k late refl order.catalogue
 catalogue_law s now (command.Start rider station dock) k order good free late =
     started_catalogue s now k (later_catalogue s now k late order.catalogue) rider station (docked_view s (docked_at s station dock))
 catalogue_law s now (command.End bike station dock) k order good free late =
@@ -202,13 +196,10 @@ catalogue_law s now (command.End bike station dock) k order good free late =
 catalogue_law s now (command.Recover rental) k order good free late = recovered_catalogue s now k (later_catalogue s now k late order.catalogue) (rental_view s rental (item_numbered rental s.rentals))
 catalogue_law s now (command.Refund rental amount) k order good free late =
     refunded_catalogue s now k (later_catalogue s now k late order.catalogue) amount (rental_view s rental (item_numbered rental s.rentals))
-catalogue_law s now (command.OpenOrder truck from_end to_end type_id count) k order good free late =
-    unchanged s now (command.OpenOrder truck from_end to_end type_id count) k late refl order.catalogue
 catalogue_law s now (command.Load truck order bike) k o good free late =
     bike_reported_catalogue s now k (later_catalogue s now k late o.catalogue) (bike_placed bike (place.Truck truck order) s).bikes (map.get s.bikes bike)
 catalogue_law s now (command.Unload truck order bike side dock) k o good free late =
     unloaded_catalogue s now k (later_catalogue s now k late o.catalogue) order bike side dock (item_numbered order s.orders)
-catalogue_law s now (command.CloseOrder order) k o good free late = unchanged s now (command.CloseOrder order) k late refl o.catalogue
 catalogue_law s now (command.AddRegion r) k order good free late =
     let no = none_holds (tests (view_of s (command.AddRegion r)) (command.AddRegion r)) free in
     region_added (at_moment s now k) r (record { id_is = refl; good = record { region_id = good.0; name = good.1.0 } }) no.1.0 (later_catalogue s now k late order.catalogue)
@@ -217,10 +208,8 @@ catalogue_law s now (command.SetRegion station region) k order good free late =
     let there : has_region (at_moment s now k) region ≡ true = region_stands s (at_moment s now k) (λ id known. known) region (holds (has_region s region) no.1.0) in
     station_changed (at_moment s now k) station (λ x. record x { region = region })
     (record { id = λ x. refl; docks = λ x. omega arith; good = λ x found good. good; by_now = λ x old. old; region = λ x known. there }) (later_catalogue s now k late order.catalogue)
-catalogue_law s now (command.AddName kind id language name) k order good free late = unchanged s now (command.AddName kind id language name) k late refl order.catalogue
 catalogue_law s now (command.SetName kind id language name) k order good free late =
     named_catalogue s now k id name good.1.1.1.0 (later_catalogue s now k late order.catalogue) kind language (is_own_language s.system language)
-catalogue_law s now (command.RemoveName kind id language) k order good free late = unchanged s now (command.RemoveName kind id language) k late refl order.catalogue
 catalogue_law s now (command.ChangeSystem x) k order good free late =
     let settings : IsSettings x = record {
       name = good.0;
@@ -260,3 +249,4 @@ catalogue_law s now (command.AddDocks station count) k order good free late =
       by_now = λ x old. old;
       region = λ x known. known;
     }) (later_catalogue s now k late order.catalogue)
+catalogue_law s now c k order good free late = unchanged s now c k late refl order.catalogue

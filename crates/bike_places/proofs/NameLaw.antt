@@ -206,15 +206,9 @@ names_law s now (command.SetStation station installed renting returning) k order
     kept_names s (effect s now (command.SetStation station installed renting returning)) now k (with_stations s (key_changed s.stations station f) (known_changed text_order s.stations station f)) order.names
 names_law s now (command.MarkDock station dock broken) k order good free late =
     kept_names s (effect s now (command.MarkDock station dock broken)) now k (reported s now (dock_marked station dock broken s) station (others s (dock_marked station dock broken s) refl refl)) order.names
-names_law s now (command.AddBike bike type_id) k order good free late = unchanged s now (command.AddBike bike type_id) k refl refl order.names
 names_law s now (command.MarkBike bike disabled) k order good free late =
     let n : Operator = bike_marked bike (if disabled then Disabled else Fit) s in
     kept_names s (effect s now (command.MarkBike bike disabled)) now k (bike_reports s now n (map.get s.bikes bike) (others s n refl refl)) order.names
-names_law s now (command.RetireBike bike) k order good free late = unchanged s now (command.RetireBike bike) k refl refl order.names
-names_law s now (command.AddTruck truck capacity) k order good free late = unchanged s now (command.AddTruck truck capacity) k refl refl order.names
-names_law s now (command.AddRider rider) k order good free late = unchanged s now (command.AddRider rider) k refl refl order.names
-names_law s now (command.SetRider rider blocked) k order good free late = unchanged s now (command.SetRider rider blocked) k refl refl order.names
-names_law s now (command.TopUp rider amount) k order good free late = unchanged s now (command.TopUp rider amount) k refl refl order.names
 names_law s now (command.Start rider station dock) k order good free late =
     kept_names s (effect s now (command.Start rider station dock)) now k (started s now rider station (docked_view s (docked_at s station dock))) order.names
 names_law s now (command.End bike station dock) k order good free late =
@@ -223,13 +217,11 @@ names_law s now (command.Recover rental) k order good free late =
     kept_names s (effect s now (command.Recover rental)) now k (recovered s now (rental_view s rental (item_numbered rental s.rentals))) order.names
 names_law s now (command.Refund rental amount) k order good free late =
     kept_names s (effect s now (command.Refund rental amount)) now k (refunded s now amount (rental_view s rental (item_numbered rental s.rentals))) order.names
-names_law s now (command.OpenOrder truck from_end to_end type_id count) k order good free late = unchanged s now (command.OpenOrder truck from_end to_end type_id count) k refl refl order.names
 names_law s now (command.Load truck order bike) k o good free late =
     let n : Operator = bike_placed bike (place.Truck truck order) s in
     kept_names s (effect s now (command.Load truck order bike)) now k (bike_reports s now n (map.get s.bikes bike) (others s n refl refl)) o.names
 names_law s now (command.Unload truck order bike side dock) k o good free late =
     kept_names s (effect s now (command.Unload truck order bike side dock)) now k (unloaded s now order bike side dock (item_numbered order s.orders)) o.names
-names_law s now (command.CloseOrder order) k o good free late = unchanged s now (command.CloseOrder order) k refl refl o.names
 names_law s now (command.AddRegion r) k order good free late =
     kept_names s (effect s now (command.AddRegion r)) now k (with_regions s (map.insert s.regions r.region_id r) (known_added text_order s.regions r.region_id r)) order.names
 names_law s now (command.SetRegion station region) k order good free late =
@@ -267,3 +259,4 @@ names_law s now (command.MoveStation station p) k order good free late =
 names_law s now (command.AddDocks station count) k order good free late =
     let f : Station → Station = λ x. record x { row = more_docks count x.row } in
     kept_names s (effect s now (command.AddDocks station count)) now k (with_stations s (key_changed s.stations station f) (known_changed text_order s.stations station f)) order.names
+names_law s now c k order good free late = unchanged s now c k refl refl order.names

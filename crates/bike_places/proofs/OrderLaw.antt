@@ -156,8 +156,6 @@ unchanged : (s : Operator) (now : ℕ) (c : Command) (k : FinMap texts_cmp Kept)
 unchanged s now c k same h = same_orders s (at_moment (effect s now c) now k) same h
 
 pub orders_law : AcceptedKeeps AreOrdersSound
-orders_law s now (command.SetSystem x) k order good free late = unchanged s now (command.SetSystem x) k refl order.orders
-orders_law s now (command.AddPlan p) k order good free late = unchanged s now (command.AddPlan p) k refl order.orders
 orders_law s now (command.AddType t) k order good free late =
     known_orders (at_moment s now k) (map.insert s.types t.type_id t) s.stations (known_added text_order s.types t.type_id t) (λ id known. known) (later_orders s now k order.orders)
 orders_law s now (command.SetPlan type_id plan) k order good free late =
@@ -180,9 +178,6 @@ orders_law s now (command.AddTruck truck capacity) k order good free late =
     let none : truck_load s truck ≡ 0 = none_loaded s truck order.bikes order.orders absent in
     truck_added_orders (at_moment s now k) truck (record { capacity = capacity }) (record { low = good.0.0; high = good.0.1; some = good.1.0.0; most = good.1.0.1; holds = omega (arith, none) }) absent tested.1.0
     (later_orders s now k order.orders)
-orders_law s now (command.AddRider rider) k order good free late = unchanged s now (command.AddRider rider) k refl order.orders
-orders_law s now (command.SetRider rider blocked) k order good free late = unchanged s now (command.SetRider rider blocked) k refl order.orders
-orders_law s now (command.TopUp rider amount) k order good free late = unchanged s now (command.TopUp rider amount) k refl order.orders
 orders_law s now (command.Start rider station dock) k order good free late = started_orders s now k rider station (docked_view s (docked_at s station dock)) (later_orders s now k order.orders)
 orders_law s now (command.End bike station dock) k order good free late = ended_orders s now k bike station dock (rental_of s (map.get s.bikes bike)) (later_orders s now k order.orders)
 orders_law s now (command.Recover rental) k order good free late = recovered_orders s now k (rental_view s rental (item_numbered rental s.rentals)) (later_orders s now k order.orders)
@@ -220,17 +215,14 @@ orders_law s now (command.Unload truck order bike side dock) k o good free late 
 orders_law s now (command.CloseOrder order) k o good free late =
     let h = later_orders s now k o.orders in
     order_changed_orders (at_moment s now k) order (λ x. record x { is_open = false }) (λ x found. closed_order (at_moment s now k) order x (h.orders order x found)) h
-orders_law s now (command.AddRegion r) k order good free late = unchanged s now (command.AddRegion r) k refl order.orders
 orders_law s now (command.SetRegion station region) k order good free late =
     let f : Station → Station = λ x. record x { region = region } in
     known_orders (at_moment s now k) s.types (key_changed s.stations station f) (λ id known. known) (known_changed text_order s.stations station f) (later_orders s now k order.orders)
-orders_law s now (command.AddName kind id language name) k order good free late = unchanged s now (command.AddName kind id language name) k refl order.orders
 orders_law s now (command.SetName kind id language name) k order good free late = named_orders s now k kind id language name (is_own_language s.system language) order.orders
-orders_law s now (command.RemoveName kind id language) k order good free late = unchanged s now (command.RemoveName kind id language) k refl order.orders
-orders_law s now (command.ChangeSystem x) k order good free late = unchanged s now (command.ChangeSystem x) k refl order.orders
 orders_law s now (command.MoveStation station p) k order good free late =
     let f : Station → Station = λ x. record x { row = moved_to p x.row } in
     known_orders (at_moment s now k) s.types (key_changed s.stations station f) (λ id known. known) (known_changed text_order s.stations station f) (later_orders s now k order.orders)
 orders_law s now (command.AddDocks station count) k order good free late =
     let f : Station → Station = λ x. record x { row = more_docks count x.row } in
     known_orders (at_moment s now k) s.types (key_changed s.stations station f) (λ id known. known) (known_changed text_order s.stations station f) (later_orders s now k order.orders)
+orders_law s now c k order good free late = unchanged s now c k refl order.orders

@@ -6,7 +6,8 @@ ghost use Rattle.bike_operator.specs.Operator.{Operator};
 ghost use Rattle.bike_operator.specs.Counts.{docks_available, docks_broken};
 ghost use Rattle.bike_operator.specs.Sound.{AreBikesSound};
 ghost use Rattle.bike_places.specs.Numbers.{occupied_docks};
-ghost use Rattle.bike_places.specs.Laws.{IsMarkedAt, ShareLaw, HasDocks, HasPut, PutLaw, PutDocksLaw, HasMarked, MarkLaw};
+ghost use Rattle.bike_places.specs.Laws.{IsMarkedAt, ShareLaw, HasDocks, HasPut, PutLaw, PutDocksLaw, HasMarked};
+ghost use Rattle.bike_places.specs.Laws.{MarkLaw};
 
 /// The law of shares: what a bicycle adds to the numbers of stations, by its state and place.
 pub fn share_law()

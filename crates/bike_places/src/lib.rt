@@ -1,6 +1,6 @@
 //! What keeps the operator's stations, names, bicycles, trucks and orders sound; the numbers of a station that are
-//! stored, as counts over the operator's records, and how a bicycle that is put somewhere or a dock that is marked changes
-//! them.
+//! stored, as counts over the operator's records, and how a bicycle that is put somewhere or a dock that is marked
+//! changes them.
 #![tactic(auto)]
 
 mod counts;

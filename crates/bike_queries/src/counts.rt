@@ -118,8 +118,8 @@ fn begin_counts<'a, S: Alter>(
     )
 }
 
-/// The rows of the counts of the stations whose identifiers lie between two texts, both among them: station by station, of each at most
-/// one a vehicle type, in byte order of the types' identifiers.
+/// The rows of the counts of the stations whose identifiers lie between two texts, both among them: station by station,
+/// of each at most one a vehicle type, in byte order of the types' identifiers.
 pub(crate) fn select_counts<S: Alter>(
     alloc: Global,
     conn: &mut Connection<S>,
@@ -210,8 +210,8 @@ impl Tally {
     }
 }
 
-/// A station's bicycles of the types with these identifiers, by the rows of its counts. The list of types is put together in
-/// the room.
+/// A station's bicycles of the types with these identifiers, by the rows of its counts. The list of types is put
+/// together in the room.
 pub(crate) fn tally_rows(
     alloc: Global,
     type_ids: &[Ident],
@@ -235,8 +235,8 @@ pub(crate) fn tally_rows(
     Ok(tally)
 }
 
-/// A station's bicycles of the types with these identifiers, by one walk over the station's counts. The list of types is put
-/// together in the room.
+/// A station's bicycles of the types with these identifiers, by one walk over the station's counts. The list of types
+/// is put together in the room.
 pub(crate) fn find_tally<S: Alter>(
     alloc: Global,
     conn: &mut Connection<S>,
@@ -251,9 +251,9 @@ pub(crate) fn find_tally<S: Alter>(
     tally_rows(alloc, type_ids, counts.as_slice(), room)
 }
 
-/// The counts of the station, if it is there, by three statements: a look-up of the station, a walk over the types and a
-/// walk over the station's counts. The list of types is put together in the room, which best has a place for each of the
-/// `MOST_TYPES` types. `NoMemory` where an identifier finds none; every other fault is the database's.
+/// The counts of the station, if it is there, by three statements: a look-up of the station, a walk over the types and
+/// a walk over the station's counts. The list of types is put together in the room, which best has a place for each of
+/// the `MOST_TYPES` types. `NoMemory` where an identifier finds none; every other fault is the database's.
 pub fn find_station_counts<S: Alter>(
     alloc: Global,
     conn: &mut Connection<S>,

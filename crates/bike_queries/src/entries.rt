@@ -85,8 +85,8 @@ fn read_entry(row: &Row) -> Result<Entry, StatementFault>
     }
 }
 
-/// The first entry of a later number whose moment is `begin` or later and before `end`; `None` where there is none. Every fault
-/// is the database's.
+/// The first entry of a later number whose moment is `begin` or later and before `end`; `None` where there is none.
+/// Every fault is the database's.
 pub fn find_entry_after<S: Alter>(
     conn: &mut Connection<S>,
     number: u64,

@@ -14,8 +14,8 @@ use std::alloc::Global;
 /// Room for a language and the byte behind it.
 const START_LENGTH: usize = LONGEST_LANGUAGE + 1;
 
-/// The text from which the walk goes on: the language with a byte 0 behind it, which is the first text after it, or at first the
-/// empty text. No name in the language itself comes then, so that the engine has none of these to pass.
+/// The text from which the walk goes on: the language with a byte 0 behind it, which is the first text after it, or at
+/// first the empty text. No name in the language itself comes then, so that the engine has none of these to pass.
 fn start_of(after: Option<&Language>) -> ArrayString<START_LENGTH>
     ensures { result.bytes ≡ start_after (option_map (λ l. l.now) after.entry) }
 {
@@ -43,8 +43,8 @@ fn select_language<S: Alter>(
     )
 }
 
-/// The first further language after this one, or the first of all; `None` where there is none. `NoMemory` where it finds no room;
-/// every other fault is the database's.
+/// The first further language after this one, or the first of all; `None` where there is none. `NoMemory` where it
+/// finds no room; every other fault is the database's.
 pub fn find_language_after<S: Alter>(
     alloc: Global,
     conn: &mut Connection<S>,

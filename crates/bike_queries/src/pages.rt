@@ -11,8 +11,8 @@ use bike_schema::StatementFault;
 use std::alloc::Global;
 use std::collections::VecDeque;
 
-/// The most stations that one statement answers. A page is a bounded part of a walk, and no list of all stations: a statement costs
-/// the engine as much as several rows do, and the stations of a page share it.
+/// The most stations that one statement answers. A page is a bounded part of a walk, and no list of all stations: a
+/// statement costs the engine as much as several rows do, and the stations of a page share it.
 pub const STATIONS_A_PAGE: usize = 64;
 
 /// A row that begins with the identifier of a station.
@@ -38,8 +38,8 @@ pub(crate) trait OwnerReader: Drop {
     /// What the station and its rows hold.
     ghost reads: { Self → StoredStation → List Row → Self.Item → Type 0 };
 
-    /// What stands in the station's own rows, beside it. `NoMemory` where it finds no room; a row that holds what the product never
-    /// writes is `StoreFailed`.
+    /// What stands in the station's own rows, beside it. `NoMemory` where it finds no room; a row that holds what the
+    /// product never writes is `StoreFailed`.
     fn read(
         &self,
         alloc: Global,
@@ -81,8 +81,9 @@ pub(crate) fn last_id(stations: &[StoredStation]) -> Option<&str>
     }
 }
 
-/// Reads each station with its own among the rows, which stand in the order of the stations. `NoMemory` where the page finds no
-/// room, `StoreFailed` where a row is left that is no station's, which no sound database has; other faults are the reader's.
+/// Reads each station with its own among the rows, which stand in the order of the stations. `NoMemory` where the page
+/// finds no room, `StoreFailed` where a row is left that is no station's, which no sound database has; other faults are
+/// the reader's.
 pub(crate) fn read_page<R: OwnerReader>(
     alloc: Global,
     stations: Vec<StoredStation>,

@@ -41,8 +41,8 @@ fn find_next<S: Alter>(
     }
 }
 
-/// The first pricing plan whose identifier comes after this one, or the first of all, with its segments; `None` where there is
-/// none. `NoMemory` where it finds no room; every other fault is the database's.
+/// The first pricing plan whose identifier comes after this one, or the first of all, with its segments; `None` where
+/// there is none. `NoMemory` where it finds no room; every other fault is the database's.
 pub fn find_plan_after<S: Alter>(
     alloc: Global,
     conn: &mut Connection<S>,

@@ -36,8 +36,8 @@ fn read_region(alloc: Global, row: &Row) -> Result<Region, StatementFault>
     Ok(Region::from_fields(region_id, name))
 }
 
-/// The first region whose identifier comes after this one, or the first of all; `None` where there is none. `NoMemory` where its
-/// texts find no room; every other fault is the database's.
+/// The first region whose identifier comes after this one, or the first of all; `None` where there is none. `NoMemory`
+/// where its texts find no room; every other fault is the database's.
 pub fn find_region_after<S: Alter>(
     alloc: Global,
     conn: &mut Connection<S>,

@@ -139,8 +139,8 @@ fn find_ended<S: Alter>(
     }
 }
 
-/// The first rental of a later number that ended at `begin` or later and before `end`, with its number; `None` where there is
-/// none. `NoMemory` where its texts find no room; every other fault is the database's.
+/// The first rental of a later number that ended at `begin` or later and before `end`, with its number; `None` where
+/// there is none. `NoMemory` where its texts find no room; every other fault is the database's.
 pub fn find_ended_after<S: Alter>(
     alloc: Global,
     conn: &mut Connection<S>,

@@ -35,8 +35,8 @@ pub fn find_balance<S: Alter>(
     }
 }
 
-/// The rider of this number, if there is one. The open rental is found as `find_open_rental` finds it: by the rider's newest
-/// alone where the caller knows that each open rental is its rider's newest. Every fault is the database's.
+/// The rider of this number, if there is one. The open rental is found as `find_open_rental` finds it: by the rider's
+/// newest alone where the caller knows that each open rental is its rider's newest. Every fault is the database's.
 pub fn find_rider_info<S: Alter>(
     conn: &mut Connection<S>,
     rider: RiderNumber,

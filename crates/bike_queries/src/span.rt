@@ -6,8 +6,8 @@ ghost use Rattle.bike_operator.specs.declared.limits.TheConstants.{MOST_ENTRIES}
 use bike_fixed::Moment;
 use bike_operator::MOST_ENTRIES;
 
-/// The number after which the walk goes on. No entry and no rental comes after the greatest number of all, nor after one that
-/// is greater than that.
+/// The number after which the walk goes on. No entry and no rental comes after the greatest number of all, nor after
+/// one that is greater than that.
 pub(crate) fn start_at(number: u64) -> u32
     ensures { result ≡ min number MOST_ENTRIES }
 {

@@ -180,9 +180,9 @@ impl OwnerReader for NamedReader {
     }
 }
 
-/// The next stations whose identifiers come after this one, or the first of all, as many as a page holds, by one statement. With
-/// `translated` each has its further names, by a second statement; else none has any. `NoMemory` where a text finds no room; every
-/// other fault is the database's.
+/// The next stations whose identifiers come after this one, or the first of all, as many as a page holds, by one
+/// statement. With `translated` each has its further names, by a second statement; else none has any. `NoMemory` where
+/// a text finds no room; every other fault is the database's.
 pub fn find_stations_after<S: Alter>(
     alloc: Global,
     conn: &mut Connection<S>,

@@ -52,12 +52,12 @@ impl<'a> OwnerReader for StatusReader<'a> {
     }
 }
 
-/// The next stations whose identifiers come after this one, or the first of all, with their counts: as many as a page holds, by two
-/// statements, the rows of the stations and those of their counts.
+/// The next stations whose identifiers come after this one, or the first of all, with their counts: as many as a page
+/// holds, by two statements, the rows of the stations and those of their counts.
 ///
-/// The counts are of the bicycles of the types with these identifiers, in their order. With those that `find_type_ids` answers they
-/// are of all bicycles.
-/// `NoMemory` where a text or a list finds no room; every other fault is the database's.
+/// The counts are of the bicycles of the types with these identifiers, in their order. With those that `find_type_ids`
+/// answers they are of all bicycles. `NoMemory` where a text or a list finds no room; every other fault is the
+/// database's.
 pub fn find_statuses_after<S: Alter>(
     alloc: Global,
     conn: &mut Connection<S>,

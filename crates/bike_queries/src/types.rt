@@ -65,8 +65,8 @@ fn read_type(alloc: Global, row: &Row) -> Result<VehicleType, StatementFault>
     )
 }
 
-/// The first vehicle type whose identifier comes after this one, or the first of all; `None` where there is none. `NoMemory`
-/// where its texts find no room; every other fault is the database's.
+/// The first vehicle type whose identifier comes after this one, or the first of all; `None` where there is none.
+/// `NoMemory` where its texts find no room; every other fault is the database's.
 pub fn find_type_after<S: Alter>(
     alloc: Global,
     conn: &mut Connection<S>,
@@ -95,8 +95,8 @@ fn read_type_ids(alloc: Global, rows: &[Row]) -> Result<Vec<Ident>, StatementFau
     Ok(type_ids)
 }
 
-/// The identifiers of all vehicle types, of which there are at most 32, in byte order. `NoMemory` where they find no room; every
-/// other fault is the database's.
+/// The identifiers of all vehicle types, of which there are at most 32, in byte order. `NoMemory` where they find no
+/// room; every other fault is the database's.
 pub fn find_type_ids<S: Alter>(
     alloc: Global,
     conn: &mut Connection<S>,

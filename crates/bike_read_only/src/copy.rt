@@ -31,12 +31,14 @@ fn memory_of(alloc: Global, bytes: &[u8]) -> Result<Memory, CopyFault>
     }
 }
 
-/// Copies a file into memory. It is only read. `OutOfMemory` where memory is refused, and `Unread` where the disk fails.
+/// Copies a file into memory. It is only read. `OutOfMemory` where memory is refused, and `Unread` where the disk
+/// fails.
 pub fn copy_of<D: Disk>(alloc: Global, file: &mut D) -> Result<Memory, CopyFault>
     requires { IsTrue (D.Disk.is_usable file.old) }
     ensures same { IfOk result (λ copy. IsClean D.Disk file.new → memory_bytes copy ≡ D.Disk.seen file.old) }
     ensures usable { IfOk result (λ copy. IsTrue (memory_is_usable copy)) }
-    ensures failed { result ≡ Err Unread → IsClean D.Disk file.new → MoreFaults (D.Disk.faults file.old) (D.Disk.faults file.new) }
+    ensures failed { result ≡ Err Unread → IsClean D.Disk file.new
+        → MoreFaults (D.Disk.faults file.old) (D.Disk.faults file.new) }
     ensures counts { D.Disk.faults file.old ≤ D.Disk.faults file.new }
     ensures read { OnlyReads D.Disk file.old file.new }
 {

@@ -1,5 +1,5 @@
-//! Files of a database that is only looked at: the database file, which is read and never written, and a copy of a log, which is
-//! read and written in the log's place.
+//! Files of a database that is only looked at: the database file, which is read and never written, and a copy of a log,
+//! which is read and written in the log's place.
 #![tactic(auto)]
 
 mod copy;

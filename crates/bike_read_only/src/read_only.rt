@@ -9,8 +9,8 @@ use sqlite_disk::{Disk, Start, Tally};
 use std::io;
 use std::marker::PhantomData;
 
-/// The database file that held what `S` says, as a disk that can't be written: each write and each change of its length fails, and is a
-/// fault. So the file holds what it held, whatever is done over this value.
+/// The database file that held what `S` says, as a disk that can't be written: each write and each change of its length
+/// fails, and is a fault. So the file holds what it held, whatever is done over this value.
 #[derive(Drop)]
 pub struct ReadOnly<D: Disk, S: Start> {
     file: D,

@@ -127,17 +127,7 @@ escaped_utf8 bs h =
 -- a fixed word can be printed
 abbrev IsWord : Field → Type 0
 IsWord (Fixed word) = list_all is_printable word ≡ true
-IsWord (Number least greatest n) = Unit {0}
-IsWord (Signed least greatest z) = Unit {0}
-IsWord (Id bs) = Unit {0}
-IsWord (Language bs) = Unit {0}
-IsWord (Currency bs) = Unit {0}
-IsWord (Name bs) = Unit {0}
-IsWord (Ascii bs) = Unit {0}
-IsWord (Degrees greatest z) = Unit {0}
-IsWord (Metres propulsion n) = Unit {0}
-IsWord (Segments ss) = Unit {0}
-IsWord (End end) = Unit {0}
+IsWord f = Unit {0}
 
 abbrev AreWords : List Field → Type 0
 AreWords [] = Unit {0}
@@ -198,69 +188,38 @@ region_word : (region : Option (List ℕ)) → IsWord (IdOrNone region)
 region_word None = refl
 region_word (Some id) = tt
 
+-- fields among which no word of a list stands
+is_plain : Field → Bool
+is_plain (Fixed word) = false
+is_plain f = true
+
+plain_word : (f : Field) → is_plain f ≡ true → IsWord f
+plain_word (Fixed word) plain = absurd cc
+plain_word f plain = tt
+
+plain_words : (fs : List Field) → list_all is_plain fs ≡ true → AreWords fs
+plain_words [] plain = tt
+plain_words (f ∷ fs) plain =
+    let h = both_hold (is_plain f) (list_all is_plain fs) plain in
+    (plain_word f h.0, plain_words fs h.1)
+
 command_words : (c : Command) → AreWords (fields_of c)
-command_words (command.SetSystem s) = (tt, (tt, (tt, (tt, (tt, (tt, (tt, (tt, (tt, tt)))))))))
 command_words (command.AddPlan p) = (tt, (tt, (tt, (flag_word p.taxable, (tt, (tt, tt))))))
 command_words (command.AddType t) = (tt, (tt, (form_word t.form, (propulsion_word t.propulsion, (tt, (tt, tt))))))
-command_words (command.SetPlan type_id plan) = (tt, (tt, tt))
-command_words (command.AddStation s) = (tt, (tt, (tt, (tt, (tt, tt)))))
 command_words (command.SetStation station installed renting returning) = (tt, (flag_word installed, (flag_word renting, (flag_word returning, tt))))
 command_words (command.MarkDock station dock broken) = (tt, (tt, (choice_word (codes "broken") (codes "working") refl refl broken, tt)))
-command_words (command.AddBike bike type_id) = (tt, (tt, tt))
 command_words (command.MarkBike bike disabled) = (tt, (choice_word (codes "disabled") (codes "fit") refl refl disabled, tt))
-command_words (command.RetireBike bike) = (tt, tt)
-command_words (command.AddTruck truck capacity) = (tt, (tt, tt))
-command_words (command.AddRider rider) = (tt, tt)
 command_words (command.SetRider rider blocked) = (tt, (choice_word (codes "blocked") (codes "open") refl refl blocked, tt))
-command_words (command.TopUp rider amount) = (tt, (tt, tt))
-command_words (command.Start rider station dock) = (tt, (tt, (tt, tt)))
-command_words (command.End bike station dock) = (tt, (tt, (tt, tt)))
-command_words (command.Recover rental) = (tt, tt)
-command_words (command.Refund rental amount) = (tt, (tt, tt))
-command_words (command.OpenOrder truck from_end to_end type_id count) = (tt, (tt, (tt, (tt, (tt, tt)))))
-command_words (command.Load truck order bike) = (tt, (tt, (tt, tt)))
 command_words (command.Unload truck order bike side dock) = (tt, (tt, (tt, (side_word side, (tt, tt)))))
-command_words (command.CloseOrder order) = (tt, tt)
-command_words (command.AddRegion r) = (tt, (tt, tt))
 command_words (command.SetRegion station region) = (tt, (region_word region, tt))
 command_words (command.AddName kind id language name) = (named_printable kind, (tt, (tt, (tt, tt))))
 command_words (command.SetName kind id language name) = (named_printable kind, (tt, (tt, (tt, tt))))
 command_words (command.RemoveName kind id language) = (named_printable kind, (tt, (tt, tt)))
-command_words (command.ChangeSystem x) = (tt, (tt, (tt, (tt, (tt, (tt, tt))))))
-command_words (command.MoveStation station p) = (tt, (tt, (tt, tt)))
-command_words (command.AddDocks station count) = (tt, (tt, tt))
+command_words c = plain_words (fields_of c) refl
 
 word_printable : (c : Command) → Printable (word_of c)
 word_printable (command.SetSystem s) = refl
-word_printable (command.AddPlan p) = refl
-word_printable (command.AddType t) = refl
-word_printable (command.SetPlan type_id plan) = refl
-word_printable (command.AddStation s) = refl
-word_printable (command.SetStation station installed renting returning) = refl
-word_printable (command.MarkDock station dock broken) = refl
-word_printable (command.AddBike bike type_id) = refl
-word_printable (command.MarkBike bike disabled) = refl
-word_printable (command.RetireBike bike) = refl
-word_printable (command.AddTruck truck capacity) = refl
-word_printable (command.AddRider rider) = refl
-word_printable (command.SetRider rider blocked) = refl
-word_printable (command.TopUp rider amount) = refl
-word_printable (command.Start rider station dock) = refl
-word_printable (command.End bike station dock) = refl
-word_printable (command.Recover rental) = refl
-word_printable (command.Refund rental amount) = refl
-word_printable (command.OpenOrder truck from_end to_end type_id count) = refl
-word_printable (command.Load truck order bike) = refl
-word_printable (command.Unload truck order bike side dock) = refl
-word_printable (command.CloseOrder order) = refl
-word_printable (command.AddRegion r) = refl
-word_printable (command.SetRegion station region) = refl
-word_printable (command.AddName kind id language name) = refl
-word_printable (command.SetName kind id language name) = refl
-word_printable (command.RemoveName kind id language) = refl
-word_printable (command.ChangeSystem x) = refl
-word_printable (command.MoveStation station p) = refl
-word_printable (command.AddDocks station count) = refl
+word_printable c = refl
 
 pub command_utf8 : (c : Command) → IsCommand c → is_utf8 (text_of c) ≡ true
 command_utf8 c g =

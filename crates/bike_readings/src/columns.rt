@@ -4,8 +4,10 @@ ghost use Rattle.std.specs.Prelude.{◌≡◌, option_map, codes, pos, neg_ℤ};
 ghost use Rattle.sqlite_value.specs.Order.{column};
 ghost use Rattle.sqlite_sql.specs.Ops.{is_null};
 ghost use Rattle.bike_ledger.specs.Entries.{greatest_amount};
-ghost use Rattle.bike_schema.specs.Columns.{whole_in, text_in, number_in, moment_in, flag_in, state_in, ident_in, name_in, or_none};
-ghost use Rattle.bike_readings.specs.ColumnReaders.{ascii_in, language_in, currency_in, form_in, propulsion_in, named_kind_in, word_in, signed_in, kind_in};
+ghost use Rattle.bike_schema.specs.Columns.{whole_in, text_in, number_in, moment_in, flag_in, state_in, ident_in};
+ghost use Rattle.bike_schema.specs.Columns.{name_in, or_none};
+ghost use Rattle.bike_readings.specs.ColumnReaders.{ascii_in, language_in, currency_in, form_in, propulsion_in};
+ghost use Rattle.bike_readings.specs.ColumnReaders.{named_kind_in, word_in, signed_in, kind_in};
 
 use crate::part::Part;
 use bike_attributes::{Form, NameKind, Propulsion};

@@ -7,7 +7,8 @@ ghost use Rattle.sqlite_value.specs.Order.{column};
 ghost use Rattle.bike_commands.specs.Commands.{text_of};
 ghost use Rattle.bike_operator.specs.Sound.{is_refused};
 ghost use Rattle.bike_schema.specs.declared.fault.StatementFault.TheVariants.{NoMemory};
-ghost use Rattle.bike_readings.specs.ColumnReaders.{one_command_of, accepted_of, caller_in, key_in, command_in, reply_in};
+ghost use Rattle.bike_readings.specs.ColumnReaders.{one_command_of, accepted_of, caller_in, key_in, command_in};
+ghost use Rattle.bike_readings.specs.ColumnReaders.{reply_in};
 ghost use Rattle.bike_readings.specs.Readings.{kept_read};
 ghost use Rattle.bike_readings.specs.Views.{kept_of};
 

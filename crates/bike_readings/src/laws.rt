@@ -2,7 +2,10 @@
 
 ghost use Rattle.bike_operator.specs.Operator.{Operator};
 ghost use Rattle.bike_operator.specs.Sound.{IsSound};
-ghost use Rattle.bike_readings.specs.BothWays.{MetaReading, SystemReading, PlanReading, SegmentReading, TypeReading, RegionReading, StationReading, DockReading, BikeReading, TruckReading, RiderReading, RentalReading, OrderReading, EntryReading, KeptReading, CountReading, NameReading};
+ghost use Rattle.bike_readings.specs.BothWays.{MetaReading, SystemReading, PlanReading, SegmentReading, TypeReading};
+ghost use Rattle.bike_readings.specs.BothWays.{RegionReading, StationReading, DockReading, BikeReading, TruckReading};
+ghost use Rattle.bike_readings.specs.BothWays.{RiderReading, RentalReading, OrderReading, EntryReading, KeptReading};
+ghost use Rattle.bike_readings.specs.BothWays.{CountReading, NameReading};
 ghost use Rattle.bike_readings.specs.SoundRows.{HasBounds};
 
 /// The law of readings: what a row spells is that of which it is made, and each record within its bounds is spelled by

@@ -4,10 +4,10 @@
 //! exact. The functions answer just that of a `Part` of a row that the database lends. Texts stay in the
 //! row, and no memory is taken, but for a kept request.
 //!
-//! The rules by which tables stand for an operator are the audit's definition, with no code: `specs/ReadOff` gives the operator
-//! that any tables spell, `specs/Demands` what is demanded of each row, with the row to blame for each fault, and `specs/Rules`
-//! when a key is good and which key is the first bad one. Their laws say that this is exact: the keys are all good exactly
-//! where the tables are those of a sound operator.
+//! The rules by which tables stand for an operator are the audit's definition, with no code: `specs/ReadOff` gives the
+//! operator that any tables spell, `specs/Demands` what is demanded of each row, with the row to blame for each fault,
+//! and `specs/Rules` when a key is good and which key is the first bad one. Their laws say that this is exact: the keys
+//! are all good exactly where the tables are those of a sound operator.
 #![tactic(auto)]
 
 mod catalogue;

@@ -1,6 +1,7 @@
 //! The laws of the rules.
 
-ghost use Rattle.bike_readings.specs.Laws.{GoodAreOf, OfAreGood, OfIsReadOff, BadAreOfNone, OneVerdict, StoredInOrder, StoredGood, StoredReadOff, StoredBad};
+ghost use Rattle.bike_readings.specs.Laws.{GoodAreOf, OfAreGood, OfIsReadOff, BadAreOfNone, OneVerdict, StoredInOrder};
+ghost use Rattle.bike_readings.specs.Laws.{StoredGood, StoredReadOff, StoredBad};
 
 /// The law of the rules: tables in the order of their keys are those of a sound operator exactly where all their keys
 /// are good, and then the operator, and which docks and counts have a row, are what is read off them.

@@ -5,7 +5,8 @@ ghost use Rattle.std.specs.List.{list_any};
 ghost use Rattle.sqlite_schema.specs.Names.{same_name};
 ghost use Rattle.bike_schema.specs.Layouts.{name_of};
 ghost use Rattle.bike_recognition.specs.Names.{table_named};
-ghost use Rattle.bike_recognition.specs.Added.{is_over, is_of_key, is_added, has_added, is_product_name, is_hindered, has_added_unique};
+ghost use Rattle.bike_recognition.specs.Added.{is_over, is_of_key, is_added, has_added, is_product_name, is_hindered};
+ghost use Rattle.bike_recognition.specs.Added.{has_added_unique};
 
 use crate::stands::EVERY_TABLE;
 use crate::table::TableName;
@@ -79,8 +80,8 @@ fn is_hindered(schema: &Schema, table: &Table) -> bool
     is_product_name(table.name.as_slice()) && has_added(schema, table)
 }
 
-/// Whether somebody added a UNIQUE index to a table of the product's. On such an index a request can fail that breaks no rule. The
-/// indexes of the keys, which the engine makes with a table, are none.
+/// Whether somebody added a UNIQUE index to a table of the product's. On such an index a request can fail that breaks
+/// no rule. The indexes of the keys, which the engine makes with a table, are none.
 pub fn has_added_unique(schema: &Schema) -> bool
     ensures { result ≡ has_added_unique schema.now }
 {

@@ -1,10 +1,11 @@
 //! Whether the tables of a database are the product's.
 //!
-//! Of a database that an earlier run left, or a stranger, nothing is known at first. `recognise` tells what it is, by tests
-//! in the order of `specs/Recognition`; the first of them change nothing and read no row but that of `meta`. A table
-//! stands where its name finds exactly its columns and keys, no foreign key refers to it, one pass over its rowids finds
-//! them to be numbers and apart, and no two rows have one key: then every law of the tables holds of it. The engine keeps
-//! every table's key but that of `kept`, whose callers and keys another pass goes over; a file of before has one there too.
+//! Of a database that an earlier run left, or a stranger, nothing is known at first. `recognise` tells what it is, by
+//! tests in the order of `specs/Recognition`; the first of them change nothing and read no row but that of `meta`. A
+//! table stands where its name finds exactly its columns and keys, no foreign key refers to it, one pass over its
+//! rowids finds them to be numbers and apart, and no two rows have one key: then every law of the tables holds of it.
+//! The engine keeps every table's key but that of `kept`, whose callers and keys another pass goes over; a file of
+//! before has one there too.
 #![tactic(auto)]
 
 mod added;

@@ -3,7 +3,8 @@
 ghost use Rattle.std.specs.Prelude.{◌≡◌};
 ghost use Rattle.bike_book.specs.Tables.{Meta};
 ghost use Rattle.bike_rows.specs.Calls.{ReadsWhere};
-ghost use Rattle.bike_recognition.specs.Recognition.{ReadsAny, TableStands, told_by, IsByTables, IsByVersion, IsByMeta, IsRecognised};
+ghost use Rattle.bike_recognition.specs.Recognition.{ReadsAny, TableStands, told_by, IsByTables, IsByVersion, IsByMeta};
+ghost use Rattle.bike_recognition.specs.Recognition.{IsRecognised};
 
 use crate::stands::{check_open, is_rest_there, missing_table, table_stands};
 use crate::table::TableName;
@@ -31,7 +32,8 @@ pub enum Recognition {
     Ours,
 }
 
-/// What a database of the newest version is: `Ours`, `Doubled` or `Foreign`. It stays as it is. It fails as `recognise` does.
+/// What a database of the newest version is: `Ours`, `Doubled` or `Foreign`. It stays as it is. It fails as `recognise`
+/// does.
 pub fn recognise_tables<S: Alter>(
     alloc: Global,
     conn: &mut Connection<S>,

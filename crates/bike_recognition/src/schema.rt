@@ -76,8 +76,8 @@ pub(crate) fn is_kept_keyed(schema: &Schema) -> bool
     }
 }
 
-/// Whether the schema has the table as the product makes it, `kept` with a PRIMARY KEY where `keyed`, and no foreign key
-/// refers to it. Only memory can be refused.
+/// Whether the schema has the table as the product makes it, `kept` with a PRIMARY KEY where `keyed`, and no foreign
+/// key refers to it. Only memory can be refused.
 pub(crate) fn has_table(
     alloc: Global,
     schema: &Schema,

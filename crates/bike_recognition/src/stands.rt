@@ -49,9 +49,9 @@ pub fn check_open<S: Alter>(conn: &mut Connection<S>) -> Result<(), StatementFau
     Ok(())
 }
 
-/// Whether the table lies in the database, `kept` with a PRIMARY KEY where `keyed`: the schema has it under its name with
-/// exactly its columns and keys, no foreign key refers to it, and its rows have rowids that are numbers and apart. It
-/// fails as `table_stands` does.
+/// Whether the table lies in the database, `kept` with a PRIMARY KEY where `keyed`: the schema has it under its name
+/// with exactly its columns and keys, no foreign key refers to it, and its rows have rowids that are numbers and apart.
+/// It fails as `table_stands` does.
 fn table_lies<S: Alter>(
     alloc: Global,
     conn: &mut Connection<S>,
@@ -79,10 +79,10 @@ fn is_key_kept(table: TableName, keyed: bool) -> bool
     keyed || !table.is_kept()
 }
 
-/// Whether the table stands in the database: it lies there, with its columns and keys and unreferred to, and no two rows have
-/// one key. That the rowids are no numbers or not apart can happen only in a store that breaks its own rules: it is
-/// `StoreFailed`, as every other failure of the store is. Where memory is refused, it is `NoMemory`. The database stays as
-/// it is.
+/// Whether the table stands in the database: it lies there, with its columns and keys and unreferred to, and no two
+/// rows have one key. That the rowids are no numbers or not apart can happen only in a store that breaks its own rules:
+/// it is `StoreFailed`, as every other failure of the store is. Where memory is refused, it is `NoMemory`. The database
+/// stays as it is.
 pub fn table_stands<S: Alter>(
     alloc: Global,
     conn: &mut Connection<S>,
@@ -125,8 +125,8 @@ fn first_missing<S: Alter>(
     }
 }
 
-/// The first table of the schema that doesn't stand in the database, and `None` where all do. It fails as `table_stands`
-/// does.
+/// The first table of the schema that doesn't stand in the database, and `None` where all do. It fails as
+/// `table_stands` does.
 pub fn missing_table<S: Alter>(
     alloc: Global,
     conn: &mut Connection<S>,
@@ -137,8 +137,8 @@ pub fn missing_table<S: Alter>(
     first_missing(alloc, conn, &EVERY_TABLE)
 }
 
-/// Whether `kept` lies in the database with no key of its own, and all tables after it stand. It fails as `table_stands`
-/// does.
+/// Whether `kept` lies in the database with no key of its own, and all tables after it stand. It fails as
+/// `table_stands` does.
 pub(crate) fn is_rest_there<S: Alter>(
     alloc: Global,
     conn: &mut Connection<S>,

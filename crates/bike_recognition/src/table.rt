@@ -130,7 +130,8 @@ impl TableName {
         }
     }
 
-    /// The table as the product makes it, in tree 0, `kept` with a PRIMARY KEY where `keyed`. Only memory can be refused.
+    /// The table as the product makes it, in tree 0, `kept` with a PRIMARY KEY where `keyed`. Only memory can be
+    /// refused.
     pub(crate) fn defined(self, alloc: Global, keyed: bool) -> Result<Table, StatementFault>
         ensures table { IfOk result (λ table. table ≡ table_of (layout_by keyed (table_named self)) 0) }
         ensures memory { IfErr result (λ fault. fault ≡ NoMemory) }

@@ -40,7 +40,8 @@ pub fn record_limits()
     ensures version { NEWEST ≡ 3 }
 {}
 
-/// The greatest numbers of fields. Money is in hundredths, a coordinate in microdegrees, a time in seconds, a range in metres.
+/// The greatest numbers of fields. Money is in hundredths, a coordinate in microdegrees, a time in seconds, a range in
+/// metres.
 pub fn number_bounds()
     ensures name { number.GREATEST_NUMBER ≡ 999999 }
     ensures serial { number.GREATEST_SERIAL ≡ 100000000 }
@@ -75,8 +76,8 @@ pub fn text_bounds()
     ensures body { BODY_LENGTH ≡ 16384 }
 {}
 
-/// How many reads of its input one call makes at most, how many bytes one read of lines asks for, how many rows an import has,
-/// and how many stations a page of a feed.
+/// How many reads of its input one call makes at most, how many bytes one read of lines asks for, how many rows an
+/// import has, and how many stations a page of a feed.
 pub fn input_bounds()
     ensures http_reads { http.MOST_READS ≡ 20000 }
     ensures line_reads { lines.MOST_READS ≡ 1000000000 }

@@ -34,12 +34,12 @@ pub struct Acknowledged {
     pub end: Option<DeskFault>,
 }
 
-/// Serves a list of requests, then takes into service any database that a stop at any storage call up to then may leave, and
-/// reads it: where the bicycle is, and the feed `station_status` for a moment.
+/// Serves a list of requests, then takes into service any database that a stop at any storage call up to then may
+/// leave, and reads it: where the bicycle is, and the feed `station_status` for a moment.
 ///
-/// What is read is that of the operator after the accepted commands of a front of the list, which holds every acknowledged
-/// request and at most one more. The replies are those to a front of the list, and the desk is as `run_list` leaves it. Adopting what
-/// is left is refused for memory or storage alone.
+/// What is read is that of the operator after the accepted commands of a front of the list, which holds every
+/// acknowledged request and at most one more. The replies are those to a front of the list, and the desk is as
+/// `run_list` leaves it. Adopting what is left is refused for memory or storage alone.
 pub fn run_adopt_and_read<S: Alter, T: Alter, W: Write>(
     alloc: Global,
     desk: &mut Desk<S>,
@@ -53,7 +53,8 @@ pub fn run_adopt_and_read<S: Alter, T: Alter, W: Write>(
     ensures headline { OfOperator S.Store desk.old desk.new (λ s.
         (desk_state S.Store desk.new).may_leave (state T.Store left).now.trees
         → IfOk result.1 (λ r. HasCleanDisk (desk_state T.Store r.0)
-        → ReadsFront T.Store r.0 s calls.now (length result.0.replies.items) bike moment (W.contents out.old) (W.contents out.new) r.1)) }
+        → ReadsFront T.Store r.0 s calls.now (length result.0.replies.items)
+        bike moment (W.contents out.old) (W.contents out.new) r.1)) }
     ensures refused { OfOperator S.Store desk.old desk.new (λ s.
         (desk_state S.Store desk.new).may_leave (state T.Store left).now.trees
         → IfErr result.1 (λ e. HasCleanDisk (state T.Store (handed e)) → IsWant e)) }
@@ -89,10 +90,12 @@ pub(crate) fn resume<S: Alter + Reopen + Drop>(
     alloc: Global,
     desk: Desk<S>,
 ) -> Result<Desk<S>, Lost<S>>
-    ensures clean { IfOk result (λ again. doubt (desk_state S.Store desk).is_clean ≤ doubt (desk_state S.Store again).is_clean) }
+    ensures clean { IfOk result (λ again. doubt (desk_state S.Store desk).is_clean
+        ≤ doubt (desk_state S.Store again).is_clean) }
     ensures front { IfOk result (λ again. HasCleanDisk (desk_state S.Store again) → (s : Operator) (calls : _) (k : _)
         → AllLeft (desk_state S.Store desk) (IsAfterFront s calls k) → IsAtFront S.Store again s calls k) }
-    ensures refused { (HasCleanDisk (desk_state S.Store desk) → AllLeft (desk_state S.Store desk) StandForSome) → IfErr result (IsOnlyWant S.Store) }
+    ensures refused { (HasCleanDisk (desk_state S.Store desk) → AllLeft (desk_state S.Store desk) StandForSome)
+        → IfErr result (IsOnlyWant S.Store) }
 {
     let conn = match open_again(alloc, desk.close()) {
         Ok(conn) => conn,
@@ -104,9 +107,10 @@ pub(crate) fn resume<S: Alter + Reopen + Drop>(
     }
 }
 
-/// Serves a list of requests, crashes, takes what the crash left into service again, and reads it as `run_adopt_and_read` does.
-/// The store isn't open again for want of memory or a fault of the disk alone, and what it holds is refused for memory or storage alone.
-/// The list ends with `Stopped` exactly where the desk was stopped before.
+/// Serves a list of requests, crashes, takes what the crash left into service again, and reads it as
+/// `run_adopt_and_read` does. The store isn't open again for want of memory or a fault of the disk alone, and what it
+/// holds is refused for memory or storage alone. The list ends with `Stopped` exactly where the desk was stopped
+/// before.
 pub fn run_crash_and_read<S: Alter + Reopen + Drop, W: Write>(
     alloc: Global,
     mut desk: Desk<S>,
@@ -117,7 +121,8 @@ pub fn run_crash_and_read<S: Alter + Reopen + Drop, W: Write>(
 ) -> (Acknowledged, Result<(Desk<S>, Reading), Lost<S>>)
     ensures headline { (s : Operator) → IsAt S.Store desk s
         → IfOk result.1 (λ r. HasCleanDisk (desk_state S.Store r.0)
-        → ReadsFront S.Store r.0 s calls.now (length result.0.replies.items) bike moment (W.contents out.old) (W.contents out.new) r.1) }
+        → ReadsFront S.Store r.0 s calls.now (length result.0.replies.items)
+        bike moment (W.contents out.old) (W.contents out.new) r.1) }
     ensures replies { (s : Operator) → IsAt S.Store desk s
         → IfOk result.1 (λ r. HasCleanDisk (desk_state S.Store r.0) → AreReplies s calls.now result.0.replies.items) }
     ensures refused { (s : Operator) → IsAt S.Store desk s → IfErr result.1 (IsOnlyWant S.Store) }
@@ -138,8 +143,8 @@ pub fn run_crash_and_read<S: Alter + Reopen + Drop, W: Write>(
     }
 }
 
-/// `run_crash_and_read` from nothing, over a database in memory: nothing has to be supposed of a disk, so that the promise's premises can be
-/// met together. None where memory is refused before the first request.
+/// `run_crash_and_read` from nothing, over a database in memory: nothing has to be supposed of a disk, so that the
+/// promise's premises can be met together. None where memory is refused before the first request.
 pub fn run_in_memory<W: Write>(
     alloc: Global,
     calls: &[(Moment, Request)],
@@ -152,7 +157,8 @@ pub fn run_in_memory<W: Write>(
         Result<(Desk<MemStore>, Reading), Lost<MemStore>>,
     ),
 >
-    ensures headline { IfSome result (λ r. IfOk r.1 (λ read. ReadsFront over_memory read.0 no_operator calls.now (length r.0.replies.items)
+    ensures headline { IfSome result (λ r. IfOk r.1 (λ read. ReadsFront over_memory read.0
+        no_operator calls.now (length r.0.replies.items)
         bike moment (W.contents out.old) (W.contents out.new) read.1)) }
     ensures replies { IfSome result (λ r. IfOk r.1 (λ read. AreReplies no_operator calls.now r.0.replies.items)) }
     ensures refused { IfSome result (λ r. IfErr r.1 (IsOnlyWant over_memory)) }

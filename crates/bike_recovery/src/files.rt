@@ -14,7 +14,8 @@ use sqlite_disk::Disk;
 /// Why files aren't open: the error, and what is left of them, once the system opened them.
 pub type NotOpened<F> = (Error, Option<Leftover<FileFrom<F>>>);
 
-/// Gives a connection over files up, as a stop would, and opens the files at a path, which hold whatever such a stop may leave.
+/// Gives a connection over files up, as a stop would, and opens the files at a path, which hold whatever such a stop
+/// may leave.
 pub fn stop_and_open<D: Disk + Drop, F: Start>(
     rt: &HostRuntime,
     conn: Connection<FileStore<D>>,
@@ -26,7 +27,8 @@ pub fn stop_and_open<D: Disk + Drop, F: Start>(
 )
     ensures clean { doubt (file_state conn).is_clean ≤ doubt (store.view result.0).is_clean }
     ensures left { MayHold result.0 (image_at F.Start)
-        → IfOk result.1 (λ again. HasCleanDisk (file_state again) → LeavesTrees (file_state conn) (file_state again).now.trees) }
+        → IfOk result.1 (λ again. HasCleanDisk (file_state again)
+        → LeavesTrees (file_state conn) (file_state again).now.trees) }
     ensures autocommit { IfOk result.1 (λ again. again.in_transaction ≡ false) }
     ensures refused { MayHold result.0 (image_at F.Start) → IfErr result.1 (λ e. IsExcused e.0 e.1) }
 {

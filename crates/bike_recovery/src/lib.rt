@@ -1,7 +1,9 @@
-//! The promise of the whole: a list of requests is served, the program stops, and what is left is taken into service again.
+//! The promise of the whole: a list of requests is served, the program stops, and what is left is taken into service
+//! again.
 //!
-//! What is read then is that of the operator after a front of the list, which holds every acknowledged request and at most one more. It
-//! is said of any two stores, of one that crashes, and of files: those that a process leaves, and those that the next one opens.
+//! What is read then is that of the operator after a front of the list, which holds every acknowledged request and at
+//! most one more. It is said of any two stores, of one that crashes, and of files: those that a process leaves, and
+//! those that the next one opens.
 //!
 //! `bounds` says the numbers behind the bounds that contracts name.
 #![tactic(auto)]

@@ -57,7 +57,8 @@ fn raise_again<S: Alter + Reopen + Drop>(
     ensures outside { IfOk result (λ c. c.in_transaction ≡ false) }
     ensures raised { IfOk result (λ c. HasCleanDisk (state S.Store c) → (v : _) (s : Operator)
         → AllLeft (state S.Store conn) (TreesStandSince v s) → Holds (state S.Store c) s) }
-    ensures refused { (v : _) (s : Operator) → (HasCleanDisk (state S.Store conn) → AllLeft (state S.Store conn) (TreesStandSince v s))
+    ensures refused { (v : _) (s : Operator)
+        → (HasCleanDisk (state S.Store conn) → AllLeft (state S.Store conn) (TreesStandSince v s))
         → IfErr result (IsOnlyWantOf S.Store) }
 {
     let again = match open_again(alloc, conn) {
@@ -70,11 +71,11 @@ fn raise_again<S: Alter + Reopen + Drop>(
     }
 }
 
-/// Raises what an earlier program left, crashes at whatever the raise came to, raises what the crash leaves, takes it into service and
-/// reads it: where the bicycle is, and the feed `station_status` for a moment.
+/// Raises what an earlier program left, crashes at whatever the raise came to, raises what the crash leaves, takes it
+/// into service and reads it: where the bicycle is, and the feed `station_status` for a moment.
 ///
-/// What is read is that of the operator for which the database stood, at whichever version that was. It is refused for memory or
-/// storage alone.
+/// What is read is that of the operator for which the database stood, at whichever version that was. It is refused for
+/// memory or storage alone.
 pub fn raise_crash_and_read<S: Alter + Reopen + Drop, W: Write>(
     alloc: Global,
     conn: Connection<S>,
@@ -83,10 +84,12 @@ pub fn raise_crash_and_read<S: Alter + Reopen + Drop, W: Write>(
     out: &mut W,
 ) -> Result<(Desk<S>, Reading), Unraised<S>>
     requires { conn.in_transaction ≡ false }
-    ensures headline { (v : _) (s : Operator) → TreesStandForAt v s (state S.Store conn).now.trees → IsTrue (state S.Store conn).is_open
+    ensures headline { (v : _) (s : Operator) → TreesStandForAt v s (state S.Store conn).now.trees
+        → IsTrue (state S.Store conn).is_open
         → IfOk result (λ r. HasCleanDisk (desk_state S.Store r.0)
         → ReadsOf S.Store r.0 s bike moment (W.contents out.old) (W.contents out.new) r.1) }
-    ensures refused { (v : _) (s : Operator) → TreesStandForAt v s (state S.Store conn).now.trees → IsTrue (state S.Store conn).is_open
+    ensures refused { (v : _) (s : Operator) → TreesStandForAt v s (state S.Store conn).now.trees
+        → IsTrue (state S.Store conn).is_open
         → IfErr result (IsOnlyWantOf S.Store) }
 {
     let first = raise_anyhow(alloc, conn);

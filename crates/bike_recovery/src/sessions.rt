@@ -1,6 +1,7 @@
 //! Lists of requests are served over one store, with a stop of the program after each.
 
-ghost use Rattle.std.specs.Prelude.{◌≡◌, ◌≤◌, ◌<◌, ◌+◌, ◌++◌, ◌∷◌, [], IfOk, IfErr, IfSome, length, map, vec_len, vec_capacity};
+ghost use Rattle.std.specs.Prelude.{◌≡◌, ◌≤◌, ◌<◌, ◌+◌, ◌++◌, ◌∷◌, [], IfOk, IfErr, IfSome, length, map, vec_len};
+ghost use Rattle.std.specs.Prelude.{vec_capacity};
 ghost use Rattle.sqlite.specs.State.{HasCleanDisk};
 ghost use Rattle.sqlite.specs.Steps.{over_memory};
 ghost use Rattle.sqlite_trees.specs.View.{doubt};
@@ -45,12 +46,16 @@ fn serve_session<S: Alter + Reopen + Drop>(
     mut desk: Desk<S>,
     calls: &[(Moment, Request)],
 ) -> (Acknowledged, Result<Desk<S>, Lost<S>>)
-    ensures clean { IfOk result.1 (λ again. doubt (desk_state S.Store desk).is_clean ≤ doubt (desk_state S.Store again).is_clean) }
+    ensures clean { IfOk result.1 (λ again. doubt (desk_state S.Store desk).is_clean
+        ≤ doubt (desk_state S.Store again).is_clean) }
     ensures front { (s : Operator) → IsAt S.Store desk s
-        → IfOk result.1 (λ again. HasCleanDisk (desk_state S.Store again) → IsAtFront S.Store again s calls.now (length result.0.replies.items)) }
+        → IfOk result.1 (λ again. HasCleanDisk (desk_state S.Store again)
+        → IsAtFront S.Store again s calls.now (length result.0.replies.items)) }
     ensures replies { (s : Operator) → IsAt S.Store desk s
-        → IfOk result.1 (λ again. HasCleanDisk (desk_state S.Store again) → AreReplies s calls.now result.0.replies.items) }
-    ensures refused { (HasCleanDisk (desk_state S.Store desk) → (s : Operator) × IsAt S.Store desk s) → IfErr result.1 (IsOnlyWant S.Store) }
+        → IfOk result.1 (λ again. HasCleanDisk (desk_state S.Store again)
+        → AreReplies s calls.now result.0.replies.items) }
+    ensures refused { (HasCleanDisk (desk_state S.Store desk) → (s : Operator) × IsAt S.Store desk s)
+        → IfErr result.1 (IsOnlyWant S.Store) }
 {
     let run = desk.run_list(alloc, calls);
     let told = Acknowledged {
@@ -60,19 +65,21 @@ fn serve_session<S: Alter + Reopen + Drop>(
     (told, resume(alloc, desk))
 }
 
-/// Serves lists of requests over one store, each in a session of its own: the store crashes after each, and what that leaves is taken
-/// into service again, as `run_crash_and_read` does. The first that isn't taken into service again ends it. The desk is handed back where
-/// memory is refused before the first request.
+/// Serves lists of requests over one store, each in a session of its own: the store crashes after each, and what that
+/// leaves is taken into service again, as `run_crash_and_read` does. The first that isn't taken into service again ends
+/// it. The desk is handed back where memory is refused before the first request.
 ///
-/// What was told are the answers of the sessions, of which all laws of retries hold: a request that comes again in a later session was
-/// accepted once, and is answered as it was.
+/// What was told are the answers of the sessions, of which all laws of retries hold: a request that comes again in a
+/// later session was accepted once, and is answered as it was.
 pub fn serve_sessions<S: Alter + Reopen + Drop>(
     alloc: Global,
     desk: Desk<S>,
     sessions: &[Vec<(Moment, Request)>],
 ) -> Result<SessionsServed<S>, Desk<S>>
-    ensures served { (s : Operator) → IsAt S.Store desk s → IfOk result (λ r. IfOk r.end (λ again. HasCleanDisk (desk_state S.Store again)
-        → ServesSessions S.Store again s (map (λ calls. calls.items) sessions.now) (map (λ a. a.replies.items) r.told.items))) }
+    ensures served { (s : Operator) → IsAt S.Store desk s
+        → IfOk result (λ r. IfOk r.end (λ again. HasCleanDisk (desk_state S.Store again)
+        → ServesSessions S.Store again s
+            (map (λ calls. calls.items) sessions.now) (map (λ a. a.replies.items) r.told.items))) }
     ensures refused { (s : Operator) → IsAt S.Store desk s → IfOk result (λ r. IfErr r.end (IsOnlyWant S.Store)) }
     ensures handed { IfErr result (λ d. d ≡ desk) }
 {
@@ -97,14 +104,15 @@ pub fn serve_sessions<S: Alter + Reopen + Drop>(
     Ok(SessionsServed { told, end: Ok(now) })
 }
 
-/// `serve_sessions` from nothing, over a database in memory, as `run_in_memory` is to `run_crash_and_read`: with no premise. None where memory is
-/// refused before the first request.
+/// `serve_sessions` from nothing, over a database in memory, as `run_in_memory` is to `run_crash_and_read`: with no
+/// premise. None where memory is refused before the first request.
 pub fn serve_sessions_in_memory(
     alloc: Global,
     sessions: &[Vec<(Moment, Request)>],
 ) -> Option<SessionsServed<MemStore>>
     ensures served { IfSome result (λ r. IfOk r.end (λ again.
-        ServesSessions over_memory again no_operator (map (λ calls. calls.items) sessions.now) (map (λ a. a.replies.items) r.told.items))) }
+        ServesSessions over_memory again no_operator
+            (map (λ calls. calls.items) sessions.now) (map (λ a. a.replies.items) r.told.items))) }
     ensures refused { IfSome result (λ r. IfErr r.end (IsOnlyWant over_memory)) }
 {
     let Ok(conn) = Connection::open_in_memory(alloc) else {

@@ -34,7 +34,8 @@ pub enum LostFiles<D: Disk> {
     Refused(AdoptFault<FileStore<D>>),
 }
 
-/// A stop of the process that holds the desk, and a desk over the files at a path. Gives the store back as it is at the stop.
+/// A stop of the process that holds the desk, and a desk over the files at a path. Gives the store back as it is at the
+/// stop.
 fn resume_files<D: Disk + Drop, F: Start>(
     rt: &HostRuntime,
     desk: Desk<FileStore<D>>,
@@ -47,7 +48,8 @@ fn resume_files<D: Disk + Drop, F: Start>(
     ensures clean { doubt (desk_state over_files desk).is_clean ≤ doubt (store.view result.0).is_clean }
     ensures front { MayHold result.0 (image_at F.Start) → (s : Operator) (calls : _) (k : _)
         → AllLeft (desk_state over_files desk) (IsAfterFront s calls k)
-        → IfOk result.1 (λ again. HasCleanDisk (desk_state over_files again) → IsAtSomeFront over_files again s calls k) }
+        → IfOk result.1 (λ again. HasCleanDisk (desk_state over_files again)
+        → IsAtSomeFront over_files again s calls k) }
     ensures refused { MayHold result.0 (image_at F.Start) → (s : Operator) (calls : _) (k : _)
         → AllLeft (desk_state over_files desk) (IsAfterFront s calls k) → IfErr result.1 IsOnlyStorage }
 {
@@ -62,12 +64,12 @@ fn resume_files<D: Disk + Drop, F: Start>(
     }
 }
 
-/// Serves a list of requests over files and stops; then opens the files at a path, takes them into service and reads them, as
-/// `run_adopt_and_read` does. `F` stands for the bytes that those files hold: the promise is for all bytes that the stop may have
-/// left in the first ones, so it is of two processes that have nothing but the files in common.
+/// Serves a list of requests over files and stops; then opens the files at a path, takes them into service and reads
+/// them, as `run_adopt_and_read` does. `F` stands for the bytes that those files hold: the promise is for all bytes
+/// that the stop may have left in the first ones, so it is of two processes that have nothing but the files in common.
 ///
-/// Files that the stop may have left are refused for memory or storage alone: for want of memory, where the system refuses to open
-/// them, for a fault of the disk, or where they are too long.
+/// Files that the stop may have left are refused for memory or storage alone: for want of memory, where the system
+/// refuses to open them, for a fault of the disk, or where they are too long.
 pub fn run_stop_and_read<D: Disk + Drop, F: Start, W: Write>(
     rt: &HostRuntime,
     mut desk: Desk<FileStore<D>>,
@@ -84,10 +86,12 @@ pub fn run_stop_and_read<D: Disk + Drop, F: Start, W: Write>(
 )
     ensures headline { (s : Operator) → IsAt over_files desk s → MayHold result.1 (image_at F.Start)
         → IfOk result.2 (λ r. HasCleanDisk (desk_state over_files r.0)
-        → ReadsSomeFront over_files r.0 s calls.now (length result.0.replies.items) bike moment (W.contents out.old) (W.contents out.new) r.1) }
+        → ReadsSomeFront over_files r.0 s calls.now (length result.0.replies.items)
+        bike moment (W.contents out.old) (W.contents out.new) r.1) }
     ensures replies { (s : Operator) → IsAt over_files desk s → IsClean (store.view result.1)
         → AreReplies s calls.now result.0.replies.items }
-    ensures refused { (s : Operator) → IsAt over_files desk s → MayHold result.1 (image_at F.Start) → IfErr result.2 IsOnlyStorage }
+    ensures refused { (s : Operator) → IsAt over_files desk s → MayHold result.1 (image_at F.Start)
+        → IfErr result.2 IsOnlyStorage }
     ensures whole { IsNone result.0.end → length result.0.replies.items ≡ length calls.now }
     ensures stopped { TellsStopped desk.is_stopped result.0.end }
 {

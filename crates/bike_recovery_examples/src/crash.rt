@@ -11,7 +11,8 @@ use std::test::Fail;
 
 /// A city with one bicycle, which is at the depot, and no station.
 const LINES: [&str; 4] = [
-    "1700000000\toffice\tk1\tset-system\tmetro\ten\tMetro\t24/7\tfeeds@example.org\tEtc/UTC\tEUR\thttp://127.0.0.1:8080\t30",
+    "1700000000\toffice\tk1\tset-system\tmetro\ten\tMetro\t24/7\tfeeds@example.org\tEtc/UTC\t\
+     EUR\thttp://127.0.0.1:8080\t30",
     "1700000000\toffice\tk2\tadd-plan\tbasic\tBasic\t100\tfalse\tHourly\t30:25:5:-",
     "1700000000\toffice\tk3\tadd-type\tcity\tCity\tbicycle\thuman\t0\tbasic",
     "1700000000\toffice\tk4\tadd-bike\t7\tcity",

@@ -11,7 +11,8 @@ use std::test::Fail;
 
 /// A station of two docks, of which the second is broken, with bicycle 7 in the first; rider 17 has paid 25.00.
 const LINES: [&str; 13] = [
-    "1699999200\toffice\tf1\tset-system\tmetro\ten\tMetro\t24/7\tfeeds@example.org\tEtc/UTC\tEUR\thttp://127.0.0.1:8080\t30",
+    "1699999200\toffice\tf1\tset-system\tmetro\ten\tMetro\t24/7\tfeeds@example.org\tEtc/UTC\t\
+     EUR\thttp://127.0.0.1:8080\t30",
     "1699999200\toffice\tf2\tadd-plan\tbasic\tBasic\t100\tfalse\tHourly\t30:25:5:-",
     "1699999200\toffice\tf3\tadd-type\tcity\tCity\tbicycle\thuman\t0\tbasic",
     "1699999200\toffice\tf4\tadd-station\ta1\tHarbour\t41.890169\t12.492269\t2",
@@ -26,7 +27,8 @@ const LINES: [&str; 13] = [
     "1699999200\toffice\tg2\ttop-up\t17\t2500",
 ];
 
-/// A balance in hundredths, and what is counted at a station: bicycles available and disabled, docks available and disabled.
+/// A balance in hundredths, and what is counted at a station: bicycles available and disabled, docks available and
+/// disabled.
 type Told = (i64, [u32; 4]);
 
 fn tell<S: Alter>(

@@ -5,7 +5,8 @@ ghost use Rattle.sqlite_value.specs.Order.{column};
 ghost use Rattle.sqlite_sql.specs.Ops.{is_null};
 ghost use Rattle.bike_schema.specs.declared.fault.StatementFault.TheVariants.{StoreFailed};
 ghost use Rattle.bike_schema.specs.Columns.{number_of, moment_of, flag_of, state_of, or_none, read_or_failed};
-ghost use Rattle.bike_schema.specs.Columns.{whole_in, number_in, moment_in, flag_in, state_in, text_in, ident_in, name_in, language_in};
+ghost use Rattle.bike_schema.specs.Columns.{whole_in, number_in, moment_in, flag_in, state_in, text_in, ident_in};
+ghost use Rattle.bike_schema.specs.Columns.{name_in, language_in};
 
 use crate::fault::StatementFault;
 use bike_book::BikeState;

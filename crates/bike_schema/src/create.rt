@@ -4,7 +4,8 @@ ghost use Rattle.std.specs.Prelude.{◌≡◌, map};
 ghost use Rattle.sqlite.specs.State.{Survives};
 ghost use Rattle.sqlite.specs.Held.{state};
 ghost use Rattle.bike_schema.specs.Calls.{Writes};
-ghost use Rattle.bike_schema.specs.Creates.{RunsAll, LeavesCommit, TellsFault, MakesTables, table_texts, index_texts, first_write};
+ghost use Rattle.bike_schema.specs.Creates.{RunsAll, LeavesCommit, TellsFault, MakesTables, table_texts, index_texts};
+ghost use Rattle.bike_schema.specs.Creates.{first_write};
 
 use crate::fault::StatementFault;
 use bike_book::NEWEST;

@@ -1,5 +1,5 @@
-//! Rows between two values: what a statement has in common that looks a row up, walks on from one, and counts them all. The engine
-//! keeps the plans of few texts, so a table's look-up, walk and count are one.
+//! Rows between two values: what a statement has in common that looks a row up, walks on from one, and counts them all.
+//! The engine keeps the plans of few texts, so a table's look-up, walk and count are one.
 
 ghost use Rattle.std.specs.Prelude.{◌≡◌, length, nat_le};
 

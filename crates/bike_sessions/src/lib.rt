@@ -1,4 +1,5 @@
-//! Laws of requests that come again, over any list of sessions: a program serves, stops anywhere, starts again and goes on.
+//! Laws of requests that come again, over any list of sessions: a program serves, stops anywhere, starts again and goes
+//! on.
 #![tactic(auto)]
 
 mod laws;

@@ -15,8 +15,9 @@ fn table_with_tree(tables: &[Table], tree: u32) -> Option<&Table>
     tables.iter().find(|table| table.tree == tree)
 }
 
-/// Where the wanted table stands in the schema: the first table of its name, if that is the wanted one in all but its tree, and no table before it has that tree.
-/// The wanted table has columns and keys alone; one with a DEFAULT, a CHECK or REFERENCES is never found. Its own tree is not looked at.
+/// Where the wanted table stands in the schema: the first table of its name, if that is the wanted one in all but its
+/// tree, and no table before it has that tree. The wanted table has columns and keys alone; one with a DEFAULT, a CHECK
+/// or REFERENCES is never found. Its own tree is not looked at.
 pub fn place_of_table(schema: &Schema, wanted: &Table) -> Option<usize>
     ensures { (at : ℕ) → (result ≡ Some at) ↔ (StandsAt schema.now wanted.now at × IsPlainTable wanted.now) }
 {

@@ -102,7 +102,8 @@ fn is_bare(table: &Table) -> bool
         && has_no_stamps(&table.stamps)
 }
 
-/// Whether a table is the wanted one in all but its tree, and this is a plain one. A wanted table that is not plain is none.
+/// Whether a table is the wanted one in all but its tree, and this is a plain one. A wanted table that is not plain is
+/// none.
 pub(crate) fn is_wanted(table: &Table, wanted: &Table) -> bool
     ensures { IsTrue result ↔ ((table.now ≡ with_tree wanted.now table.now.tree) × IsPlainTable wanted.now) }
 {

@@ -74,8 +74,8 @@ fn judge_numbers<S: Alter>(conn: &mut Connection<S>) -> Result<Option<BadKey>, S
     judge_lines(conn, Query::Stations, StretchJudge::<StationAccount>::new())
 }
 
-/// The first bad key of `stations_3`, where all tables before it are good. The database stays as it was. `NoMemory` where
-/// memory is refused; every other fault is the database's.
+/// The first bad key of `stations_3`, where all tables before it are good. The database stays as it was. `NoMemory`
+/// where memory is refused; every other fault is the database's.
 pub fn judge_stations<S: Alter>(conn: &mut Connection<S>) -> Result<Option<BadKey>, StatementFault>
     ensures { ReadsWhere S.Store IsOurs conn.old conn.new result (JudgesTable Stations) }
 {

@@ -208,9 +208,10 @@ fn find_moved<S: Alter>(
     }
 }
 
-/// What the tables store of what an accepted command puts or marks, beside the operator's sums: the numbers of the dock's
-/// station, the counts there of the bicycle's type, and of a dock that is marked whether it has a row. `sight` is what was
-/// read for the command: a dock that was read for it isn't read again. Where no dock is touched, nothing is read.
+/// What the tables store of what an accepted command puts or marks, beside the operator's sums: the numbers of the
+/// dock's station, the counts there of the bicycle's type, and of a dock that is marked whether it has a row. `sight`
+/// is what was read for the command: a dock that was read for it isn't read again. Where no dock is touched, nothing is
+/// read.
 ///
 /// `NoMemory` comes where the engine wants memory that is refused, and `StoreFailed` where it fails otherwise, or a row
 /// holds what the product never writes. In each case the tables are as before the call, or as before the transaction.

@@ -1,6 +1,7 @@
 //! Lines out of a reader's bytes.
 
-ghost use Rattle.std.specs.Prelude.{◌≡◌, ℕ, ◌-◌, ◌≤◌, ◌<◌, ◌==◌, List, [], ◌++◌, IfOk, OnOk, OnErr, Ok, Err, true, false, length, take, drop, vec_len};
+ghost use Rattle.std.specs.Prelude.{◌≡◌, ℕ, ◌-◌, ◌≤◌, ◌<◌, ◌==◌, List, [], ◌++◌, IfOk, OnOk, OnErr, Ok, Err, true};
+ghost use Rattle.std.specs.Prelude.{false, length, take, drop, vec_len};
 ghost use Rattle.std.specs.Io.KnownBytes.{Consumes, Keeps, IsAtEnd, prepend_known};
 ghost use Rattle.std.specs.Io.BufRead.{drop_through};
 ghost use Rattle.bike_stream.specs.Lines.{first_line, has_feed};
@@ -125,7 +126,8 @@ impl LineBuffer {
 
         // Each line takes a byte, and so does each read but one that finds the end or fails.
         ensures fewer { result ≡ Ok true → most_ahead self.new reads.new < most_ahead self.old reads.old }
-        ensures read { ReadsBytes (R.remaining reader.old) (R.remaining reader.new) self.new reads.old reads.new result }
+        ensures read { ReadsBytes (R.remaining reader.old) (R.remaining reader.new)
+            self.new reads.old reads.new result }
         ensures tried { result ≡ Err ReadFault.Failed → reads.new < reads.old }
         ensures none_left { result ≡ Err ReadFault.TooMany → reads.new ≡ 0 }
     {

@@ -10,5 +10,6 @@ pub fn line_laws()
     ensures ended { (lines : List (List ℕ)) → All IsFree lines → lines_of (lines_text lines) ≡ lines }
     ensures last { (lines : List (List ℕ)) (end : List ℕ) → All IsFree lines → IsFree end → 0 < length end
         → lines_of (lines_text lines ++ end) ≡ lines ++ end ∷ [] }
-    ensures next { (text : List ℕ) → 0 < length text → lines_of text ≡ first_line text ∷ lines_of (drop_through 10 text) }
+    ensures next { (text : List ℕ) → 0 < length text
+        → lines_of text ≡ first_line text ∷ lines_of (drop_through 10 text) }
 {}

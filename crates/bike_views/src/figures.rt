@@ -61,8 +61,8 @@ pub fn know_figures<S: Alter>(
     }
 }
 
-/// Whether so many entries and the open rentals are as many entries as there may be. Open rentals, of which there are at most
-/// as many as bicycles, are counted only where so many could fill the ledger.
+/// Whether so many entries and the open rentals are as many entries as there may be. Open rentals, of which there are
+/// at most as many as bicycles, are counted only where so many could fill the ledger.
 pub(crate) fn is_ledger_full<S: Alter>(
     conn: &mut Connection<S>,
     entries: u32,

@@ -57,7 +57,8 @@ fn has_language(system: &Option<(Ident, Language)>, names: &[MoreName], language
     is_own_language(system, language) || is_among(names, language)
 }
 
-/// Whether there is something of this kind with this identifier, where `system` is the system's identifier and language.
+/// Whether there is something of this kind with this identifier, where `system` is the system's identifier and
+/// language.
 fn is_named_there<S: Alter>(
     conn: &mut Connection<S>,
     kind: NameKind,
@@ -76,8 +77,8 @@ fn is_named_there<S: Alter>(
     }
 }
 
-/// Whether there is something of this kind with this identifier, what name it has in the language, and whether it has as many
-/// as there may be.
+/// Whether there is something of this kind with this identifier, what name it has in the language, and whether it has
+/// as many as there may be.
 fn find_named<S: Alter>(
     alloc: Global,
     conn: &mut Connection<S>,

@@ -7,8 +7,8 @@ use bike_fleet_reads::DockNumbers;
 use bike_operator::View;
 use bike_schema::StatementFault;
 
-/// The view for a command, and what the rows of the dock tell beside it that was read for the view. So what is stored of
-/// that dock isn't read again.
+/// The view for a command, and what the rows of the dock tell beside it that was read for the view. So what is stored
+/// of that dock isn't read again.
 #[derive(Drop)]
 pub struct Sight {
     /// The view.

@@ -24,12 +24,12 @@ use sqlite::{Alter, Connection};
 use std::alloc::Global;
 
 /// What the command names of the stored operator, each there or absent, and what is counted for it, by what is known of
-/// it; where a dock is read for that, what its rows tell beside. Where each open rental is its rider's newest, a start reads
-/// the newest alone.
+/// it; where a dock is read for that, what its rows tell beside. Where each open rental is its rider's newest, a start
+/// reads the newest alone.
 ///
 /// `NoMemory` comes where the engine or the view wants memory that is refused, and `StoreFailed` where the engine fails
-/// otherwise, or a row holds what the product never writes. In each case the tables are as before the call, or as before
-/// the transaction.
+/// otherwise, or a row holds what the product never writes. In each case the tables are as before the call, or as
+/// before the transaction.
 pub fn find_view<S: Alter>(
     alloc: Global,
     conn: &mut Connection<S>,

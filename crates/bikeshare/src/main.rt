@@ -72,8 +72,8 @@ fn run_on<W: Write>(
     end
 }
 
-/// Writes what the buffer holds, and tells how the task ended. After a fault nothing more is written: a buffer that is let go would
-/// write what it holds.
+/// Writes what the buffer holds, and tells how the task ended. After a fault nothing more is written: a buffer that is
+/// let go would write what it holds.
 fn finish<W: Write + Drop>(mut out: BufWriter<W>, end: Result<u64, Fault>) -> Result<u64, Fault> {
     let told = match end {
         Ok(count) => match out.flush() {
