@@ -225,6 +225,23 @@ def test_lengths(program):
     assert sum(lengths.values()) <= MOST_LINES, sum(lengths.values())
 
 
+# At most so many characters has a line of code, comments and contracts.
+WIDEST_LINE = 120
+
+
+def wide_lines(text):
+    """The numbers of the lines that are too wide."""
+    return [n for n, it in enumerate(text.splitlines(), 1) if len(it) > WIDEST_LINE]
+
+
+def test_widths_of_code(program):
+    """No line of a crate's code is too wide, be it a comment or a clause."""
+    assert wide_lines("→" * 120 + "\n" + "x" * 121 + "\n") == [2]
+    files = sorted((TOP / "crates").glob("*/src/**/*.rt"))
+    wide = [f"{it.relative_to(TOP)}:{n}" for it in files for n in wide_lines(it.read_text(encoding="utf-8"))]
+    assert files and not wide, wide
+
+
 def test_days_of_figures(program):
     """Outside of CHANGELOG.md at most ten days stand on which something was measured or tried, and no time of day. Days
     of examples, which are of another year, don't count."""
