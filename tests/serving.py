@@ -242,7 +242,7 @@ def test_every_feed_is_the_text_of_feed(program):
         assert program.run("feed", "city.db", name, "--at", str(at)) == (0, body, b""), (name, body)
 
 
-HELD = 524_288
+LONG = 524_288
 
 
 def city_of(program, file, longer):
@@ -255,13 +255,13 @@ def city_of(program, file, longer):
     return feed(program, "station_status", file=file).encode()
 
 
-def test_feeds_at_the_length_that_is_held(program):
-    """A text of at most 512 KiB is made once, a longer one twice; both are the text of `feed`."""
+def test_long_feeds(program):
+    """A long feed, whose memory grows as it is made, is the text of `feed` too."""
     ten, eleven = (len(city_of(program, f"{it}.db", [0] * it)) for it in (10, 11))
     each = eleven - ten
-    count, more = divmod(HELD - ten, each)
-    for length in (HELD - 1, HELD, HELD + 1, HELD + 200):
-        left = more + length - HELD
+    count, more = divmod(LONG - ten, each)
+    for length in (LONG - 1, LONG, LONG + 1, LONG + 200):
+        left = more + length - LONG
         longer = [min(20, max(0, left - 20 * it)) for it in range(10 + count)]
         text = city_of(program, f"{length}.db", longer)
         assert len(text) == length, (len(text), length)

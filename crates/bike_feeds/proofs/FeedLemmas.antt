@@ -1,5 +1,5 @@
 -- A feed of the system that the desk has.
-use Rattle.std.proofs.Common.{◌≡◌, ℕ, List, ◌++◌, length, Bool, true, false, not, Option, Some, None, Result, Ok, Err, OnOk, OnErr, inl, inr, refl, sym, ap, ◌∙◌, subst, arith}
+use Rattle.std.proofs.Common.{◌≡◌, ℕ, List, ◌++◌, length, Bool, true, false, not, Option, Some, None, Result, Ok, Err, OnOk, OnErr, refl, sym, ap, ◌∙◌, subst, arith}
 use Rattle.std.specs.Prelude.{MatchOption}
 use Rattle.std.specs.Result.{IsErrAnd}
 use Rattle.std.specs.Io.KnownBytes.{Keeps, Appends}
@@ -10,7 +10,7 @@ use Rattle.bike_stream.specs.Writing.{AppendsFront}
 use Rattle.bike_catalogue.specs.Rows.{SystemRow}
 use Rattle.bike_json.specs.Outputs.{OutputState}
 use Rattle.bike_json.specs.Tree.{Tree, comma, text_of}
-use Rattle.bike_json.specs.State.{Place, Wrote, MayFail, outset, has_more}
+use Rattle.bike_json.specs.State.{Place, Wrote, outset, has_more}
 use Rattle.bike_json.proofs.Series.{Wrote_as}
 use Rattle.bike_feed_texts.specs.declared.feed.Feed.{Feed}
 use Rattle.bike_feed_texts.specs.Trees.{feed_tree}
@@ -22,11 +22,11 @@ use Rattle.bike_desk.specs.declared.fault.DeskFault.TheVariants.{NoMemory, Store
 use Rattle.bike_desk.specs.Queries.{Queries}
 use Rattle.bike_feeds.specs.declared.fault.FeedFault.{FeedFault}
 use Rattle.bike_feeds.specs.declared.fault.FeedFault.TheVariants.{SystemMissing, Write, Desk}
-use Rattle.bike_feeds.specs.Publishing.{LeavesDesk, WantsNoMemory, feed_text, IsPublished, IsBegun, IsTooLong, MayFailToWrite}
+use Rattle.bike_feeds.specs.Publishing.{LeavesDesk, feed_text, IsPublished, IsBegun}
 use Rattle.bike_feeds.specs.Listings.{elements, listing_text}
 use Rattle.bike_feeds.specs.declared.listing.Listing.{Listing}
 use Rattle.bike_feeds.specs.Walking.{StaysAt, WritesItems, WritesText, IsCounted}
-use Rattle.bike_feeds.proofs.DeskLemmas.{same_fault, earlier, stays_still, stays_asked, leaves_ok, leaves_missing, leaves_then, leaves_same}
+use Rattle.bike_feeds.proofs.DeskLemmas.{earlier, stays_still, stays_asked, leaves_ok, leaves_missing, leaves_then}
 use Rattle.bike_feeds.proofs.TextLemmas.{text_told, text_cut, text_passed}
 
 -- ---- one feed of a system
@@ -92,23 +92,6 @@ begun : {A : Type 0} (s : Operator) (x : SystemRow) (feed : Feed) (moment : ℕ)
 begun s x feed moment a b (Ok y) set h = tt
 begun s x feed moment a b (Err e) set h = subst (λ (o : Option SystemRow). MatchOption o (Keeps a b) (λ y. AppendsFront a b (feed_text s y feed moment))) (sym set) h
 
-why_failed : (s : Operator) (x : SystemRow) (feed : Feed) (moment : ℕ) (a : OutputState) → s.system ≡ Some x → MayFail a 0 (feed_text s x feed moment) → MayFailToWrite a s feed moment
-why_failed s x feed moment a set (inl refuses) = inl refuses
-why_failed s x feed moment a set (inr longer) = inr (x, set, omega (arith, longer))
-
--- an output that refuses nothing fails only where the feed is too long
-pub only_too_long : (s : Operator) (feed : Feed) (moment : ℕ) (a : OutputState) → a.may_refuse ≡ false → MayFailToWrite a s feed moment → IsTooLong s feed moment
-only_too_long s feed moment a never (inl refuses) = let e : true ≡ false = sym refuses ∙ never in absurd (cc e)
-only_too_long s feed moment a never (inr longer) = longer
-
--- so what hands its fault on does
-pub told_too_long : {A B : Type 0} (s : Operator) (feed : Feed) (moment : ℕ) (a : OutputState) (fault : FeedFault) (result : Result B FeedFault) → a.may_refuse ≡ false
-    → IsErrAnd result (λ told. told ≡ fault) → (◌≡◌ {A = Result A FeedFault} (Err fault) (Err Write) → MayFailToWrite a s feed moment)
-    → result ≡ Err Write → IsTooLong s feed moment
-told_too_long s feed moment a fault (Ok x) never is cause e = absurd is
-told_too_long {A} s feed moment a fault (Err told) never is cause e =
-    only_too_long s feed moment a never (cause (ap (λ f. Err f) (sym is) ∙ same_fault e))
-
 module _ {S : Type 0} (g : Ghosts S) {d e : DeskValue S} (o : Option SystemRow) (q : Queries g d e (Ok o) (λ s x. x ≡ s.system)) where
   asked : StaysAt g d e
   asked = stays_asked g o (was_going g o q) q
@@ -134,11 +117,6 @@ module _ {S : Type 0} (g : Ghosts S) {d e : DeskValue S} (o : Option SystemRow) 
     publish_front clean s at =
         let before = earlier g e f w.desk.clean clean in
         begun s x feed moment a.bytes b.bytes result (has x is before s at) (w.front clean s (asked.same before s at))
-
-    pub publish_cause : HasCleanDisk (desk_state g f) → (s : Operator) → IsAt g d s → result ≡ Err Write → MayFailToWrite a s feed moment
-    publish_cause clean s at failed =
-        let before = earlier g e f w.desk.clean clean in
-        why_failed s x feed moment a (has x is before s at) (w.cause clean s (asked.same before s at) failed)
 
 -- the first question failed, of a desk that may be stopped
 leaves_first : {S A B : Type 0} (g : Ghosts S) {says : Operator → A → Type 0} {d e : DeskValue S} (fault : DeskFault) → Queries g d e (Err fault) says
@@ -168,12 +146,3 @@ pub published : {A : Type 0} (s : Operator) (feed : Feed) (moment : ℕ) (a b : 
     → OnOk r (IsPublished s feed moment a b)
 published s feed moment a b count (Ok x) h = (h.0, h.1, h.2)
 published s feed moment a b count (Err e) h = tt
-
-pub wants_passed : {A B : Type 0} (fault : FeedFault) (result : Result B FeedFault) → IsErrAnd result (λ told. told ≡ fault) → WantsNoMemory {A = A} (Err fault) → WantsNoMemory result
-wants_passed fault (Ok x) is none = absurd is
-wants_passed fault (Err told) is none = λ e. none (ap (λ f. Err f) (sym is) ∙ same_fault e)
-
-pub leaves_passed : {S A B : Type 0} (g : Ghosts S) {d e : DeskValue S} (fault : FeedFault) (result : Result B FeedFault) → IsErrAnd result (λ told. told ≡ fault)
-    → LeavesDesk g d e {A = A} (Err fault) → LeavesDesk g d e result
-leaves_passed g fault (Ok x) is l = absurd is
-leaves_passed {B = B} g {d} {e} fault (Err told) is l = subst (λ (f : FeedFault). LeavesDesk g d e {A = B} (Err f)) (sym is) (leaves_same g fault l)

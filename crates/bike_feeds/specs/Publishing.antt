@@ -1,11 +1,9 @@
 -- What publishing a feed owes.
-use Rattle.std.specs.Prelude.{◌≡◌, ◌≢◌, ◌≤◌, ◌<◌, ◌⊎◌, ℕ, List, length, IsTrue, false, MatchOption, Option, Some, None, Result, Err, OnOk}
+use Rattle.std.specs.Prelude.{◌≡◌, ◌≢◌, ◌≤◌, ℕ, List, IsTrue, false, MatchOption, Option, Some, None, Result, Err, OnOk}
 use Rattle.std.specs.Io.KnownBytes.{Keeps, Appends}
 use Rattle.sqlite_trees.specs.View.{doubt}
 use Rattle.sqlite_trees.specs.declared.store.Store.{Ghosts}
 use Rattle.bike_stream.specs.Writing.{AppendsFront}
-use Rattle.bike_json.specs.Outputs.{OutputState}
-use Rattle.bike_json.specs.State.{greatest_count}
 use Rattle.bike_json.specs.Tree.{text_of}
 use Rattle.bike_catalogue.specs.Rows.{SystemRow}
 use Rattle.bike_operator.specs.Operator.{Operator}
@@ -28,18 +26,6 @@ IsPublished s feed moment old new = (x : SystemRow) × (s.system ≡ Some x) × 
 -- A front of it, and not all; nothing where the operator has no system.
 abbrev pub IsBegun : Operator → Feed → ℕ → Option (List ℕ) → Option (List ℕ) → Type 0
 IsBegun s feed moment old new = MatchOption s.system (Keeps old new) (λ x. AppendsFront old new (feed_text s x feed moment))
-
--- the length of the whole feed
-abbrev pub IsLength : Operator → Feed → ℕ → ℕ → Type 0
-IsLength s feed moment n = (x : SystemRow) × (s.system ≡ Some x) × (n ≡ length (feed_text s x feed moment))
-
--- the feed has more bytes than any count tells
-abbrev pub IsTooLong : Operator → Feed → ℕ → Type 0
-IsTooLong s feed moment = (x : SystemRow) × (s.system ≡ Some x) × (greatest_count < length (feed_text s x feed moment))
-
--- why the writing of a feed may fail
-abbrev pub MayFailToWrite : OutputState → Operator → Feed → ℕ → Type 0
-MayFailToWrite output s feed moment = IsTrue output.may_refuse ⊎ IsTooLong s feed moment
 
 -- No want of memory is told: a desk takes none of its own while it answers what a feed asks.
 abbrev pub WantsNoMemory : {A : Type 0} → Result A FeedFault → Type 0

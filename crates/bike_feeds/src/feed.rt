@@ -1,12 +1,10 @@
 //! Whole feeds.
 
-ghost use Rattle.std.specs.Prelude.{◌≡◌, false, IsTrue, Err, IfOk, OnOk, OnErr};
+ghost use Rattle.std.specs.Prelude.{◌≡◌, false, IsTrue, OnOk, OnErr};
 ghost use Rattle.std.specs.Io.KnownBytes.{Keeps};
 ghost use Rattle.bike_json.specs.State.{outset};
 ghost use Rattle.bike_desk.specs.Desk.{OfOperator};
-ghost use Rattle.bike_feeds.specs.declared.fault.FeedFault.TheVariants.{Write as WriteFailed};
-ghost use Rattle.bike_feeds.specs.Publishing.{feed_text, IsPublished, IsBegun, IsLength, IsTooLong, MayFailToWrite};
-ghost use Rattle.bike_feeds.specs.Publishing.{LeavesDesk, WantsNoMemory};
+ghost use Rattle.bike_feeds.specs.Publishing.{feed_text, IsPublished, IsBegun, LeavesDesk, WantsNoMemory};
 ghost use Rattle.bike_feeds.specs.Walking.{IsCounted, WritesText};
 
 use crate::fault::FeedFault;
@@ -16,7 +14,7 @@ use bike_catalogue::System;
 use bike_desk::Desk;
 use bike_feed_texts::{Feed, write_gbfs};
 use bike_fixed::Moment;
-use bike_json::{Discard, JsonState, Output};
+use bike_json::{JsonState, Output};
 use sqlite::Alter;
 use std::alloc::Global;
 use std::io::Write;
@@ -69,8 +67,6 @@ fn publish<S: Alter, W: Output>(
         OnOk result (IsCounted s feed moment (W.contents out.old).bytes (W.contents out.new).bytes json.new.count)) }
     ensures front { OfOperator S.Store desk.old desk.new (λ s.
         OnErr result (IsBegun s feed moment (W.contents out.old).bytes (W.contents out.new).bytes)) }
-    ensures cause { OfOperator S.Store desk.old desk.new (λ s.
-        result ≡ Err WriteFailed → MayFailToWrite (W.contents out.old) s feed moment) }
     ensures nothing { IsTrue desk.old.is_stopped → Keeps (W.contents out.old).bytes (W.contents out.new).bytes }
 {
     let Some(system) = desk.system(alloc)? else {
@@ -102,23 +98,4 @@ pub fn write_feed<S: Alter, W: Write>(
 {
     let mut json = JsonState::new();
     publish(alloc, desk, feed, moment, &mut json, out)
-}
-
-/// The length in bytes of what `write_feed` writes. Fails as that does, but that `Write` comes only where the text is
-/// longer than any count tells.
-pub fn feed_length<S: Alter>(
-    alloc: Global,
-    desk: &mut Desk<S>,
-    feed: Feed,
-    moment: Moment,
-) -> Result<u64, FeedFault>
-    ensures desk { LeavesDesk S.Store desk.old desk.new result }
-    ensures takes_none { WantsNoMemory result }
-    ensures length { OfOperator S.Store desk.old desk.new (λ s. IfOk result (λ n. IsLength s feed moment n)) }
-    ensures too_long { OfOperator S.Store desk.old desk.new (λ s.
-        result ≡ Err WriteFailed → IsTooLong s feed moment) }
-{
-    let mut json = JsonState::new();
-    publish(alloc, desk, feed, moment, &mut json, &mut Discard)?;
-    Ok(json.count())
 }

@@ -19,4 +19,4 @@ mod pages;
 pub use bike_desk::{Desk, DeskFault};
 pub use bike_feed_texts::Feed;
 pub use fault::FeedFault;
-pub use feed::{feed_length, write_feed};
+pub use feed::write_feed;

@@ -14,7 +14,7 @@ use Rattle.bike_incoming.specs.declared.asked.Asked.TheVariants.{Apply}
 use Rattle.bike_incoming.specs.Received.{Received}
 use Rattle.bike_incoming.proofs.Once.{asks_once}
 use Rattle.bike_answers.specs.declared.answer.Answer.TheVariants as answer
-use Rattle.bike_http.specs.Exchange.{Response, answered, published, response_of, operator_after, Answers}
+use Rattle.bike_http.specs.Exchange.{Response, answered, response_of, operator_after, Answers}
 use Rattle.bike_http.specs.Telling.{Tells, TellsFor, Serves, unavailable}
 use Rattle.bike_http.proofs.Told.{tells_any}
 use Rattle.bike_http.specs.Again.{CameBefore, IsFirstOrNone, SendsAgain}
@@ -75,13 +75,4 @@ module _ {S : Type 0} (g : Ghosts S) (d : DeskValue S) (s : Operator) (t : ℕ) 
   sends_again (Ok (Status status)) h = let it = sent_again h.0 h.1 in (h.0, it.0, h.2, h.3, it.1)
   sends_again (Err Read) h = tt
   sends_again (Err Write) h = let it = sent_again h.0 h.1 in (h.0, it.0, h.2, it.1)
-  sends_again (Err Cut) h =
-      let again = (response_again input s first came t (published h.0) h.1 h.2).0 in
-      absurd (not_published h.0 (step came.earlier came.moment came.request).0 (again ∙ came.first_is))
-    where
-      is_text : Response → Type 0
-      is_text (published text) = Unit {0}
-      is_text (answered a) = ⊥
-
-      not_published : (text : List ℕ) (reply : Reply) → published text ≡ answered (answer.Replied reply) → ⊥
-      not_published text reply is = subst is_text is tt
+  sends_again (Err Cut) h = h

@@ -31,8 +31,6 @@ module _ {S : Type 0} (g : Ghosts S) (d : DeskValue S) (s : Operator) (t : ℕ) 
     pub serves : (r : Result ℕ SendFault) → RespondsTo g d s t asked before after r → Serves g d s t input before after (end_of_sending r)
     serves (Ok status) h = (h.0, inr (record { response = response_of s t asked; next = operator_after s t asked; answers = answers; told = h.1 }), h.2, h.3)
     serves (Err fault.Write) h = (h.0, inr (record { response = response_of s t asked; next = operator_after s t asked; answers = answers; told = h.1 }), h.2)
-    serves (Err fault.Cut) h =
-        (h.0, operator_after s t asked, record { asked = asked; received = received; good = good; gives = sym h.1; leads = refl }, h.2, h.3)
 
     done_at : (status : ℕ) → RespondsTo g d s t asked before after (Ok status) → status ≡ 200 → IsDone g d s t input
     done_at status h is = elim (tells_any g d s asked h.1) [
@@ -43,19 +41,16 @@ module _ {S : Type 0} (g : Ghosts S) (d : DeskValue S) (s : Operator) (t : ℕ) 
     pub is_done : (r : Result ℕ SendFault) → RespondsTo g d s t asked before after r → end_of_sending r ≡ Ok (Status 200) → IsDone g d s t input
     is_done (Ok status) h is = done_at status h (ap told_status is)
     is_done (Err fault.Write) h is = absurd (let wrong : 0 ≡ 200 = ap told_status is in omega (arith, wrong))
-    is_done (Err fault.Cut) h is = absurd (let wrong : 0 ≡ 200 = ap told_status is in omega (arith, wrong))
 
   -- memory was refused while it was read
   pub refuses : (r : Result ℕ SendFault) → IfSome input WantsMemory → IsAt g d s → SendsAnswer before after answer.Unavailable r
       → Serves g d s t input before after (end_of_sending r)
   refuses (Ok status) wants at h = (answered answer.Unavailable, inl (refl, wants, at), h.0, h.1)
   refuses (Err fault.Write) wants at h = (answered answer.Unavailable, inl (refl, wants, at), h)
-  refuses (Err fault.Cut) wants at h = absurd h
 
   pub never_done : (r : Result ℕ SendFault) → SendsAnswer before after answer.Unavailable r → end_of_sending r ≡ Ok (Status 200) → IsDone g d s t input
   never_done (Ok status) h is = absurd (let wrong : 200 ≡ 503 = sym (ap told_status is) ∙ h.0 in omega (arith, wrong))
   never_done (Err fault.Write) h is = absurd (let wrong : 0 ≡ 200 = ap told_status is in omega (arith, wrong))
-  never_done (Err fault.Cut) h is = absurd (let wrong : 0 ≡ 200 = ap told_status is in omega (arith, wrong))
 
 -- what a known input asks for is one thing
 same_asked : (input : Option (List ℕ)) (asked other : Asked) → IfSome input (λ bytes. Received bytes (Some asked))
@@ -71,7 +66,6 @@ leaves_tables g old new s t input asked received rests other known =
 pub rests : {S : Type 0} (old new : DeskValue S) (before after : Option (List ℕ)) (r : Result ℕ SendFault) → Rests old new before after (end_of_sending r)
 rests old new before after (Ok status) = tt
 rests old new before after (Err fault.Write) = tt
-rests old new before after (Err fault.Cut) = tt
 
 -- ---- a stopped desk
 
@@ -81,11 +75,9 @@ module _ (input before after : Option (List ℕ)) where
       → SendsAnswer before after (refusal_of asked) r → Refuses input before after (end_of_sending r)
   stopped_refuses asked received (Ok status) h = (refusal_of asked, inr (asked, received, refl), h)
   stopped_refuses asked received (Err fault.Write) h = (refusal_of asked, inr (asked, received, refl), h)
-  stopped_refuses asked received (Err fault.Cut) h = absurd h
 
   -- memory was refused while it was read
   pub stopped_unread : (r : Result ℕ SendFault) → IfSome input WantsMemory → SendsAnswer before after answer.Unavailable r
       → Refuses input before after (end_of_sending r)
   stopped_unread (Ok status) wants h = (answer.Unavailable, inl (refl, wants), h)
   stopped_unread (Err fault.Write) wants h = (answer.Unavailable, inl (refl, wants), h)
-  stopped_unread (Err fault.Cut) wants h = absurd h

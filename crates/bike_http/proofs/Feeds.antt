@@ -1,24 +1,20 @@
--- What is told of a feed, after each of its two passes.
-use Rattle.std.proofs.Common.{◌≡◌, inl, ℕ, ◌<◌, ◌++◌, List, [], Option, Some, None, true, false, Result, Ok, Err, OnOk, OnErr, length, take, refl, sym, ap, ◌∙◌, subst, arith, length-append}
+-- What is told of a feed.
+use Rattle.std.proofs.Common.{◌≡◌, inl, ℕ, ◌<◌, ◌++◌, List, [], Option, Some, true, false, Result, Ok, Err, OnOk, OnErr, length, take, refl, sym, ap, ◌∙◌, subst, arith, length-append}
 use Rattle.std.proofs.lemmas.Bool.{both_ways}
 use Rattle.std.proofs.lemmas.List.{take-append-le}
-use Rattle.std.proofs.KnownBytes.{Appends-trans}
-use Rattle.std.specs.Prelude.{MatchOption, is_err}
-use Rattle.std.specs.Io.KnownBytes.{Appends, Keeps}
+use Rattle.std.specs.Prelude.{is_err}
+use Rattle.std.specs.Io.KnownBytes.{Appends}
 use Rattle.sqlite_trees.specs.declared.store.Store.{Ghosts}
 use Rattle.sqlite.specs.State.{HasCleanDisk}
 use Rattle.bike_stream.specs.Writing.{AppendsFront}
-use Rattle.bike_catalogue.specs.Rows.{SystemRow}
 use Rattle.bike_operator.specs.Operator.{Operator}
 use Rattle.bike_feed_texts.specs.declared.feed.Feed.{Feed}
 use Rattle.bike_feeds.specs.DeskFault.TheVariants.{NoMemory, StoreFailed, Stopped}
 use Rattle.bike_feeds.specs.Desk.{DeskValue, desk_state, IsAt}
-use Rattle.bike_feeds.specs.Publishing.{feed_text, IsPublished, IsBegun, IsLength, LeavesDesk}
+use Rattle.bike_feeds.specs.Publishing.{feed_text, IsPublished, LeavesDesk}
 use Rattle.bike_feeds.specs.declared.fault.FeedFault.{FeedFault}
 use Rattle.bike_feeds.specs.declared.fault.FeedFault.TheVariants.{SystemMissing, Write, Desk}
-use Rattle.bike_answers.specs.Head.{head_text}
-use Rattle.bike_answers.proofs.Sending.{front_then}
-use Rattle.bike_http.specs.Exchange.{published, feed_response, feed_head}
+use Rattle.bike_http.specs.Exchange.{published, feed_response}
 use Rattle.bike_http.specs.Telling.{IsUndone, SendsText, Responds}
 use Rattle.bike_http.specs.declared.respond.SendFault.{SendFault}
 use Rattle.bike_http.specs.declared.respond.SendFault.TheVariants as fault
@@ -40,15 +36,7 @@ module _ {A E : Type 0} (before mid : Option (List ℕ)) (bytes head : List ℕ)
   head_front (Ok x) same is h = absurd (let wrong : false ≡ true = is in cc)
   head_front (Err e) same is h = subst (λ (x : List ℕ). AppendsFront before mid x) same h
 
-or_other : SystemRow → Option SystemRow → SystemRow
-or_other x None = x
-or_other x (Some y) = y
-
-same_system : (o : Option SystemRow) (x y : SystemRow) → o ≡ Some x → o ≡ Some y → y ≡ x
-unfolding or_other
-same_system o x y e f = ap (or_other x) (sym f ∙ e)
-
--- the desk after a pass that failed
+-- the desk after a feed that failed
 pub feed_undone : {S A : Type 0} (g : Ghosts S) (old new : DeskValue S) (s next : Operator) (e : FeedFault) → HasCleanDisk (desk_state g new) → IsAt g old s
     → LeavesDesk g old new {A = A} (Err e) → IsUndone g new s next
 feed_undone g old new s next SystemMissing clean at h = at_first g new s next (h.missing clean s at refl).1
@@ -57,44 +45,6 @@ feed_undone g old new s next (Desk NoMemory) clean at h = at_first g new s next 
 feed_undone g old new s next (Desk StoreFailed) clean at h =
     record { goes_on = λ going. absurd (both_ways new.is_stopped going (h.stops refl)); left = λ db k. inl (at.keeps.left db (h.left clean s at db k)) }
 feed_undone g old new s next (Desk Stopped) clean at h = absurd (both_ways old.is_stopped at.goes_on (h.stopped refl))
-
--- a feed of which the length was told
-module _ {S : Type 0} (g : Ghosts S) (d : DeskValue S) (s : Operator) (feed : Feed) (t n : ℕ) (before : Option (List ℕ)) (counted : IsLength s feed t n) where
-  abbrev text : List ℕ
-  text = feed_text s counted.0 feed t
-
-  is_text : feed_response s t feed s.system ≡ published text
-  is_text = ap (feed_response s t feed) counted.1
-
-  is_head : head_text 200 None n ≡ feed_head text
-  is_head = ap (head_text 200 None) counted.2
-
-  pub no_head : (after : Option (List ℕ)) → AppendsFront before after (head_text 200 None n) → IsAt g d s
-      → Responds g d s (feed_response s t feed s.system) s before after (Err fault.Write)
-  no_head after h at =
-      let front = subst (λ (x : List ℕ). AppendsFront before after x) is_head h in
-      (published text, inl (sym is_text, at), front_of_first before after (feed_head text) text front)
-
-  module _ (mid after : Option (List ℕ)) (head : Appends before mid (head_text 200 None n)) where
-    begun : Appends before mid (feed_head text)
-    begun = subst (λ (x : List ℕ). Appends before mid x) is_head head
-
-    fronted : IsBegun s feed t mid after → AppendsFront mid after text
-    fronted h = subst (λ (o : Option SystemRow). MatchOption o (Keeps mid after) (λ x. AppendsFront mid after (feed_text s x feed t))) counted.1 h
-
-    pub whole_feed : IsPublished s feed t mid after → IsAt g d s → Responds g d s (feed_response s t feed s.system) s before after (Ok 200)
-    whole_feed h at =
-        let same = same_system s.system counted.0 h.0 counted.1 h.1 in
-        let rest = subst (λ (x : SystemRow). Appends mid after (feed_text s x feed t)) same h.2 in
-        (published text, inl (sym is_text, at), refl, Appends-trans before mid after (feed_head text) text begun rest)
-
-    pub front_feed : IsBegun s feed t mid after → IsAt g d s → Responds g d s (feed_response s t feed s.system) s before after (Err fault.Write)
-    front_feed h at = (published text, inl (sym is_text, at), front_then before mid after (feed_head text) text begun (fronted h))
-
-    pub cut_feed : IsBegun s feed t mid after → IsUndone g d s s → Responds g d s (feed_response s t feed s.system) s before after (Err fault.Cut)
-    cut_feed h either =
-        let front = fronted h in
-        (text, is_text, (front.0, front.1, Appends-trans before mid after (feed_head text) (take front.0 text) begun front.2), either)
 
 -- a feed whose text was held: what is held is its text, and it was sent behind its head
 module _ {S : Type 0} (g : Ghosts S) (d : DeskValue S) (s : Operator) (feed : Feed) (t : ℕ) (held : List ℕ) (published_to : IsPublished s feed t (Some []) (Some held)) where
@@ -108,4 +58,3 @@ module _ {S : Type 0} (g : Ghosts S) (d : DeskValue S) (s : Operator) (feed : Fe
       → Responds g d s (feed_response s t feed s.system) s before after r
   held_feed before after (Ok status) h at = (published held, inl (sym is_response, at), h.0, h.1)
   held_feed before after (Err fault.Write) h at = (published held, inl (sym is_response, at), h)
-  held_feed before after (Err fault.Cut) h at = absurd h

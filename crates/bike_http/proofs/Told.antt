@@ -27,7 +27,6 @@ module _ {S : Type 0} (g : Ghosts S) (d : DeskValue S) (s next : Operator) where
       → SendsAnswer before after a r → Responds g d s response next before after r
   responds response a before after (Ok status) told h = (answered a, told, h.0, h.1)
   responds response a before after (Err fault.Write) told h = (answered a, told, h)
-  responds response a before after (Err fault.Cut) told h = absurd h
 
 module _ {S : Type 0} (g : Ghosts S) (old new : DeskValue S) (s next : Operator) (clean : HasCleanDisk (desk_state g new)) (at : IsAt g old s) where
   -- a request failed
@@ -68,7 +67,6 @@ module _ {S : Type 0} (g : Ghosts S) (d : DeskValue S) (s : Operator) (t : ℕ) 
     go : (r : Result ℕ SendFault) → Responds g d s (response_of s t asked) (operator_after s t asked) before after r → RespondsTo g d s t asked before after r
     go (Ok status) h = (h.0, so h.0 h.1, h.2, h.3)
     go (Err fault.Write) h = (h.0, so h.0 h.1, h.2)
-    go (Err fault.Cut) h = h
 
   -- .. and of what is answered at once
   pub rejects : (rejection : Rejection) → IsAt g d s → SendsAnswer before after (answer.Rejected rejection) r → RespondsTo g d s t (Reject rejection) before after r
@@ -76,7 +74,6 @@ module _ {S : Type 0} (g : Ghosts S) (d : DeskValue S) (s : Operator) (t : ℕ) 
     go : (r : Result ℕ SendFault) → SendsAnswer before after (answer.Rejected rejection) r → RespondsTo g d s t (Reject rejection) before after r
     go (Ok status) h = (answered (answer.Rejected rejection), (refl, at), h.0, h.1)
     go (Err fault.Write) h = (answered (answer.Rejected rejection), (refl, at), h)
-    go (Err fault.Cut) h = absurd h
 
   pub responds_to : (asked a : Asked) → asked ≡ a → RespondsTo g d s t a before after r → RespondsTo g d s t asked before after r
   responds_to asked a is h = subst (λ (x : Asked). RespondsTo g d s t x before after r) (sym is) h

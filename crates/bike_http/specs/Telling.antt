@@ -1,5 +1,5 @@
 -- What is told of a request, and where the desk is then.
-use Rattle.std.specs.Prelude.{◌≡◌, ◌⊎◌, ℕ, ◌<◌, List, [], ◌++◌, length, take, false, Option, Some, IfSome, IsSomeAnd, Result, Ok, Err}
+use Rattle.std.specs.Prelude.{◌≡◌, ◌⊎◌, ℕ, List, [], ◌++◌, false, Option, Some, IfSome, IsSomeAnd, Result, Ok, Err}
 use Rattle.std.specs.Io.KnownBytes.{Appends, Keeps}
 use Rattle.sqlite_trees.specs.declared.store.Store.{Ghosts}
 use Rattle.bike_stream.specs.Writing.{AppendsFront}
@@ -15,7 +15,7 @@ use Rattle.bike_incoming.specs.Received.{Received, WantsMemory}
 use Rattle.bike_answers.specs.declared.answer.Answer.{Answer}
 use Rattle.bike_answers.specs.declared.answer.Answer.TheVariants as answer
 use Rattle.bike_answers.specs.Sent.{answer_text, Sends}
-use Rattle.bike_http.specs.Exchange.{Response, answered, published, bytes_of, feed_head, feed_response, response_of, response_status, operator_after, Answers}
+use Rattle.bike_http.specs.Exchange.{Response, answered, bytes_of, feed_head, feed_response, response_of, response_status, operator_after, Answers}
 use Rattle.bike_http.specs.declared.respond.SendFault.{SendFault}
 use Rattle.bike_http.specs.declared.respond.SendFault.TheVariants as fault
 use Rattle.bike_http.specs.declared.exchange.Served.{Served}
@@ -86,21 +86,15 @@ LeavesTables g old new s t input =
 
 -- ---- the bytes
 
--- the head of a feed was written, and of its text a front, and not all
-abbrev pub IsCut : Option (List ℕ) → Option (List ℕ) → List ℕ → Type 0
-IsCut before after text = (k : ℕ) × (k < length text) × Appends before after (feed_head text ++ take k text)
-
 -- how the sending of an answer ends
 abbrev pub SendsAnswer : Option (List ℕ) → Option (List ℕ) → Answer → Result ℕ SendFault → Type 0
 SendsAnswer before after a (Ok status) = Sends before after a status
 SendsAnswer before after a (Err fault.Write) = AppendsFront before after (answer_text a)
-SendsAnswer before after a (Err fault.Cut) = ⊥
 
 -- how the sending of a feed's text ends
 abbrev pub SendsText : Option (List ℕ) → Option (List ℕ) → List ℕ → Result ℕ SendFault → Type 0
 SendsText before after text (Ok status) = (status ≡ 200) × Appends before after (feed_head text ++ text)
 SendsText before after text (Err fault.Write) = AppendsFront before after (feed_head text ++ text)
-SendsText before after text (Err fault.Cut) = ⊥
 
 -- how the sending of a response ends
 abbrev pub Responds : {S : Type 0} → Ghosts S → DeskValue S → Operator → Response → Operator → Option (List ℕ) → Option (List ℕ)
@@ -109,7 +103,6 @@ Responds g d s response next before after (Ok status) =
     (sent : Response) × Tells g d s response next sent × (status ≡ response_status sent) × Appends before after (bytes_of sent)
 Responds g d s response next before after (Err fault.Write) =
     (sent : Response) × Tells g d s response next sent × AppendsFront before after (bytes_of sent)
-Responds g d s response next before after (Err fault.Cut) = (text : List ℕ) × (response ≡ published text) × IsCut before after text × IsUndone g d s s
 
 -- the same of a feed, or of its lack
 abbrev pub Publishes : {S : Type 0} → Ghosts S → DeskValue S → Operator → ℕ → Feed → Option (List ℕ) → Option (List ℕ)
@@ -124,8 +117,6 @@ RespondsTo g d s t asked before after (Ok status) =
     × Appends before after (bytes_of sent)
 RespondsTo g d s t asked before after (Err fault.Write) =
     (sent : Response) × TellsAsked g d s asked (response_of s t asked) (operator_after s t asked) sent × AppendsFront before after (bytes_of sent)
-RespondsTo g d s t asked before after (Err fault.Cut) =
-    (text : List ℕ) × (response_of s t asked ≡ published text) × IsCut before after text × IsUndone g d s s
 
 -- ---- the exchange
 
@@ -133,7 +124,6 @@ RespondsTo g d s t asked before after (Err fault.Cut) =
 abbrev pub end_of_sending : Result ℕ SendFault → Result Served ServeFault
 end_of_sending (Ok status) = Ok (Status status)
 end_of_sending (Err fault.Write) = Err Write
-end_of_sending (Err fault.Cut) = Err Cut
 
 -- HOW AN EXCHANGE ENDS over an input
 abbrev pub Serves : {S : Type 0} → Ghosts S → DeskValue S → Operator → ℕ → Option (List ℕ) → Option (List ℕ) → Option (List ℕ)
@@ -143,8 +133,7 @@ Serves g d s t input before after (Ok (Status status)) =
     (sent : Response) × TellsFor g d s t input sent × (status ≡ response_status sent) × Appends before after (bytes_of sent)
 Serves g d s t input before after (Err Read) = Unit {0}
 Serves g d s t input before after (Err Write) = (sent : Response) × TellsFor g d s t input sent × AppendsFront before after (bytes_of sent)
-Serves g d s t input before after (Err Cut) =
-    (text : List ℕ) × (next : Operator) × Answers input s t (published text) next × IsCut before after text × IsUndone g d s s
+Serves g d s t input before after (Err Cut) = ⊥
 
 -- nothing was asked of the desk, and nothing was written, where the input is empty or a read failed
 abbrev pub Rests : {S : Type 0} → DeskValue S → DeskValue S → Option (List ℕ) → Option (List ℕ) → Result Served ServeFault → Type 0

@@ -36,7 +36,8 @@ pub enum ServeFault {
     /// A write failed before the answer was whole.
     #[error("write failed")]
     Write,
-    /// A feed's head and a front of its body were written, then the desk failed.
+    /// A feed's head and a front of its body were written, then the desk failed: this never comes, since a feed is made
+    /// before its head.
     #[error("feed cut off")]
     Cut,
 }
@@ -48,7 +49,6 @@ fn ended(sent: Result<u16, SendFault>) -> Result<Served, ServeFault>
     match sent {
         Ok(status) => Ok(Served::Status(status)),
         Err(SendFault::Write) => Err(ServeFault::Write),
-        Err(SendFault::Cut) => Err(ServeFault::Cut),
     }
 }
 
@@ -57,8 +57,8 @@ fn ended(sent: Result<u16, SendFault>) -> Result<Served, ServeFault>
 /// The answer is 503 where memory is refused or the desk fails before the response's head; the desk then goes on at the
 /// operator before the request, or it is stopped and a crash leaves it or the one after it. `Read` comes where a read
 /// fails or more than 20,000 are needed, and then nothing is asked of the desk; `Write` where a write fails, after a
-/// front of the response or of the 503; `Cut` where the desk fails behind a feed's head. A stopped desk stays as it is:
-/// what asks for nothing is rejected as ever, and all else is answered 503. A request that was accepted before, by this
+/// front of the response or of the 503. `Cut` never comes. A stopped desk stays as it is: what asks for nothing is
+/// rejected as ever, and all else is answered 503. A request that was accepted before, by this
 /// desk or by one that stopped since, is sent its first response again, or 503, and changes nothing. Where a request
 /// leaves the operator as it is, since it is rejected or refused or comes again, and the desk goes on, the whole
 /// database is as it was.

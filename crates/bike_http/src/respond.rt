@@ -5,18 +5,16 @@ ghost use Rattle.sqlite_trees.specs.View.{doubt};
 ghost use Rattle.bike_operator.specs.Sound.{IsCall};
 ghost use Rattle.bike_feeds.specs.Desk.{desk_state, OfOperator, KeepsWhereGoing};
 ghost use Rattle.bike_feeds.specs.Queries.{Queries};
-ghost use Rattle.bike_feeds.specs.Publishing.{IsLength};
 ghost use Rattle.bike_http.specs.Shown.{shown_of};
 ghost use Rattle.bike_http.specs.Exchange.{answered, IsGood};
 ghost use Rattle.bike_http.specs.Telling.{Tells, TellsReply, RestsAfter, SendsAnswer, SendsText, Publishes, RespondsTo};
 ghost use Rattle.bike_http.specs.Telling.{refusal_of};
 
 use crate::rows::{bike_answer, order_answer, rental_answer, rider_answer};
-use arrayvec::ArrayVec;
 use bike_answers::{Answer, head_text, write_answer};
 use bike_commands::Request;
 use bike_feed_texts::Feed;
-use bike_feeds::{Desk, DeskFault, FeedFault, feed_length, write_feed};
+use bike_feeds::{Desk, DeskFault, FeedFault, write_feed};
 use bike_fixed::Moment;
 use bike_heads::{Rejection, Shown};
 use bike_incoming::Asked;
@@ -25,17 +23,11 @@ use sqlite::Alter;
 use std::alloc::Global;
 use std::io::Write;
 
-/// How many bytes of a feed's text are held, so that it is made once. A longer one is made twice, first to count its
-/// length.
-const HELD_TEXT: usize = 524_288;
-
 /// Why a response wasn't sent whole.
 #[derive(Clone, Copy, Debug, PartialEq, Eq)]
 pub(crate) enum SendFault {
     /// A write failed.
     Write,
-    /// The desk failed behind a feed's head.
-    Cut,
 }
 
 /// Sends an answer.
@@ -95,55 +87,6 @@ fn show<S: Alter>(alloc: Global, desk: &mut Desk<S>, row: Shown) -> Answer
     }
 }
 
-/// Publishes a feed whose length is known.
-fn publish_whole<S: Alter, W: Write>(
-    alloc: Global,
-    desk: &mut Desk<S>,
-    feed: Feed,
-    length: u64,
-    moment: Moment,
-    writer: &mut W,
-) -> Result<u16, SendFault>
-    ensures clean { doubt (desk_state S.Store desk.old).is_clean ≤ doubt (desk_state S.Store desk.new).is_clean }
-    ensures sent { OfOperator S.Store desk.old desk.new (λ s. IsLength s feed moment length
-        → Publishes S.Store desk.new s moment feed (W.contents writer.old) (W.contents writer.new) result) }
-    ensures rests { KeepsWhereGoing S.Store desk.old desk.new }
-    ensures stays { IsTrue desk.old.is_stopped → desk.new ≡ desk.old }
-{
-    let head = head_text(200, None, length);
-    if write_whole(writer, head.as_str().as_bytes()).is_err() {
-        return Err(SendFault::Write);
-    }
-    match write_feed(alloc, desk, feed, moment, writer) {
-        Ok(()) => Ok(200),
-        Err(FeedFault::Write) => Err(SendFault::Write),
-        Err(_) => Err(SendFault::Cut),
-    }
-}
-
-/// Publishes a feed whose text isn't held: its length is counted first, for the head.
-fn publish_counted<S: Alter, W: Write>(
-    alloc: Global,
-    desk: &mut Desk<S>,
-    feed: Feed,
-    moment: Moment,
-    writer: &mut W,
-) -> Result<u16, SendFault>
-    ensures clean { doubt (desk_state S.Store desk.old).is_clean ≤ doubt (desk_state S.Store desk.new).is_clean }
-    ensures sent { OfOperator S.Store desk.old desk.new (λ s.
-        Publishes S.Store desk.new s moment feed (W.contents writer.old) (W.contents writer.new) result) }
-    ensures rests { KeepsWhereGoing S.Store desk.old desk.new }
-    ensures stays { IsTrue desk.old.is_stopped → desk.new ≡ desk.old }
-    ensures refuses { IsTrue desk.old.is_stopped
-        → SendsAnswer (W.contents writer.old) (W.contents writer.new) Answer.Unavailable result }
-{
-    match feed_length(alloc, desk, feed, moment) {
-        Ok(length) => publish_whole(alloc, desk, feed, length, moment, writer),
-        Err(FeedFault::SystemMissing) => send(writer, &Answer::Rejected(Rejection::NotFound)),
-        Err(_) => send(writer, &Answer::Unavailable),
-    }
-}
-
 /// Sends a feed's text behind its head.
 fn send_text<W: Write>(writer: &mut W, text: &[u8]) -> Result<u16, SendFault>
     ensures { SendsText (W.contents writer.old) (W.contents writer.new) text.now result }
@@ -158,7 +101,8 @@ fn send_text<W: Write>(writer: &mut W, text: &[u8]) -> Result<u16, SendFault>
     }
 }
 
-/// Publishes a feed for a moment: its text is held as it is made, and sent once its length is known.
+/// Publishes a feed for a moment: its text is held as it is made, and sent once its length is known. Where there is no
+/// memory for it, nothing of it is sent.
 fn publish_at<S: Alter, W: Write>(
     alloc: Global,
     desk: &mut Desk<S>,
@@ -174,11 +118,9 @@ fn publish_at<S: Alter, W: Write>(
     ensures refuses { IsTrue desk.old.is_stopped
         → SendsAnswer (W.contents writer.old) (W.contents writer.new) Answer.Unavailable result }
 {
-    let mut text = ArrayVec::<u8, HELD_TEXT>::new();
+    let mut text = Vec::new(alloc);
     match write_feed(alloc, desk, feed, moment, &mut text) {
         Ok(()) => send_text(writer, text.as_slice()),
-        // No more is held.
-        Err(FeedFault::Write) => publish_counted(alloc, desk, feed, moment, writer),
         Err(FeedFault::SystemMissing) => send(writer, &Answer::Rejected(Rejection::NotFound)),
         Err(_) => send(writer, &Answer::Unavailable),
     }

@@ -1,13 +1,11 @@
 -- How one exchange ends, whose bytes are known.
-use Rattle.std.proofs.Common.{◌≡◌, ◌⊎◌, ℕ, List, [], ◌++◌, take, drop, refl, sym, subst, ap, ◌∙◌, append_assoc, take-append-drop, Bool, true, false, IsTrue, Option, Some, None, Result, Ok, Err, IsSomeAnd, inl, inr}
+use Rattle.std.proofs.Common.{◌≡◌, ◌⊎◌, ℕ, List, [], take, drop, refl, sym, subst, ap, ◌∙◌, take-append-drop, Bool, true, false, IsTrue, Option, Some, None, Result, Ok, Err, IsSomeAnd, inl, inr}
 use Rattle.std.specs.Io.KnownBytes.{Keeps}
 use Rattle.sqlite_trees.specs.declared.store.Store.{Ghosts}
 use Rattle.bike_operator.specs.Operator.{Operator}
 use Rattle.bike_schema.specs.Stands.{AllLeft}
-use Rattle.bike_incoming.specs.declared.asked.Asked.{Asked}
-use Rattle.bike_incoming.specs.declared.asked.Asked.TheVariants.{Reject, Apply, Show, Publish}
 use Rattle.bike_http.specs.Desk.{DeskValue, desk_state, IsAt, TreesStandForEither}
-use Rattle.bike_http.specs.Exchange.{Response, published, bytes_of, feed_head, response_of, response_status, operator_after, Answers}
+use Rattle.bike_http.specs.Exchange.{Response, bytes_of, response_status, Answers}
 use Rattle.bike_http.specs.Telling.{unavailable, IsUndone, TellsFor, Serves, Rests}
 use Rattle.bike_http.specs.declared.exchange.Served.{Served}
 use Rattle.bike_http.specs.declared.exchange.Served.TheVariants.{Empty, Status}
@@ -22,9 +20,6 @@ use Rattle.bike_server.specs.Answering.{BeginsWith, IsResponse, IsRefused, Stops
 begins-take : (k : ℕ) (bytes : List ℕ) → BeginsWith bytes (take k bytes)
 begins-take k bytes = (drop k bytes, sym (take-append-drop k bytes))
 
-begins-after : (head bytes front : List ℕ) → BeginsWith bytes front → BeginsWith (head ++ bytes) (head ++ front)
-begins-after head bytes front it = (it.0, ap (λ (xs : List ℕ). head ++ xs) it.1 ∙ sym (append_assoc head front it.0))
-
 -- known bytes stay known
 pub known_keeps : (known : Option (List ℕ)) → Keeps known known
 known_keeps None = tt
@@ -35,13 +30,6 @@ split false = inl refl
 split true = inr refl
 
 -- ---- the desk
-
--- a feed changes nothing
-feed_stays : (s : Operator) (t : ℕ) (asked : Asked) (text : List ℕ) → published text ≡ response_of s t asked → operator_after s t asked ≡ s
-feed_stays s t (Reject rejection) text e = refl
-feed_stays s t (Apply q) text e = absurd cc
-feed_stays s t (Show row) text e = refl
-feed_stays s t (Publish feed) text e = refl
 
 module _ {S : Type 0} (g : Ghosts S) (desk : DeskValue S) (s : Operator) (coming : Coming) where
   -- the desk stopped at what was asked
@@ -88,18 +76,7 @@ module _ {S : Type 0} (g : Ghosts S) (desk : DeskValue S) (s : Operator) (coming
         | inl on ↦ inl (on.0, (it.0, on.1, begins), on.2)
         | inr off ↦ inr (halted off.1 (Err Write) sent (subst (λ (r : Response). BeginsWith (bytes_of r) sent) off.0 begins))
       ]
-  whole old sent (Err Cut) at rests it =
-      let text = it.0 in
-      let begins : BeginsWith (bytes_of (published text)) sent =
-      subst (λ (xs : List ℕ). BeginsWith (bytes_of (published text)) xs) (sym it.3.2)
-      (begins-after (feed_head text) text (take it.3.0 text) (begins-take it.3.0 text))
-      in
-      let stays : it.1 ≡ s = it.2.leads ∙ feed_stays s coming.moment it.2.asked text it.2.gives in
-      let undone_of : IsUndone g desk s it.1 = subst (IsUndone g desk s) (sym stays) it.4 in
-      elim (split desk.is_stopped) [
-        | inl on ↦ inl (it.1, (text, it.2, begins), subst (IsAt g desk) (sym stays) (undone_of.goes_on on))
-        | inr off ↦ inr (halted (published text, it.1, it.2, off, undone_of.left) (Err Cut) sent begins)
-      ]
+  whole old sent (Err Cut) at rests it = absurd it
 
   -- what was written is known
   written_known : (old : DeskValue S) (after : Option (List ℕ)) (served : Result Served ServeFault)
@@ -110,7 +87,7 @@ module _ {S : Type 0} (g : Ghosts S) (desk : DeskValue S) (s : Operator) (coming
   written_known old None (Ok (Status status)) rests it = absurd it.3
   written_known old None (Err Read) rests it = absurd rests.1
   written_known old None (Err Write) rests it = absurd it.2.2
-  written_known old None (Err Cut) rests it = absurd it.3.2
+  written_known old None (Err Cut) rests it = absurd it
 
   -- how an exchange ends, by what was written
   pub exchanges : (old : DeskValue S) (input before after : Option (List ℕ)) (served : Result Served ServeFault)

@@ -72,7 +72,7 @@ module _ {S : Type 0} (g : Ghosts S) (desk : DeskValue S) where
   exchanged old s t input before written (Ok (Status status)) at rests it = told_for s t input it.0 it.1
   exchanged old s t input before written (Err Read) at rests it = served s [] tt (subst (λ (d : DeskValue S). IsAt g d s) (sym rests.0) at)
   exchanged old s t input before written (Err Write) at rests it = told_for s t input it.0 it.1
-  exchanged old s t input before written (Err Cut) at rests it = undone s [] (omega arith) tt it.4
+  exchanged old s t input before written (Err Cut) at rests it = absurd it
 
   -- requests, and then others
   pub joined : (s : Operator) (calls : List Call) → AreCalls calls → ServesRequests g desk (after s calls) → ServesRequests g desk s

@@ -35,8 +35,7 @@ IsAnsweredBy s coming (Ok (Status status)) sent next =
     (response : Response) × IsResponse s coming response next × (status ≡ response_status response) × (sent ≡ bytes_of response)
 IsAnsweredBy s coming (Err Read) sent next = (sent ≡ []) × (next ≡ s)
 IsAnsweredBy s coming (Err Write) sent next = (response : Response) × IsResponse s coming response next × BeginsWith (bytes_of response) sent
-IsAnsweredBy s coming (Err Cut) sent next =
-    (text : List ℕ) × Answers (Some coming.input) s coming.moment (published text) next × BeginsWith (bytes_of (published text)) sent
+IsAnsweredBy s coming (Err Cut) sent next = ⊥
 
 -- ONE CONNECTION IS ANSWERED, by an operator at its moment; the operator after it
 abbrev pub IsAnswered : Operator → Coming → Leaving → Operator → Type 0
@@ -53,13 +52,13 @@ AreAnswered s (coming ∷ came) (leaving ∷ gone) next = (later : Operator) × 
 abbrev pub Adds : Option Kept → Option Kept → List Leaving → Type 0
 Adds old new gone = IfSome old (λ before. IsSomeAnd new (λ after. after.gone ≡ before.gone ++ gone))
 
--- what is sent where the desk stops: that there is no answer now, or a front of that or of a feed
+-- what is sent where the desk stops: that there is no answer now, or a front of that
 abbrev pub IsRefused : Response → Result Served ServeFault → List ℕ → Type 0
 IsRefused response (Ok Empty) sent = ⊥
 IsRefused response (Ok (Status status)) sent = (status ≡ response_status unavailable) × (sent ≡ bytes_of unavailable)
 IsRefused response (Err Read) sent = ⊥
 IsRefused response (Err Write) sent = BeginsWith (bytes_of unavailable) sent
-IsRefused response (Err Cut) sent = BeginsWith (bytes_of response) sent
+IsRefused response (Err Cut) sent = ⊥
 
 module _ {S : Type 0} (g : Ghosts S) (desk : DeskValue S) where
   -- The desk stopped at this connection: what a crash may leave stands for the operator before its request or after it.

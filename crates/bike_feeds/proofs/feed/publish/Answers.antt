@@ -1,5 +1,5 @@
 use Rattle.bike_feeds.proofs.DeskLemmas.{no_want}
-use Rattle.bike_feeds.proofs.FeedLemmas.{leaves_unasked, nothing_begun, on_err, publish_missing, publish_leaves, publish_whole, publish_front, publish_cause}
+use Rattle.bike_feeds.proofs.FeedLemmas.{leaves_unasked, nothing_begun, on_err, publish_missing, publish_leaves, publish_whole, publish_front}
 use Rattle.bike_feeds.proofs.feed.publish.Goals as goal
 
 pub returns-in_err-system-clause-front : goal.returns-in_err-system-clause-front
@@ -28,6 +28,3 @@ returns-clause-whole g c = publish_whole g.S.Store _ c.in_ok-system.ensures.quer
 
 pub returns-clause-front : goal.returns-clause-front
 returns-clause-front g c = publish_front g.S.Store _ c.in_ok-system.ensures.query _ c.in-Some.is c.args.feed c.args.moment _ c.write_of_system.ensures
-
-pub returns-clause-cause : goal.returns-clause-cause
-returns-clause-cause g c = publish_cause g.S.Store _ c.in_ok-system.ensures.query _ c.in-Some.is c.args.feed c.args.moment _ c.write_of_system.ensures

@@ -1,11 +1,7 @@
-use Rattle.std.proofs.Common.{◌∙◌, Some, inl, inr, sym, ap, refl, subst, arith}
-use Rattle.sqlite.specs.State.{HasCleanDisk}
-use Rattle.bike_feeds.specs.Desk.{desk_state}
-use Rattle.bike_feeds.specs.Publishing.{IsPublished}
+use Rattle.std.proofs.Common.{inl, inr, sym, ap, refl}
 use Rattle.bike_answers.specs.declared.answer.Answer.TheVariants as answer
 use Rattle.bike_http.specs.Shown.{not_found}
 use Rattle.bike_http.specs.Exchange.{feed_response}
-use Rattle.bike_http.specs.Telling.{SendsText}
 use Rattle.bike_http.proofs.Told.{responds}
 use Rattle.bike_http.proofs.Feeds.{feed_undone, held_feed}
 use Rattle.bike_http.proofs.respond.publish_at.Goals as goal
@@ -13,16 +9,10 @@ use Rattle.bike_http.proofs.respond.publish_at.Goals as goal
 pub returns-in-Ok-clause-sent : goal.returns-in-Ok-clause-sent
 returns-in-Ok-clause-sent g c clean s at =
     let h = c.in-Ok.ensures in
-    let none = c.new-text.ensures in
+    let none = c.new-text.ensures.items in
     let held = rw none at h.whole clean s at in
     let sent = rw c.as_slice.ensures.value at c.send_text.ensures in
     held_feed g.S.Store c.write_feed.new.desk s c.args.feed c.args.moment _ held _ _ _ sent (h.desk.same clean s at)
-
-pub returns-in-Err-Write-clause-sent : goal.returns-in-Err-Write-clause-sent
-returns-in-Err-Write-clause-sent g c clean s at =
-    let early : HasCleanDisk (desk_state g.S.Store c.write_feed.new.desk) = omega (arith, clean, c.publish_counted.ensures.clean) in
-    let h = rw c.in-Err-Write.field-0-is at c.in-Err-Write.ensures in
-    c.publish_counted.ensures.sent clean s (h.desk.write early s at refl)
 
 pub returns-in-Err-SystemMissing-clause-sent : goal.returns-in-Err-SystemMissing-clause-sent
 returns-in-Err-SystemMissing-clause-sent g c clean s at =
@@ -44,13 +34,6 @@ returns-in-Err g c =
 
 pub returns-in-Ok-clause-rests : goal.returns-in-Ok-clause-rests
 returns-in-Ok-clause-rests g c = c.in-Ok.ensures.desk.rests
-
-pub returns-in-Err-Write-clause-rests : goal.returns-in-Err-Write-clause-rests
-returns-in-Err-Write-clause-rests g c clean s at on =
-    let early : HasCleanDisk (desk_state g.S.Store c.write_feed.new.desk) = omega (arith, clean, c.publish_counted.ensures.clean) in
-    let h = rw c.in-Err-Write.field-0-is at c.in-Err-Write.ensures in
-    let still = h.desk.write early s at refl in
-    c.publish_counted.ensures.rests clean s still on ∙ h.desk.rests early s at still.goes_on
 
 pub returns-in-Err-SystemMissing-clause-rests : goal.returns-in-Err-SystemMissing-clause-rests
 returns-in-Err-SystemMissing-clause-rests g c = c.in-Err-SystemMissing.ensures.desk.rests
