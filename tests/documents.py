@@ -242,6 +242,32 @@ def test_widths_of_code(program):
     assert files and not wide, wide
 
 
+PUBLIC = re.compile(r"\s*pub (?:const |unsafe )?(?:fn|struct|enum|trait|const|type|static) (\w+)")
+
+
+def undocumented(text):
+    """The public items of a file with no sentence before them; attributes may stand between."""
+    found, told, attribute = [], False, False
+    for line in text.splitlines():
+        if attribute or line.lstrip().startswith("#["):
+            attribute = not line.rstrip().endswith("]")
+            continue
+        item = PUBLIC.match(line)
+        if item and not told:
+            found.append(item[1])
+        told = line.lstrip().startswith("///")
+    return found
+
+
+def test_public_items_have_a_sentence(program):
+    """Each says what it is, be it for one crate more."""
+    assert undocumented("pub fn f() {}\n/// G.\n#[inline]\npub fn g() {}\n") == ["f"]
+    assert undocumented("/// F.\n#[tactic(\n    auto\n)]\npub fn f() {}\npub struct S;\n") == ["S"]
+    files = sorted((TOP / "crates").glob("*/src/**/*.rt"))
+    bare = [(str(it.relative_to(TOP)), name) for it in files for name in undocumented(it.read_text(encoding="utf-8"))]
+    assert files and not bare, bare
+
+
 def test_days_of_figures(program):
     """Outside of CHANGELOG.md at most ten days stand on which something was measured or tried, and no time of day. Days
     of examples, which are of another year, don't count."""

@@ -19,6 +19,7 @@ fn is_ident_byte(b: u8) -> bool
     b.is_ascii_lowercase() || b.is_ascii_digit() || b == b'_' || b == b'-'
 }
 
+/// Whether all bytes are those of identifiers: a to z, 0 to 9, `_` and `-`.
 pub fn are_ident_bytes(text: &[u8]) -> bool
     ensures { result ≡ list_all is_ident_byte text.now }
 {
@@ -32,6 +33,7 @@ fn is_key_byte(b: u8) -> bool
     b.is_ascii_uppercase() || b.is_ascii_lowercase() || b.is_ascii_digit() || b == b'_' || b == b'-'
 }
 
+/// Whether all bytes are those of request keys: A to Z, a to z, 0 to 9, `_` and `-`.
 pub fn are_key_bytes(text: &[u8]) -> bool
     ensures { result ≡ list_all is_key_byte text.now }
 {
@@ -45,24 +47,28 @@ fn is_language_byte(b: u8) -> bool
     b.is_ascii_uppercase() || b.is_ascii_lowercase() || b.is_ascii_digit() || b == b'-'
 }
 
+/// Whether all bytes are those of language tags: A to Z, a to z, 0 to 9 and `-`.
 pub fn are_language_bytes(text: &[u8]) -> bool
     ensures { result ≡ list_all is_language_byte text.now }
 {
     text.iter().all(|b| is_language_byte(*b))
 }
 
+/// Whether all bytes are A to Z.
 pub fn are_uppercase(text: &[u8]) -> bool
     ensures { result ≡ list_all is_upper text.now }
 {
     text.iter().all(|b| b.is_ascii_uppercase())
 }
 
+/// Whether all bytes are printable ASCII, the space among them.
 pub fn are_printable(text: &[u8]) -> bool
     ensures { result ≡ list_all is_printable text.now }
 {
     text.iter().all(|b| b' ' <= *b && *b <= b'~')
 }
 
+/// Whether no byte is 0, which names have not.
 pub fn are_name_bytes(text: &[u8]) -> bool
     ensures { result ≡ list_all is_name_byte text.now }
 {
