@@ -118,12 +118,14 @@ pub(crate) fn cause_of(finding: Finding) -> Option<AdoptCause>
 /// fails.
 fn begin<S: Alter>(mut conn: Connection<S>) -> Result<Desk<S>, AdoptFault<S>>
     requires { conn.in_transaction ≡ false }
+    // A desk at the first operator, where no table of ours was there and there was room for them.
     ensures clean { MatchResult result
         (λ d. doubt (state S.Store conn).is_clean ≤ doubt (desk_state S.Store d).is_clean)
         (λ e. doubt (state S.Store conn).is_clean ≤ doubt (state S.Store e.conn).is_clean) }
     ensures begun { HasNone (state S.Store conn).now.schema
         → IfOk result (λ d. HasCleanDisk (desk_state S.Store d) → Begins S.Store conn d) }
     ensures room { IfOk result (λ _. HasRoom (state S.Store conn).now.schema) }
+    // Or why not, with the connection as it was or as a crash leaves it.
     ensures told { IfErr result IsOfStatement }
     ensures autocommit { IfErr result (λ e. e.conn.in_transaction ≡ false) }
     ensures crash { HasNone (state S.Store conn).now.schema

@@ -98,10 +98,12 @@ pub fn run_words<S: Alter, R: Read, W: Write, P: Watch>(
 ) -> (Connection<S>, Result<u64, Fault>)
     requires outside { conn.in_transaction ≡ false }
     requires within { IsWithinOnFile task.now }
+    // What the task does, by its input and output.
     ensures clean { doubt (state S.Store conn).is_clean ≤ doubt (state S.Store result.0).is_clean }
     ensures done { HasCleanDisk (state S.Store result.0)
         → Does S.Store (R.remaining reader.old) (R.remaining reader.new)
         (W.contents writer.old) (W.contents writer.new) task.now clock conn result.0 result.1 }
+    // What a crash may leave, and that a look changes nothing.
     ensures kept { CrashLeaves S.Store conn result.0 (MayStand task.now) }
     ensures raised { IsRaise task.now → CrashLeavesRaised S.Store conn result.0 }
     ensures stays { Looks task.now → LeavesAll S.Store conn result.0 }

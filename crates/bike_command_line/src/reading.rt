@@ -125,15 +125,19 @@ fn fault_in<'a>(
 /// or a table's name is none, where an import's name is no identifier, and where a number isn't the decimal of one
 /// within its bounds. It tells which word or value is wrong. `NoMemory` comes where memory is refused.
 pub fn read_words<'a>(alloc: Global, words: &'a [&'a str]) -> Result<Words<'a>, WordsFault<'a>>
+    // What the words ask for.
     ensures none { words.entry.now ≡ []
         → IsOkAnd result (λ asked. (asked.task ≡ Task.OnFile FileTask.Lines) × (asked.file.now ≡ codes ":memory:")) }
     ensures some { 0 < length words.entry.now
         → IfOk result (λ asked. Ask (texts_of words.entry.now) asked.task asked.file.now) }
     ensures within { IfOk result (λ asked. IsWithin asked.task) }
+    // A mistake: the words ask for nothing, and what is said of them is so.
     ensures refused { (mistake : Mistake) → result ≡ Err (WordsFault.Usage mistake)
         → AskNothing (texts_of words.entry.now) }
+    // The plain words of each task are read as it.
     ensures plain { (task : Task) (file : Text) → texts_of words.entry.now ≡ words_for task file
         → starts_with_minus file ≡ false → IsWithin task → IsTold task file result }
+    // What a mistake says is so, and of a value where the words lead to one.
     ensures told { (mistake : Mistake) → result ≡ Err (WordsFault.Usage mistake)
         → IsSo (texts_of words.entry.now) mistake }
     ensures value { (mistake : Mistake) (word : Word) → let texts = texts_of words.entry.now in

@@ -64,11 +64,14 @@ pub(crate) fn open_over<D: Disk + Drop>(
 ) -> Result<Connection<FileStore<D>>, Fault>
     requires log { IsTrue (D.Disk.is_usable files.log) }
     requires db { IsTrue (D.Disk.is_usable files.db) }
+    // What is opened is what the files hold, outside a transaction.
     ensures opened { IfOk result (λ conn. HasCleanDisk (file_state conn) → IsOpened conn) }
     ensures found { IfOk result (λ conn.
         HasCleanDisk (file_state conn) → FindsIn (image_of D.Disk files) (file_state conn)) }
+    // Nothing is opened over a log that would be lost.
     ensures lost { IfOk result (λ conn. HasCleanDisk (file_state conn) → IsLostLog (image_of D.Disk files) → ⊥) }
     ensures autocommit { IfOk result (λ conn. conn.in_transaction ≡ false) }
+    // Why not.
     ensures why { TellsUnopened (image_of D.Disk files) result }
 {
     match would_lose_log(&mut files) {
@@ -139,13 +142,16 @@ pub fn open_file<F: Start>(
     path: &str,
     start: F,
 ) -> Result<Connection<FileStore<FileFrom<F>>>, Fault>
+    // What is opened is what the files hold, outside a transaction.
     ensures opened { IfOk result (λ conn. HasCleanDisk (file_state conn) → IsOpened conn) }
     ensures found { IfOk result (λ conn.
         HasCleanDisk (file_state conn) → FindsIn (image_at F.Start) (file_state conn)) }
+    // Files that would lose something aren't opened.
     ensures lone { IfOk result (λ conn. HasCleanDisk (file_state conn) → IsLoneLog (image_at F.Start) → ⊥) }
     ensures whole { IfOk result (λ conn. HasCleanDisk (file_state conn) → IsDamagedLog (image_at F.Start).log → ⊥) }
     ensures autocommit { IfOk result (λ conn. conn.in_transaction ≡ false) }
     ensures own { IfOk result (λ conn. has_added_unique (file_state conn).now.schema ≡ false) }
+    // Why not.
     ensures fault { IfErr result IsOpeningFault }
     ensures why { TellsWhy (image_at F.Start) result }
 {

@@ -70,10 +70,12 @@ fn is_broken(head: &[u8; 32]) -> bool
 fn is_lone<D: Disk>(files: &mut Files<D>) -> Result<bool, Fault>
     requires log { IsTrue (D.Disk.is_usable files.old.log) }
     requires db { IsTrue (D.Disk.is_usable files.old.db) }
+    // The verdict, or the fault that it had.
     ensures lone { IfOk result (λ lone. AreClean D.Disk files.new.log files.new.db
         → IsTrue lone ↔ IsLoneLog (image_of D.Disk files.old)) }
     ensures failed { IfErr result (λ told.
         (told ≡ Fault.StoreFailed) × MoreFaults (faults_of D.Disk files.old) (faults_of D.Disk files.new)) }
+    // The files are only read.
     ensures counts { faults_of D.Disk files.old ≤ faults_of D.Disk files.new }
     ensures log { OnlyReads D.Disk files.old.log files.new.log }
     ensures db { OnlyReads D.Disk files.old.db files.new.db }
@@ -118,11 +120,13 @@ fn is_damaged<D: Disk>(log: &mut D) -> Result<bool, Fault>
 pub(crate) fn would_lose_log<D: Disk>(files: &mut Files<D>) -> Result<bool, Fault>
     requires log { IsTrue (D.Disk.is_usable files.old.log) }
     requires db { IsTrue (D.Disk.is_usable files.old.db) }
+    // The verdict, or the fault that it had.
     ensures lost { IfOk result (λ lost. AreClean D.Disk files.new.log files.new.db
         → IsTrue lost ↔ IsLostLog (image_of D.Disk files.old)) }
     ensures failed { IfErr result (λ told. (told ≡ Fault.StoreFailed)
         × (AreClean D.Disk files.new.log files.new.db
         → MoreFaults (faults_of D.Disk files.old) (faults_of D.Disk files.new))) }
+    // The files are only read.
     ensures counts { faults_of D.Disk files.old ≤ faults_of D.Disk files.new }
     ensures log { OnlyReads D.Disk files.old.log files.new.log }
     ensures db { OnlyReads D.Disk files.old.db files.new.db }

@@ -47,12 +47,15 @@ fn copies_of<D: Disk>(
 ) -> Result<(Memory, Option<Memory>), CopyFault>
     requires log { IsTrue (D.Disk.is_usable files.old.log) }
     requires db { IsTrue (D.Disk.is_usable files.old.db) }
+    // Each copy has what the file has.
     ensures log { IfOk result (λ copies. IsTrue (memory_is_usable copies.0)
         × (IsClean D.Disk files.new.log → memory_bytes copies.0 ≡ D.Disk.seen files.old.log)) }
     ensures db { IfOk result (λ copies. IfSome copies.1 (λ copy. IsTrue (memory_is_usable copy)
         × (IsClean D.Disk files.new.db → memory_bytes copy ≡ D.Disk.seen files.old.db))) }
+    // A copy fails by a fault of the disk.
     ensures failed { result ≡ Err Unread → AreClean D.Disk files.new.log files.new.db
         → MoreFaults (faults_of D.Disk files.old) (faults_of D.Disk files.new) }
+    // The files are only read.
     ensures log_read { OnlyReads D.Disk files.old.log files.new.log }
     ensures db_read { OnlyReads D.Disk files.old.db files.new.db }
 {

@@ -89,20 +89,24 @@ impl<S: Alter> Desk<S> {
         moment: Moment,
         request: &Request,
     ) -> Result<Reply, DeskFault>
+        // An accepted or refused request: the reply is that of the step, and the tables are those after it.
         ensures clean { doubt (desk_state S.Store self.old).is_clean ≤ doubt (desk_state S.Store self.new).is_clean }
         ensures ok { OfOperator S.Store self.old self.new (λ s.
             IfOk result (λ reply. (reply ≡ (step s moment request.now).0)
             × IsAt S.Store self.new (step s moment request.now).1)) }
+        // All else stays: other tables, and the whole database where the operator does.
         ensures others { OfOperator S.Store self.old self.new (λ s.
             OnOk result (OthersStay (desk_state S.Store self.old).now (desk_state S.Store self.new).now)) }
         ensures rests { OfOperator S.Store self.old self.new (λ s. (step s moment request.now).1 ≡ s
             → OnOk result ((desk_state S.Store self.new).now ≡ (desk_state S.Store self.old).now)) }
         ensures goes_on { OnOk result (self.new.is_stopped ≡ false) }
+        // Each fault: what it leaves of the desk, and of the database.
         ensures no_memory { result ≡ Err DeskFault.NoMemory → self.new ≡ self.old }
         ensures store_failed { OfOperator S.Store self.old self.new (λ s.
             result ≡ Err DeskFault.StoreFailed
             → AllLeft (desk_state S.Store self.new) (TreesStandForEither s (step s moment request.now).1)) }
         ensures stops { result ≡ Err DeskFault.StoreFailed → IsTrue self.new.is_stopped }
+        // A stopped desk.
         ensures stopped { result ≡ Err DeskFault.Stopped → IsTrue self.old.is_stopped }
         ensures stays { IsTrue self.old.is_stopped → (result ≡ Err DeskFault.Stopped) × (self.new ≡ self.old) }
     {

@@ -52,15 +52,18 @@ pub fn know_newest<S: Alter>(
     command: &Command,
 ) -> Result<Newest, StatementFault>
     requires { conn.old.in_transaction ≡ false }
+    // Nothing is changed.
     ensures ended { conn.new.in_transaction ≡ false }
     ensures clean { doubt (state S.Store conn.old).is_clean ≤ doubt (state S.Store conn.new).is_clean }
     ensures keeps { HasCleanDisk (state S.Store conn.new) → (s : Operator) → Keeps (state S.Store conn.old) s
         → IfOk result (λ newest. Keeps (state S.Store conn.new) s) }
     ensures same { HasCleanDisk (state S.Store conn.new) → (s : Operator) → Keeps (state S.Store conn.old) s
         → OnOk result ((state S.Store conn.new).now ≡ (state S.Store conn.old).now) }
+    // What is known of the newest rentals is so.
     ensures newest { HasCleanDisk (state S.Store conn.new) → (s : Operator) → Keeps (state S.Store conn.old) s
         → (IsTrue (knows_newest known) → NewestTells s)
         → IfOk result (λ newest. IsTrue (knows_newest newest) → NewestTells s) }
+    // What a failed read leaves.
     ensures left { HasCleanDisk (state S.Store conn.new) → (s : Operator) → Keeps (state S.Store conn.old) s
         → AllLeft (state S.Store conn.new) (TreesStandFor s) }
 {

@@ -42,14 +42,17 @@ impl<S: Alter> Desk<S> {
     /// A stopped desk answers every list `Stopped`, the empty one too, and stays as it is; no other desk
     /// answers that.
     pub fn run_list(&mut self, alloc: Global, calls: &[(Moment, Request)]) -> Run
+        // The replies are those of the steps, and what a crash may leave is the operator after a front of the list.
         ensures clean { doubt (desk_state S.Store self.old).is_clean ≤ doubt (desk_state S.Store self.new).is_clean }
         ensures ran { OfOperator S.Store self.old self.new (λ s.
             Ran S.Store self.new s calls.now result.replies.items result.end) }
         ensures front { OfOperator S.Store self.old self.new (λ s.
             AllLeft (desk_state S.Store self.new) (IsAfterFront s calls.now (length result.replies.items))) }
+        // Other tables stay.
         ensures others { OfOperator S.Store self.old self.new (λ s.
             result.end ≢ Some DeskFault.StoreFailed
             → OthersStay (desk_state S.Store self.old).now (desk_state S.Store self.new).now) }
+        // The end: the fault, or that all were served.
         ensures stops { StopsBy self.old self.new result.end }
         ensures refused { result.end ≡ Some DeskFault.Stopped → result.replies.items ≡ [] }
         ensures whole { IsNone result.end → length result.replies.items ≡ length calls.now }

@@ -68,8 +68,10 @@ fn store_accepted<'a, S: Alter>(
     texts: &KeptTexts<'a>,
 ) -> Result<(), StatementFault>
     requires outside { conn.old.in_transaction ≡ false }
+    // No transaction is left open.
     ensures ended { conn.new.in_transaction ≡ false }
     ensures clean { doubt (state S.Store conn.old).is_clean ≤ doubt (state S.Store conn.new).is_clean }
+    // Done: the operator after the acceptance, and other tables as before.
     ensures made { HasCleanDisk (state S.Store conn.new) → (s : Operator) (q : Request)
         → Keeps (state S.Store conn.old) s
         → IsSightOf (state S.Store conn.old).now s command.now sight.now → Accepts s now q accepted.now sums texts.now
@@ -78,6 +80,7 @@ fn store_accepted<'a, S: Alter>(
         → Keeps (state S.Store conn.old) s
         → IsSightOf (state S.Store conn.old).now s command.now sight.now → Accepts s now q accepted.now sums texts.now
         → OnOk result (OthersStay (state S.Store conn.old).now (state S.Store conn.new).now) }
+    // Whatever the end, a crash leaves the operator before or after.
     ensures left { HasCleanDisk (state S.Store conn.new) → (s : Operator) (q : Request)
         → Keeps (state S.Store conn.old) s
         → IsSightOf (state S.Store conn.old).now s command.now sight.now → Accepts s now q accepted.now sums texts.now
@@ -100,8 +103,10 @@ fn serve_read<'a, S: Alter>(
 ) -> Result<Served, StatementFault>
     requires outside { conn.old.in_transaction ≡ false }
     requires asked { IsAsked asked }
+    // No transaction is left open.
     ensures ended { conn.new.in_transaction ≡ false }
     ensures clean { doubt (state S.Store conn.old).is_clean ≤ doubt (state S.Store conn.new).is_clean }
+    // Done: the step of the operator, other tables as before, and all where the step changes nothing.
     ensures ok { HasCleanDisk (state S.Store conn.new) → (s : Operator) (t : ℕ) → Keeps (state S.Store conn.old) s
         → IsReadFor (state S.Store conn.old).now s t now asked.entry.request.now figures.entry.now sight.now
         → IfOk result (Serves (state S.Store conn.new) (step s t asked.entry.request.now)) }
@@ -112,6 +117,7 @@ fn serve_read<'a, S: Alter>(
         → IsReadFor (state S.Store conn.old).now s t now asked.entry.request.now figures.entry.now sight.now
         → (step s t asked.entry.request.now).1 ≡ s
         → OnOk result ((state S.Store conn.new).now ≡ (state S.Store conn.old).now) }
+    // Failed: a crash leaves the operator before or after.
     ensures failed { HasCleanDisk (state S.Store conn.new) → (s : Operator) (t : ℕ) → Keeps (state S.Store conn.old) s
         → IsReadFor (state S.Store conn.old).now s t now asked.entry.request.now figures.entry.now sight.now
         → OnErr result (AllLeft (state S.Store conn.new) (TreesStandForEither s (step s t asked.entry.request.now).1)) }
@@ -166,8 +172,10 @@ fn serve_anew<'a, S: Alter>(
 ) -> Result<Served, StatementFault>
     requires outside { conn.old.in_transaction ≡ false }
     requires asked { IsAsked asked }
+    // No transaction is left open.
     ensures ended { conn.new.in_transaction ≡ false }
     ensures clean { doubt (state S.Store conn.old).is_clean ≤ doubt (state S.Store conn.new).is_clean }
+    // Done: the step of the operator, other tables as before, and all where the step changes nothing.
     ensures ok { HasCleanDisk (state S.Store conn.new) → (s : Operator) → Keeps (state S.Store conn.old) s
         → IsRemembered s remembered.now → map.get s.kept (key_in asked.entry.request.now) ≡ None
         → IfOk result (Serves (state S.Store conn.new) (step s moment asked.entry.request.now)) }
@@ -178,6 +186,7 @@ fn serve_anew<'a, S: Alter>(
         → IsRemembered s remembered.now → map.get s.kept (key_in asked.entry.request.now) ≡ None
         → (step s moment asked.entry.request.now).1 ≡ s
         → OnOk result ((state S.Store conn.new).now ≡ (state S.Store conn.old).now) }
+    // Failed: a crash leaves the operator before or after.
     ensures failed { HasCleanDisk (state S.Store conn.new) → (s : Operator) → Keeps (state S.Store conn.old) s
         → IsRemembered s remembered.now → map.get s.kept (key_in asked.entry.request.now) ≡ None
         → OnErr result (AllLeft (state S.Store conn.new)
@@ -205,8 +214,10 @@ pub(crate) fn serve<S: Alter>(
 ) -> Result<Served, StatementFault>
     requires outside { conn.old.in_transaction ≡ false }
     requires text { text.now ≡ text_of request.now.command }
+    // No transaction is left open.
     ensures ended { conn.new.in_transaction ≡ false }
     ensures clean { doubt (state S.Store conn.old).is_clean ≤ doubt (state S.Store conn.new).is_clean }
+    // Done: the step of the operator, other tables as before, and all where the step changes nothing.
     ensures ok { HasCleanDisk (state S.Store conn.new) → (s : Operator) → Keeps (state S.Store conn.old) s
         → IsRemembered s remembered.now → IfOk result (Serves (state S.Store conn.new) (step s moment request.now)) }
     ensures others { HasCleanDisk (state S.Store conn.new) → (s : Operator) → Keeps (state S.Store conn.old) s
@@ -215,6 +226,7 @@ pub(crate) fn serve<S: Alter>(
     ensures rests { HasCleanDisk (state S.Store conn.new) → (s : Operator) → Keeps (state S.Store conn.old) s
         → IsRemembered s remembered.now → (step s moment request.now).1 ≡ s
         → OnOk result ((state S.Store conn.new).now ≡ (state S.Store conn.old).now) }
+    // Failed: a crash leaves the operator before or after.
     ensures failed { HasCleanDisk (state S.Store conn.new) → (s : Operator) → Keeps (state S.Store conn.old) s
         → IsRemembered s remembered.now
         → OnErr result (AllLeft (state S.Store conn.new) (TreesStandForEither s (step s moment request.now).1)) }

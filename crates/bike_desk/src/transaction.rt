@@ -22,14 +22,17 @@ pub fn make_all<S: Alter>(
     changes: &[RowChange<'_>],
 ) -> Result<(), StatementFault>
     requires { conn.old.in_transaction ≡ false }
+    // No transaction is left open.
     ensures ended { conn.new.in_transaction ≡ false }
     ensures clean { doubt (state S.Store conn.old).is_clean ≤ doubt (state S.Store conn.new).is_clean }
+    // Done: the next operator, and other tables as before.
     ensures made { HasCleanDisk (state S.Store conn.new) → (s next : Operator)
         → IsNextBy (state S.Store conn.old) changes.now s next
         → OnOk result (Keeps (state S.Store conn.new) next) }
     ensures others { HasCleanDisk (state S.Store conn.new) → (s next : Operator)
         → IsNextBy (state S.Store conn.old) changes.now s next
         → OnOk result (OthersStay (state S.Store conn.old).now (state S.Store conn.new).now) }
+    // Whatever the end, a crash leaves the operator before or after.
     ensures left { HasCleanDisk (state S.Store conn.new) → (s next : Operator)
         → IsNextBy (state S.Store conn.old) changes.now s next
         → AllLeft (state S.Store conn.new) (TreesStandForEither s next) }

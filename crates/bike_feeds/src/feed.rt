@@ -61,8 +61,10 @@ fn publish<S: Alter, W: Output>(
     out: &mut W,
 ) -> Result<(), FeedFault>
     requires { json.old ≡ outset }
+    // The desk.
     ensures desk { LeavesDesk S.Store desk.old desk.new result }
     ensures takes_none { WantsNoMemory result }
+    // The text: all of it, a front of it where it failed, nothing of a stopped desk.
     ensures whole { OfOperator S.Store desk.old desk.new (λ s.
         OnOk result (IsCounted s feed moment (W.contents out.old).bytes (W.contents out.new).bytes json.new.count)) }
     ensures front { OfOperator S.Store desk.old desk.new (λ s.

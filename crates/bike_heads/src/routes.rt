@@ -137,11 +137,13 @@ impl Routes {
 
 /// Which routes some paths take: a part that is empty, a slash too many and an escape take none.
 pub fn route_laws(_example: Route)
+    // Paths with a route.
     ensures start { route_at (codes "/riders/17/start") ≡ Some Route.Start }
     ensures rider { route_at (codes "/riders/17") ≡ Some Route.Rider }
     ensures office { route_at (codes "/office") ≡ Some Route.Office }
     ensures feed { route_at (codes "/gbfs/3.0/station_status.json") ≡ Some (Route.Publish Feed.StationStatus) }
     ensures any_part { route_at (codes "/bikes/x%2f") ≡ Some Route.Bike }
+    // Paths that are near one and have none.
     ensures trailing { route_at (codes "/riders/17/start/") ≡ None }
     ensures empty { route_at (codes "/riders//start") ≡ None }
     ensures no_rider { route_at (codes "/riders/") ≡ None }

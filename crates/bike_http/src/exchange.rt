@@ -70,18 +70,22 @@ pub fn serve_one<S: Alter, R: Read, W: Write>(
     reader: &mut R,
     writer: &mut W,
 ) -> Result<Served, ServeFault>
+    // What is sent, and where the desk is then.
     ensures clean { doubt (desk_state S.Store desk.old).is_clean ≤ doubt (desk_state S.Store desk.new).is_clean }
     ensures served { OfOperator S.Store desk.old desk.new (λ s.
         Serves S.Store desk.new s moment (R.remaining reader.old)
         (W.contents writer.old) (W.contents writer.new) result) }
     ensures done { OfOperator S.Store desk.old desk.new (λ s.
         result ≡ Ok (Served.Status 200) → IsDone S.Store desk.new s moment (R.remaining reader.old)) }
+    // A request that was accepted before is sent its first response, or 503.
     ensures again { OfOperator S.Store desk.old desk.new (λ s. (first : Response)
         → CameBefore (R.remaining reader.old) s first
         → SendsAgain S.Store desk.new s first (W.contents writer.old) (W.contents writer.new) result) }
+    // What changes nothing of the operator changes nothing of the database, and what asks for nothing asks nothing.
     ensures tables { OfOperator S.Store desk.old desk.new (λ s.
         LeavesTables S.Store desk.old desk.new s moment (R.remaining reader.old)) }
     ensures rests { Rests desk.old desk.new (W.contents writer.old) (W.contents writer.new) result }
+    // A stopped desk.
     ensures stays { IsTrue desk.old.is_stopped → desk.new ≡ desk.old }
     ensures refuses { IsTrue desk.old.is_stopped
         → Refuses (R.remaining reader.old) (W.contents writer.old) (W.contents writer.new) result }

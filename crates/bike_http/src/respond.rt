@@ -42,12 +42,15 @@ pub(crate) fn send<W: Write>(writer: &mut W, answer: &Answer) -> Result<u16, Sen
 
 /// Asks the desk to act.
 fn act<S: Alter>(alloc: Global, desk: &mut Desk<S>, moment: Moment, request: &Request) -> Answer
+    // What is told, and where the desk is then.
     ensures clean { doubt (desk_state S.Store desk.old).is_clean ≤ doubt (desk_state S.Store desk.new).is_clean }
     ensures told { OfOperator S.Store desk.old desk.new (λ s.
         TellsReply S.Store desk.new s moment request.now result) }
     ensures rests { OfOperator S.Store desk.old desk.new (λ s.
         RestsAfter S.Store desk.old desk.new s moment (Asked.Apply request.now)) }
+    // What was asked is a good request.
     ensures good { IsCall (moment, request.now) }
+    // A stopped desk.
     ensures stays { IsTrue desk.old.is_stopped → desk.new ≡ desk.old }
     ensures refuses { IsTrue desk.old.is_stopped → result ≡ Answer.Unavailable }
 {
@@ -157,11 +160,14 @@ pub(crate) fn respond<S: Alter, W: Write>(
     asked: Asked,
     writer: &mut W,
 ) -> Result<u16, SendFault>
+    // What is sent, and where the desk is then.
     ensures clean { doubt (desk_state S.Store desk.old).is_clean ≤ doubt (desk_state S.Store desk.new).is_clean }
     ensures sent { OfOperator S.Store desk.old desk.new (λ s.
         RespondsTo S.Store desk.new s moment asked (W.contents writer.old) (W.contents writer.new) result) }
     ensures rests { OfOperator S.Store desk.old desk.new (λ s. RestsAfter S.Store desk.old desk.new s moment asked) }
+    // What was asked is a good request.
     ensures good { IsGood moment asked }
+    // A stopped desk.
     ensures stays { IsTrue desk.old.is_stopped → desk.new ≡ desk.old }
     ensures refuses { IsTrue desk.old.is_stopped
         → SendsAnswer (W.contents writer.old) (W.contents writer.new) (refusal_of asked) result }

@@ -42,14 +42,17 @@ pub fn import_stations<S: Alter, R: Read>(
     name: &Ident,
     reader: &mut R,
 ) -> Result<u64, ImportFault>
+    // The rows that were accepted, in order, and what a crash may leave.
     ensures clean { doubt (desk_state S.Store desk.old).is_clean ≤ doubt (desk_state S.Store desk.new).is_clean }
     ensures imports { OfOperator S.Store desk.old desk.new (λ s.
         Imports S.Store desk.new s moment name.now (R.remaining reader.old) result) }
     ensures left { OfOperator S.Store desk.old desk.new (λ s.
         AllLeft (desk_state S.Store desk.new) (StandsAfterSome s)) }
+    // Rows that change nothing leave the database.
     ensures rests { OfOperator S.Store desk.old desk.new (λ s.
         AllChangeNothing moment name.now s (R.remaining reader.old)
         → result ≢ Err (ImportFault.Desk DeskFault.StoreFailed) → KeepsDatabase S.Store desk.old desk.new) }
+    // The end: a fault of the desk, or the number of rows.
     ensures stops { StopsBy desk.old desk.new (desk_fault result) }
     ensures refused { result ≡ Err (ImportFault.Desk DeskFault.Stopped)
         → Keeps (R.remaining reader.old) (R.remaining reader.new) }

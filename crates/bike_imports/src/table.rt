@@ -32,10 +32,12 @@ pub fn next_record<R: Read>(
     number: u64,
 ) -> Result<bool, ImportFault>
     requires { IsPlain table.old }
+    // A record, or the end of the table.
     ensures plain { OnOk result (IsPlain table.new) }
     ensures text { OnOk result (AllText (fields_of row.new)) }
     ensures takes { result ≡ Ok true → Takes R.remaining table.old table.new (fields_of row.new) }
     ensures none { result ≡ Ok false → FindsNone R.remaining table.old }
+    // Or the first fault of the table.
     ensures fault { IfErr result (MeetsFault R.remaining table.old number) }
 {
     match table.read_record(row) {

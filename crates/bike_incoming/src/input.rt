@@ -90,9 +90,12 @@ impl Input {
     ) -> Result<bool, ReadFailed>
         requires room { length self.old < end }
         requires end { end ≤ 24576 }
+        // What was read stands behind what came before, and no more than fits.
         ensures more { IfOk result (ReadsMore (R.remaining reader.old) (R.remaining reader.new) self.old self.new) }
         ensures within { length self.new ≤ end }
+        // A failed read takes nothing.
         ensures fault { OnErr result (Keeps (R.remaining reader.old) (R.remaining reader.new)) }
+        // Each read that gives bytes is counted.
         ensures counted { OnOk result (reads.new.count + 1 ≡ reads.old.count) }
         ensures fewer { reads.new.count ≤ reads.old.count }
     {

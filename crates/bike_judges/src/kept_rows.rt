@@ -37,10 +37,12 @@ fn test_next<S: Alter, T: RowTest>(
     rows: &mut Rows<'_, S>,
     test: &T,
 ) -> Result<Option<bool>, StatementFault>
+    // The next row and its verdict.
     ensures same_reference { rows.new.conn.ghost_name ≡ rows.old.conn.ghost_name }
     ensures next { HasCleanDisk (state S.Store rows.new.conn.now) → IfOk result (λ next. (all given : List Row)
         → HasRead S.Store all rows.old.conn.now given
         → TestsNext S.Store (T.test test.now) all rows.new.conn.now given next) }
+    // Nothing is changed, and what a failed read leaves.
     ensures same { HasCleanDisk (state S.Store rows.new.conn.now)
         → OnOk result (IsUnchanged (state S.Store rows.old.conn.now) (state S.Store rows.new.conn.now)) }
     ensures failed { HasCleanDisk (state S.Store rows.new.conn.now)

@@ -68,14 +68,17 @@ pub fn run_lines<S: Alter, R: Read, W: Write>(
     reader: &mut R,
     writer: &mut W,
 ) -> Result<u64, LinesFault>
+    // The answers are those of the lines, and the desk is at the operator after them.
     ensures clean { doubt (desk_state S.Store desk.old).is_clean ≤ doubt (desk_state S.Store desk.new).is_clean }
     ensures ran { OfOperator S.Store desk.old desk.new (λ s.
         RanLines S.Store desk.new s (R.remaining reader.old) (R.remaining reader.new)
         (W.contents writer.old) (W.contents writer.new) result) }
     ensures kept { OfOperator S.Store desk.old desk.new (λ s. ServesSome S.Store desk.new s (desk_fault result)) }
+    // Lines that change nothing leave the database.
     ensures rests { OfOperator S.Store desk.old desk.new (λ s.
         AllChangeNothing s (R.remaining reader.old) → result ≢ Err (LinesFault.Desk DeskFault.StoreFailed)
         → KeepsDatabase S.Store desk.old desk.new) }
+    // The end: a fault of the desk, which a stopped one is before anything is read.
     ensures stops { StopsBy desk.old desk.new (desk_fault result) }
     ensures refused { result ≡ Err (LinesFault.Desk DeskFault.Stopped)
         → Keeps (R.remaining reader.old) (R.remaining reader.new)

@@ -57,10 +57,12 @@ fn read_next<S: Alter, R: ReadRow>(
     alloc: Global,
     rows: &mut Rows<'_, S>,
 ) -> Result<Option<R>, StatementFault>
+    // The next row, as its reader reads it.
     ensures same_reference { rows.new.conn.ghost_name ≡ rows.old.conn.ghost_name }
     ensures next { HasCleanDisk (state S.Store rows.new.conn.now)
         → IfOk result (λ x. (left : _) → IsWalking S.Store rows.old.conn.now left
         → ReadsNext S.Store R.reads rows.new.conn.now left x) }
+    // Nothing is changed, and what a failed read leaves.
     ensures same { HasCleanDisk (state S.Store rows.new.conn.now)
         → OnOk result (IsUnchanged (state S.Store rows.old.conn.now) (state S.Store rows.new.conn.now)) }
     ensures failed { HasCleanDisk (state S.Store rows.new.conn.now)
