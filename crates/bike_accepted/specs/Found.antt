@@ -9,7 +9,7 @@ use Rattle.bike_places.specs.Place.{Place}
 use Rattle.bike_places.specs.Place.TheVariants as place
 use Rattle.bike_places.specs.Bike.{Bike}
 use Rattle.bike_places.specs.ViewType.{View}
-use Rattle.bike_places.specs.Operator.{Operator, Station, name_key, item_numbered}
+use Rattle.bike_places.specs.Operator.{Operator, Station, name_key}
 use Rattle.bike_places.specs.Counts.{is_broken, docked_at, docks_broken}
 use Rattle.bike_places.specs.View.{view_of}
 use Rattle.bike_places.specs.Changes.{place_of}
@@ -73,7 +73,7 @@ pub record IsStationFound (s : Operator) (station : List ℕ) (docks : ℕ) : Ty
 abbrev pub IsMovedFound : Operator → Moved → Type 0
 IsMovedFound s (moved.Away bike type_id was becomes) = IsAwayFound s bike type_id was becomes
 IsMovedFound s (moved.AtDock at bike type_id was becomes) = IsAtDockFound s at bike type_id was becomes
-IsMovedFound s (moved.Grown station was count) = IsStationFound s station.now was.now
+IsMovedFound s (moved.AddDocks station was count) = IsStationFound s station.now was.now
 IsMovedFound s (moved.Marked at held broken) = IsMarkFound s at held
 
 -- ---- one other record
@@ -84,18 +84,16 @@ pub record IsStationNew (s : Operator) (station : List ℕ) (docks : ℕ) : Type
   pub none_docked : occupied_docks s station ≡ 0
   pub none_broken : docks_broken s station docks ≡ 0
 
--- THE TABLE: what was found of each record. What is added isn't there, or has the next number; what changes is this.
+-- THE TABLE: what was found of each record. What is added isn't there, or has the next number; what is set is there.
 abbrev pub IsFound : Operator → Change → Type 0
 IsFound s (change.AddPlan p) = map.get s.plans p.now.plan_id ≡ None
-IsFound s (change.AddStation x) = IsStationNew s x.now.station_id x.now.docks
+IsFound s (change.AddStation x reported) = IsStationNew s x.now.station_id x.now.docks
 IsFound s (change.SetFurtherName kind id language name) = map.contains_key s.more_names (name_key kind id.now language.now) ≡ true
 IsFound s (change.AddBike bike type_id) = map.get s.bikes bike ≡ None
 IsFound s (change.AddRider rider) = map.get s.riders rider ≡ None
 IsFound s (change.SetRider rider blocked) = map.contains_key s.riders rider ≡ true
-IsFound s (change.AddRental rental rider bike plan from_station) = rental ≡ length s.rentals + 1
+IsFound s (change.AddRental rental rider bike plan from_station start) = rental ≡ length s.rentals + 1
 IsFound s (change.AddOrder order truck from_end to_end type_id count) = order ≡ length s.orders + 1
-IsFound s (change.Deliver order was delivered) = (item_numbered order s.orders ≡ Some was.now) × (delivered ≡ was.now.delivered + 1)
-IsFound s (change.CloseOrder order was) = item_numbered order s.orders ≡ Some was.now
 IsFound s c = Unit {0}
 
 -- ---- an entry

@@ -35,14 +35,14 @@ pub struct Accepted<'a> {
 pub type Decision<'a> = Result<Accepted<'a>, Refusal>;
 
 impl<'a> Accepted<'a> {
-    /// What is answered as done, and puts, adds or removes one record.
-    pub fn changed(change: Change<'a>) -> Accepted<'a>
-        ensures { result ≡ record { reply = Done; moved = None; change = Some change.entry; entry = None } }
+    /// What is answered as done, and makes nothing.
+    pub fn done() -> Accepted<'a>
+        ensures { result ≡ record { reply = Done; moved = None; change = None; entry = None } }
     {
         Accepted {
             reply: Reply::Done,
             moved: None,
-            change: Some(change),
+            change: None,
             entry: None,
         }
     }

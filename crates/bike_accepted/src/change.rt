@@ -1,11 +1,13 @@
 //! Records that are put, added or removed, but for those of bicycles that are there and of docks.
 
+use bike_fixed::Moment;
 use bike_places::{
-    Ident, Language, Name, NameKind, Order, OrderEnd, Plan, Position, Region, Settings, Station,
+    Cents, Ident, Language, Name, NameKind, OrderEnd, Plan, Position, Region, Settings, Station,
     System, VehicleType,
 };
 
-/// One record that is put, added or removed. What is added wasn't there. Moments are the operator's `now`.
+/// One record that is put, added or removed, with all that its row gets. What is added wasn't there. Money is in
+/// hundredths, moments in seconds.
 #[derive(Clone, Copy)]
 pub enum Change<'a> {
     /// The system is set.
@@ -19,14 +21,18 @@ pub enum Change<'a> {
         type_id: &'a Ident,
         plan: &'a Ident,
     },
-    /// A station is added: installed, renting and returning.
-    AddStation(&'a Station),
+    /// A station is added: installed, renting and returning, in no region, with all docks available.
+    AddStation {
+        station: &'a Station,
+        reported: Moment,
+    },
     /// A station gets its flags, and reports.
     SetStation {
         station: &'a Ident,
         is_installed: bool,
         is_renting: bool,
         is_returning: bool,
+        reported: Moment,
     },
     /// A region is added.
     AddRegion(&'a Region),
@@ -78,7 +84,7 @@ pub enum Change<'a> {
         truck: u32,
         capacity: u32,
     },
-    /// A rider is added, who isn't blocked.
+    /// A rider is added, who isn't blocked, with balance 0.
     AddRider {
         rider: u32,
     },
@@ -87,21 +93,23 @@ pub enum Change<'a> {
         rider: u32,
         is_blocked: bool,
     },
-    /// A rental is added, which is open.
+    /// A rental is added, which is open, without refunds.
     AddRental {
         rental: u32,
         rider: u32,
         bike: u32,
         plan: &'a Ident,
         from_station: &'a Ident,
+        start: Moment,
     },
-    /// A rental is closed at a station, or recovered, at a fare in hundredths.
+    /// A rental is closed at a station or, where there is none, recovered.
     CloseRental {
         rental: u32,
         to_station: Option<&'a Ident>,
-        fare: i64,
+        finish: Moment,
+        fare: Cents,
     },
-    /// An order is added, which is open.
+    /// An order is added, which is open, with nothing delivered.
     AddOrder {
         order: u32,
         truck: u32,
@@ -110,15 +118,10 @@ pub enum Change<'a> {
         type_id: &'a Ident,
         count: u32,
     },
-    /// One more bicycle of an order is delivered: so many are then.
-    Deliver {
+    /// An order has so many bicycles delivered, and is open or closed.
+    SetOrder {
         order: u32,
-        was: &'a Order,
         delivered: u32,
-    },
-    /// An order is closed.
-    CloseOrder {
-        order: u32,
-        was: &'a Order,
+        is_open: bool,
     },
 }

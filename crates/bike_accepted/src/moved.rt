@@ -53,7 +53,7 @@ pub enum Moved<'a> {
         becomes: Standing<'a>,
     },
     /// A station that has so many docks gets more of them. It doesn't report.
-    Grown {
+    AddDocks {
         station: &'a Ident,
         was: &'a DockCount,
         count: &'a DockCount,

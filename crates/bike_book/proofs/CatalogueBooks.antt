@@ -38,9 +38,9 @@ system_put x None = refl
 system_put x (Some y) = rw one_key refl
 
 pub set_system : Everywhere SetSystemLaw
-set_system s m now listing x = record {
+set_system s m listing x = record {
   leads = λ i. record (tables_between s m) { system = system_put x.now s.system i };
-  listing = listing_same s (after_change now (change.SetSystem x) s) m (names_same s (after_change now (change.SetSystem x) s) refl refl) refl refl listing;
+  listing = listing_same s (after_change (change.SetSystem x) s) m (names_same s (after_change (change.SetSystem x) s) refl refl) refl refl listing;
 }
 
 settings_put : (x : SettingsRow) (o : Option SystemRow)
@@ -52,9 +52,9 @@ settings_put x (Some y) =
     updated_there 1 (Int (pos 1) ∷ []) _ (system_rows (Some y)) (system_row y) found ∙ system_put (system_with x y) (Some y)
 
 pub change_system : Everywhere ChangeSystemLaw
-change_system s m now listing x = record {
+change_system s m listing x = record {
   leads = λ i. record (tables_between s m) { system = settings_put x.now s.system i };
-  listing = listing_same s (after_change now (change.ChangeSystem x) s) m (names_same s (after_change now (change.ChangeSystem x) s) refl refl) refl refl listing;
+  listing = listing_same s (after_change (change.ChangeSystem x) s) m (names_same s (after_change (change.ChangeSystem x) s) refl refl) refl refl listing;
 }
 
 -- ---- types
@@ -63,8 +63,8 @@ pub types_known : (s n : Operator) → n.stations ≡ s.stations → ((q : List 
 types_known s n stations types = let same = names_same s (record n { types = s.types }) stations refl in record { docks = same_docks s n stations; stations = same.stations; types = types }
 
 pub add_type : Everywhere AddTypeLaw
-add_type s m now listing t =
-    let n = after_change now (change.AddType t) s in
+add_type s m listing t =
+    let n = after_change (change.AddType t) s in
     let types = put_entries texts stored_type stored_type (λ e. refl) (λ e. refl) s.types t.now.type_id t.now tt (λ q y found. (tt, λ apart. refl)) in
     record {
       leads = λ i. record (tables_between s m) { types = types i };
@@ -72,8 +72,8 @@ add_type s m now listing t =
     }
 
 pub set_plan : Everywhere SetPlanLaw
-set_plan s m now listing type_id plan =
-    let n = after_change now (change.SetPlan type_id plan) s in
+set_plan s m listing type_id plan =
+    let n = after_change (change.SetPlan type_id plan) s in
     let types = changed_entries texts stored_type stored_type (λ e. refl) (λ e. refl) s.types type_id.now tt _ (λ t. record t { plan_id = plan.now }) (λ v found. refl) (λ q y found. (tt, λ apart. refl)) in
     record {
       leads = λ i. record (tables_between s m) { types = types i };
@@ -83,25 +83,25 @@ set_plan s m now listing type_id plan =
 -- ---- regions
 
 pub add_region : Everywhere AddRegionLaw
-add_region s m now listing r =
-    let n = after_change now (change.AddRegion r) s in
+add_region s m listing r =
+    let n = after_change (change.AddRegion r) s in
     let regions = put_entries texts stored_region stored_region (λ e. refl) (λ e. refl) s.regions r.now.region_id r.now tt (λ q y found. (tt, λ apart. refl)) in
     record { leads = λ i. record (tables_between s m) { regions = regions i }; listing = listing_same s n m (names_same s n refl refl) refl refl listing }
 
 -- ---- stations
 
 pub add_station : Everywhere AddStationLaw
-add_station s m now listing x free none_taken none_broken =
-    let n = after_change now (change.AddStation x) s in
+add_station s m listing x reported free none_taken none_broken =
+    let n = after_change (change.AddStation x reported) s in
     let left : pos x.now.docks ≡ docks_left s x.now.station_id x.now.docks = omega (arith, ints, none_taken, none_broken) in
     let stations =
-    ap (λ (r : Row). put_row_by 1 r (map (counted_station s) (fin.entries s.stations))) (ap₂ (station_row x.now.station_id (new_station x.now now)) left (sym none_broken))
-    ∙ put_entries texts (counted_station s) (counted_station s) (λ e. refl) (λ e. refl) s.stations x.now.station_id (new_station x.now now) tt (λ q y found. (tt, λ apart. refl)) in
+    ap (λ (r : Row). put_row_by 1 r (map (counted_station s) (fin.entries s.stations))) (ap₂ (station_row x.now.station_id (new_station x.now reported)) left (sym none_broken))
+    ∙ put_entries texts (counted_station s) (counted_station s) (λ e. refl) (λ e. refl) s.stations x.now.station_id (new_station x.now reported) tt (λ q y found. (tt, λ apart. refl)) in
     record {
       leads = λ i. record (tables_between s m) { stations = stations i };
       listing = listing_same s n m (record {
-        docks = docks_added s n x.now.station_id (new_station x.now now) free refl;
-        stations = λ q h. known_added text_order s.stations x.now.station_id (new_station x.now now) q h;
+        docks = docks_added s n x.now.station_id (new_station x.now reported) free refl;
+        stations = λ q h. known_added text_order s.stations x.now.station_id (new_station x.now reported) q h;
         types = λ q h. h;
       }) refl refl listing;
     }
@@ -115,9 +115,9 @@ names_station s id f docks = record {
 }
 
 pub set_station : Everywhere SetStationLaw
-set_station s m now listing station installed renting returning =
-    let n = after_change now (change.SetStation station installed renting returning) s in
-    let f = λ (x : Station). record x { is_installed = installed; is_renting = renting; is_returning = returning; reported = now } in
+set_station s m listing station installed renting returning reported =
+    let n = after_change (change.SetStation station installed renting returning reported) s in
+    let f = λ (x : Station). record x { is_installed = installed; is_renting = renting; is_returning = returning; reported = reported } in
     let stations = changed_entries texts (counted_station s) (counted_station s) (λ e. refl) (λ e. refl) s.stations station.now tt _ f (λ v found. refl) (λ q y found. (tt, λ apart. refl)) in
     record {
       leads = λ i. record (tables_between s m) { stations = stations i };
@@ -125,8 +125,8 @@ set_station s m now listing station installed renting returning =
     }
 
 pub set_region : Everywhere SetRegionLaw
-set_region s m now listing station region =
-    let n = after_change now (change.SetRegion station region) s in
+set_region s m listing station region =
+    let n = after_change (change.SetRegion station region) s in
     let f = λ (x : Station). record x { region = text_in region } in
     let stations = changed_entries texts (counted_station s) (counted_station s) (λ e. refl) (λ e. refl) s.stations station.now tt _ f (λ v found. refl) (λ q y found. (tt, λ apart. refl)) in
     record {
@@ -135,8 +135,8 @@ set_region s m now listing station region =
     }
 
 pub move_station : Everywhere MoveStationLaw
-move_station s m now listing station p =
-    let n = after_change now (change.MoveStation station p) s in
+move_station s m listing station p =
+    let n = after_change (change.MoveStation station p) s in
     let f = λ (x : Station). record x { row = moved_to p.now x.row } in
     let stations = changed_entries texts (counted_station s) (counted_station s) (λ e. refl) (λ e. refl) s.stations station.now tt _ f (λ v found. refl) (λ q y found. (tt, λ apart. refl)) in
     record {
@@ -150,8 +150,8 @@ pub named_triple : (s : Operator) → AreNamesSound s → (key : NameKey) (name 
 named_triple s are key name found = let it = are.names key name found in record { first = _; second = it.id; third = it.language; is = it.key_is }
 
 pub add_name : Everywhere AddNameLaw
-add_name s m now listing kind id language name are =
-    let n = after_change now (change.AddName kind id language name) s in
+add_name s m listing kind id language name are =
+    let n = after_change (change.AddName kind id language name) s in
     let names =
     put_entries triples stored_name stored_name (λ e. refl) (λ e. refl) s.more_names (name_key kind id.now language.now) name.now (name_triple kind id.now language.now)
     (λ q y found. (named_triple s are q y found, λ apart. refl)) in

@@ -38,9 +38,9 @@ uncounted_added s test bike b none fails =
     omega (arith, added, before, now)
 
 pub add_bike : Everywhere AddBikeLaw
-add_bike s m now listing bike type_id none =
+add_bike s m listing bike type_id none =
     let b : Bike = record { type_id = type_id.now; state = Fit; place = place.Depot } in
-    let n = after_change now (change.AddBike bike type_id) s in
+    let n = after_change (change.AddBike bike type_id) s in
     let occupied_is = λ (station : List ℕ). uncounted_added s (λ x. is_working_dock s station x.place) bike b none refl in
     let available_is = λ (station kind : List ℕ). uncounted_added s (λ x. bytes_eq x.type_id kind && is_available s station x) bike b none (neither (bytes_eq type_id.now kind)) in
     let disabled_is = λ (station kind : List ℕ). uncounted_added s (is_disabled_of s station kind) bike b none (neither (bytes_eq type_id.now kind)) in
@@ -59,24 +59,24 @@ add_bike s m now listing bike type_id none =
 -- ---- trucks
 
 pub add_truck : Everywhere AddTruckLaw
-add_truck s m now listing truck capacity =
-    let n = after_change now (change.AddTruck truck capacity) s in
+add_truck s m listing truck capacity =
+    let n = after_change (change.AddTruck truck capacity) s in
     let trucks = put_entries numbers stored_truck stored_truck (λ e. refl) (λ e. refl) s.trucks truck (record { capacity = capacity }) tt (λ q y found. (tt, λ apart. refl)) in
     record { leads = λ i. record (tables_between s m) { trucks = trucks i }; listing = listing_same s n m (names_same s n refl refl) refl refl listing }
 
 -- ---- riders
 
 pub add_rider : Everywhere AddRiderLaw
-add_rider s m now listing rider none =
-    let n = after_change now (change.AddRider rider) s in
+add_rider s m listing rider none =
+    let n = after_change (change.AddRider rider) s in
     let riders =
     ap (λ (b : ℤ). put_row_by 1 (rider_row rider false b) (map (stored_rider s.entries) (fin.entries s.riders))) (sym none)
     ∙ put_entries numbers (stored_rider s.entries) (stored_rider s.entries) (λ e. refl) (λ e. refl) s.riders rider (record { is_blocked = false }) tt (λ q y found. (tt, λ apart. refl)) in
     record { leads = λ i. record (tables_between s m) { riders = riders i }; listing = listing_same s n m (names_same s n refl refl) refl refl listing }
 
 pub set_rider : Everywhere SetRiderLaw
-set_rider s m now listing rider blocked known =
-    let n = after_change now (change.SetRider rider blocked) s in
+set_rider s m listing rider blocked known =
+    let n = after_change (change.SetRider rider blocked) s in
     let there = there_of (fin.get s.riders rider) known in
     let riders =
     set_entries numbers (stored_rider s.entries) (stored_rider s.entries) (λ e. refl) (λ e. refl) s.riders rider tt _ there.0 (record { is_blocked = blocked }) there.1 refl (λ q y found. (tt, λ apart. refl)) in

@@ -77,30 +77,30 @@ system_name_put name (Some y) =
     updated_there 1 (Int (pos 1) ∷ []) _ (system_rows (Some y)) (system_row y) found ∙ system_put (system_named name y) (Some y)
 
 pub set_own_name : Everywhere SetOwnNameLaw
-set_own_name s m now listing named.System id name =
-    let n = after_change now (change.SetOwnName named.System id name) s in
+set_own_name s m listing named.System id name =
+    let n = after_change (change.SetOwnName named.System id name) s in
     record {
       leads = λ i. record (tables_between s m) { system = system_name_put name.now s.system i };
       listing = listing_same s n m (names_same s n refl refl) refl refl listing;
     }
-set_own_name s m now listing named.Station id name =
-    let n = after_change now (change.SetOwnName named.Station id name) s in
+set_own_name s m listing named.Station id name =
+    let n = after_change (change.SetOwnName named.Station id name) s in
     let f = λ (x : Station). record x { row = record x.row { name = name.now } } in
     let stations = changed_entries texts (counted_station s) (counted_station s) (λ e. refl) (λ e. refl) s.stations id.now tt _ f (λ v found. refl) (λ q y found. (tt, λ apart. refl)) in
     record {
       leads = λ i. record (tables_between s m) { stations = stations i };
       listing = listing_same s n m (names_station s id.now f (λ x. omega arith)) refl refl listing;
     }
-set_own_name s m now listing named.«Type» id name =
-    let n = after_change now (change.SetOwnName named.«Type» id name) s in
+set_own_name s m listing named.«Type» id name =
+    let n = after_change (change.SetOwnName named.«Type» id name) s in
     let f = λ (t : TypeRow). record t { name = name.now } in
     let types = changed_entries texts stored_type stored_type (λ e. refl) (λ e. refl) s.types id.now tt _ f (λ v found. refl) (λ q y found. (tt, λ apart. refl)) in
     record {
       leads = λ i. record (tables_between s m) { types = types i };
       listing = listing_same s n m (types_known s n refl (λ q h. known_changed text_order s.types id.now f q h)) refl refl listing;
     }
-set_own_name s m now listing named.Plan id name =
-    let n = after_change now (change.SetOwnName named.Plan id name) s in
+set_own_name s m listing named.Plan id name =
+    let n = after_change (change.SetOwnName named.Plan id name) s in
     let f = λ (p : PlanRow). record p { name = name.now } in
     let plans = changed_entries texts stored_plan stored_plan (λ e. refl) (λ e. refl) s.plans id.now tt _ f (λ v found. refl) (λ q y found. (tt, λ apart. refl)) in
     let segments = sym (segments_kept s.plans id.now f (λ p. refl)) in
@@ -108,8 +108,8 @@ set_own_name s m now listing named.Plan id name =
       leads = λ i. record (tables_between s m) { plans = plans i; segments = segments i };
       listing = listing_same s n m (names_same s n refl refl) refl refl listing;
     }
-set_own_name s m now listing named.Description id name =
-    let n = after_change now (change.SetOwnName named.Description id name) s in
+set_own_name s m listing named.Description id name =
+    let n = after_change (change.SetOwnName named.Description id name) s in
     let f = λ (p : PlanRow). record p { description = name.now } in
     let plans = changed_entries texts stored_plan stored_plan (λ e. refl) (λ e. refl) s.plans id.now tt _ f (λ v found. refl) (λ q y found. (tt, λ apart. refl)) in
     let segments = sym (segments_kept s.plans id.now f (λ p. refl)) in
@@ -117,8 +117,8 @@ set_own_name s m now listing named.Description id name =
       leads = λ i. record (tables_between s m) { plans = plans i; segments = segments i };
       listing = listing_same s n m (names_same s n refl refl) refl refl listing;
     }
-set_own_name s m now listing named.Region id name =
-    let n = after_change now (change.SetOwnName named.Region id name) s in
+set_own_name s m listing named.Region id name =
+    let n = after_change (change.SetOwnName named.Region id name) s in
     let f = λ (r : RegionRow). record r { name = name.now } in
     let regions = changed_entries texts stored_region stored_region (λ e. refl) (λ e. refl) s.regions id.now tt _ f (λ v found. refl) (λ q y found. (tt, λ apart. refl)) in
     record { leads = λ i. record (tables_between s m) { regions = regions i }; listing = listing_same s n m (names_same s n refl refl) refl refl listing }
@@ -131,8 +131,8 @@ found_there None e = absurd cc
 found_there (Some name) e = (name, refl)
 
 pub set_further_name : Everywhere SetFurtherNameLaw
-set_further_name s m now listing kind id language name are there =
-    let n = after_change now (change.SetFurtherName kind id language name) s in
+set_further_name s m listing kind id language name are there =
+    let n = after_change (change.SetFurtherName kind id language name) s in
     let key = name_key kind id.now language.now in
     let was = found_there (fin.get s.more_names key) there in
     let names =
@@ -141,8 +141,8 @@ set_further_name s m now listing kind id language name are there =
     record { leads = λ i. record (tables_between s m) { more_names = names i }; listing = listing_same s n m (names_same s n refl refl) refl refl listing }
 
 pub remove_name : Everywhere RemoveNameLaw
-remove_name s m now listing kind id language are =
-    let n = after_change now (change.RemoveName kind id language) s in
+remove_name s m listing kind id language are =
+    let n = after_change (change.RemoveName kind id language) s in
     let names =
     removed_entries triples stored_name (λ e. refl) s.more_names (name_key kind id.now language.now) (name_triple kind id.now language.now)
     (λ q y found. named_triple s are q y found) in

@@ -19,7 +19,7 @@ use Rattle.bike_accepted.specs.Effects.{after_change}
 use Rattle.bike_book.specs.Tables.{Tables, Plans, Segments}
 use Rattle.bike_book.specs.Rows.{plan_row, segment_row}
 use Rattle.bike_book.specs.Stored.{stored_plan, segment_rows, plans_segments}
-use Rattle.bike_book.specs.Writes.{RowWrite, Add, tables_after, tables_after_all}
+use Rattle.bike_book.specs.Writes.{Add, tables_after, tables_after_all}
 use Rattle.bike_book.specs.Between.{tables_between}
 use Rattle.bike_book.specs.ChangeLaws.{Everywhere, AddPlanLaw, segment_writes}
 use Rattle.bike_book.proofs.MapRows.{both, below_has, put_entries}
@@ -155,8 +155,8 @@ segments_written id seq [] t = refl
 segments_written id seq (g ∷ gs) t = segments_written id (suc seq) gs (tables_after (Add Segments (segment_row id seq g)) t)
 
 pub add_plan : Everywhere AddPlanLaw
-add_plan s m now listing p rows free are =
-    let n = after_change now (change.AddPlan p) s in
+add_plan s m listing p free =
+    let n = after_change (change.AddPlan p) s in
     let id = p.now.plan_id in
     let plans = put_entries texts stored_plan stored_plan (λ e. refl) (λ e. refl) s.plans id p.now tt (λ q y found. (tt, λ apart. refl)) in
     let segments =
@@ -165,7 +165,7 @@ add_plan s m now listing p rows free are =
     let with_plan = tables_after (Add Plans (plan_row id p.now)) (tables_between s m) in
     record {
       leads =
-          ap (λ (ws : List RowWrite). tables_after_all ws with_plan) are ∙ segments_written id 1 p.now.segments with_plan
+          segments_written id 1 p.now.segments with_plan
           ∙ (λ i. record (tables_between s m) { plans = plans i; segments = segments i });
       listing = listing_same s n m (names_same s n refl refl) refl refl listing;
     }

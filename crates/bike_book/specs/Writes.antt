@@ -1,5 +1,5 @@
 -- What row changes do to the tables.
-use Rattle.std.specs.Prelude.{◌≡◌, ℕ, pos, ◌+◌, true, List, [], ◌∷◌, Some, None}
+use Rattle.std.specs.Prelude.{◌≡◌, ℕ, pos, ◌+◌, true, false, List, [], ◌∷◌, Some, None}
 use Rattle.sqlite_value.specs.declared.value.Value.{Value}
 use Rattle.sqlite_value.specs.declared.value.Value.TheVariants.{Int, Text}
 use Rattle.sqlite_value.specs.Order.{Row}
@@ -13,6 +13,8 @@ use Rattle.bike_operator.specs.NameKind.TheVariants as named
 use Rattle.bike_operator.specs.Operator.{name_key}
 use Rattle.bike_operator.specs.Steps.{new_station}
 use Rattle.bike_operator.specs.Changes.{place_of, text_in}
+use Rattle.bike_accepted.specs.declared.change.Change.{Change}
+use Rattle.bike_accepted.specs.declared.change.Change.TheVariants as change
 use Rattle.bike_book.specs.declared.row_change.RowChange.{RowChange}
 use Rattle.bike_book.specs.declared.row_change.RowChange.TheVariants as row
 use Rattle.bike_book.specs.Tables.{TableName, Tables, is_table, rows_in, with_rows, keys_of, Meta, System, Plans, Segments, Types, Regions, Stations, Docks, Bikes, Trucks, Riders, Rentals, Orders, Entries, Kept, Counts, MoreNames}
@@ -76,51 +78,55 @@ own_name_write named.Plan id name = Set Plans (Text id ∷ []) ((1, Text name) �
 own_name_write named.Description id name = Set Plans (Text id ∷ []) ((4, Text name) ∷ [])
 own_name_write named.Region id name = Set Regions (Text id ∷ []) ((1, Text name) ∷ [])
 
--- THE TABLE: what each row change writes
-abbrev pub write_of : RowChange → RowWrite
-write_of (row.AddSystem x) = Add System (system_row x.now)
-write_of (row.SetSettings x) =
+-- THE TABLE: the row of each record
+abbrev pub record_write : Change → RowWrite
+record_write (change.SetSystem x) = Add System (system_row x.now)
+record_write (change.AddPlan p) = Add Plans (plan_row p.now.plan_id p.now)
+record_write (change.AddType t) = Add Types (type_row t.now.type_id t.now)
+record_write (change.SetPlan type_id plan) = Set Types (Text type_id.now ∷ []) ((5, Text plan.now) ∷ [])
+record_write (change.AddStation x reported) = Add Stations (station_row x.now.station_id (new_station x.now reported) (pos x.now.docks) 0)
+record_write (change.SetStation station installed renting returning reported) =
+    Set Stations (Text station.now ∷ []) ((5, Int (truth installed)) ∷ (6, Int (truth renting)) ∷ (7, Int (truth returning)) ∷ (8, number_value reported) ∷ [])
+record_write (change.AddRegion r) = Add Regions (region_row r.now.region_id r.now)
+record_write (change.SetRegion station region) = Set Stations (Text station.now ∷ []) ((11, or_null Text (text_in region)) ∷ [])
+record_write (change.AddName kind id language name) = Add MoreNames (name_row (name_key kind id.now language.now) name.now)
+record_write (change.SetOwnName kind id name) = own_name_write kind id.now name.now
+record_write (change.SetFurtherName kind id language name) = Set MoreNames (name_columns kind id.now language.now) ((3, Text name.now) ∷ [])
+record_write (change.RemoveName kind id language) = Remove MoreNames (name_columns kind id.now language.now)
+record_write (change.ChangeSystem x) =
     Set System (Int (pos 1) ∷ []) ((3, Text x.now.name) ∷ (4, Text x.now.opening_hours) ∷ (5, Text x.now.feed_contact_email) ∷ (6, Text x.now.timezone)
     ∷ (8, Text x.now.base_url) ∷ (9, number_value x.now.ttl) ∷ [])
-write_of (row.AddPlan p) = Add Plans (plan_row p.now.plan_id p.now)
+record_write (change.MoveStation station p) = Set Stations (Text station.now ∷ []) ((2, Int p.now.lat) ∷ (3, Int p.now.lon) ∷ [])
+record_write (change.AddBike bike type_id) = Add Bikes (bike_row bike (record { type_id = type_id.now; state = Fit; place = place.Depot }))
+record_write (change.AddTruck truck capacity) = Add Trucks (truck_row truck capacity)
+record_write (change.AddRider rider) = Add Riders (rider_row rider false (pos 0))
+record_write (change.SetRider rider blocked) = Set Riders (number_value rider ∷ []) ((1, Int (truth blocked)) ∷ [])
+record_write (change.AddRental rental rider bike plan from_station start) =
+    Add Rentals (rental_row rental (record { rider = rider; bike = bike; plan = plan.now; from_station = from_station.now; start = start; closing = None }) (pos 0))
+record_write (change.CloseRental rental to_station finish fare) =
+    Set Rentals (number_value rental ∷ []) (columns_from 6 (closing_columns (Some (record { to_station = text_in to_station; finish = finish; fare = fare }))))
+record_write (change.AddOrder order truck from_end to_end type_id count) =
+    Add Orders (order_row order (record { truck = truck; from_end = from_end.now; to_end = to_end.now; type_id = type_id.now; count = count; delivered = 0; is_open = true }))
+record_write (change.SetOrder order delivered is_open) = Set Orders (number_value order ∷ []) ((6, number_value delivered) ∷ (7, Int (truth is_open)) ∷ [])
+
+-- what each row change writes
+abbrev pub write_of : RowChange → RowWrite
+write_of (row.Record c) = record_write c.now
 write_of (row.AddSegment plan seq g) = Add Segments (segment_row plan.now seq g.now)
-write_of (row.AddType t) = Add Types (type_row t.now.type_id t.now)
-write_of (row.SetDefaultPlan type_id plan) = Set Types (Text type_id.now ∷ []) ((5, Text plan.now) ∷ [])
-write_of (row.AddRegion r) = Add Regions (region_row r.now.region_id r.now)
-write_of (row.AddStation x reported) = Add Stations (station_row x.now.station_id (new_station x.now reported) (pos x.now.docks) 0)
-write_of (row.SetFlags station installed renting returning reported) =
-    Set Stations (Text station.now ∷ []) ((5, Int (truth installed)) ∷ (6, Int (truth renting)) ∷ (7, Int (truth returning)) ∷ (8, number_value reported) ∷ [])
-write_of (row.SetPosition station p) = Set Stations (Text station.now ∷ []) ((2, Int p.now.lat) ∷ (3, Int p.now.lon) ∷ [])
 write_of (row.SetDockCount station docks free) = Set Stations (Text station.now ∷ []) ((4, number_value docks) ∷ (9, number_value free) ∷ [])
-write_of (row.SetRegion station region) = Set Stations (Text station.now ∷ []) ((11, or_null Text (text_in region)) ∷ [])
 write_of (row.SetDocksReported station free broken reported) =
     Set Stations (Text station.now ∷ []) ((9, number_value free) ∷ (10, number_value broken) ∷ (8, number_value reported) ∷ [])
 write_of (row.AddDock station dock broken) = Add Docks (dock_row station.now dock broken)
 write_of (row.SetDock station dock broken) = Set Docks (Text station.now ∷ number_value dock ∷ []) ((2, Int (truth broken)) ∷ [])
-write_of (row.AddBike bike type_id) = Add Bikes (bike_row bike (record { type_id = type_id.now; state = Fit; place = place.Depot }))
 write_of (row.SetBike bike state p) = Set Bikes (number_value bike ∷ []) ((2, Int (state_number state)) ∷ columns_from 3 (place_columns (place_of p)))
-write_of (row.AddTruck truck capacity) = Add Trucks (truck_row truck capacity)
-write_of (row.AddRider rider blocked) = Add Riders (rider_row rider blocked (pos 0))
-write_of (row.SetBlocked rider blocked) = Set Riders (number_value rider ∷ []) ((1, Int (truth blocked)) ∷ [])
 write_of (row.SetBalance rider balance) = Set Riders (number_value rider ∷ []) ((2, Int balance) ∷ [])
-write_of (row.AddRental rental rider bike plan from_station start) =
-    Add Rentals (rental_row rental (record { rider = rider; bike = bike; plan = plan.now; from_station = from_station.now; start = start; closing = None }) (pos 0))
-write_of (row.CloseRental rental to_station finish fare) =
-    Set Rentals (number_value rental ∷ []) (columns_from 6 (closing_columns (Some (record { to_station = text_in to_station; finish = finish; fare = fare }))))
 write_of (row.SetRefunded rental refunded) = Set Rentals (number_value rental ∷ []) ((9, Int refunded) ∷ [])
-write_of (row.AddOrder order truck from_end to_end type_id count) =
-    Add Orders (order_row order (record { truck = truck; from_end = from_end.now; to_end = to_end.now; type_id = type_id.now; count = count; delivered = 0; is_open = true }))
-write_of (row.SetOrder order delivered is_open) = Set Orders (number_value order ∷ []) ((6, number_value delivered) ∷ (7, Int (truth is_open)) ∷ [])
 write_of (row.AddEntry e) = Add Entries (entry_row e.now.number e.now)
 write_of (row.AddKept caller key command reply) = Add Kept (kept_row caller.now key.now command.now reply.now)
 write_of (row.AddCount station type_id available disabled) = Add Counts (count_row station.now type_id.now available disabled)
 write_of (row.SetCount station type_id available disabled) =
     Set Counts (Text station.now ∷ Text type_id.now ∷ []) ((2, number_value available) ∷ (3, number_value disabled) ∷ [])
 write_of (row.SetMeta now cash revenue) = Set Meta (Int (pos 1) ∷ []) ((3, number_value now) ∷ (4, Int cash) ∷ (5, Int revenue) ∷ [])
-write_of (row.AddName kind id language name) = Add MoreNames (name_row (name_key kind id.now language.now) name.now)
-write_of (row.SetOwnName kind id name) = own_name_write kind id.now name.now
-write_of (row.SetFurtherName kind id language name) = Set MoreNames (name_columns kind id.now language.now) ((3, Text name.now) ∷ [])
-write_of (row.RemoveName kind id language) = Remove MoreNames (name_columns kind id.now language.now)
 
 abbrev pub writes_of : List RowChange → List RowWrite
 writes_of [] = []

@@ -3,7 +3,7 @@
 ghost use Rattle.bike_book.specs.ChangeLaws.{Everywhere};
 ghost use Rattle.bike_book.specs.ChangeLaws.{SetSystemLaw, AddPlanLaw, AddTypeLaw, SetPlanLaw, AddRegionLaw, AddStationLaw, SetStationLaw, SetRegionLaw, AddNameLaw, SetOwnNameLaw, SetFurtherNameLaw, RemoveNameLaw, ChangeSystemLaw, MoveStationLaw};
 ghost use Rattle.bike_book.specs.ChangeLaws.{AddBikeLaw, AddTruckLaw, AddRiderLaw, SetRiderLaw};
-ghost use Rattle.bike_book.specs.ChangeLaws.{AddRentalLaw, CloseRentalLaw, AddOrderLaw, DeliverLaw, CloseOrderLaw};
+ghost use Rattle.bike_book.specs.ChangeLaws.{AddRentalLaw, CloseRentalLaw, AddOrderLaw, SetOrderLaw};
 ghost use Rattle.bike_book.specs.CloseLaws.{AtEachClose, QuietCloseLaw, EntryCloseLaw, RefundCloseLaw};
 ghost use Rattle.bike_book.specs.Found.{WhereListed, FoundByKey, FoundListed, FoundByColumns, FoundNumbers};
 ghost use Rattle.bike_book.specs.NotThere.{WhereSound, NoRefundsYet, NoBalanceYet, NoneDockedYet, NoneBrokenYet};
@@ -39,8 +39,7 @@ pub fn books_rentals()
     ensures add_rental { Everywhere AddRentalLaw }
     ensures close_rental { Everywhere CloseRentalLaw }
     ensures add_order { Everywhere AddOrderLaw }
-    ensures deliver { Everywhere DeliverLaw }
-    ensures close_order { Everywhere CloseOrderLaw }
+    ensures set_order { Everywhere SetOrderLaw }
 {}
 
 /// The laws of the close of a request: with no entry, with a top-up or a fare, and with a refund.

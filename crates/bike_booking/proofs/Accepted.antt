@@ -31,6 +31,7 @@ use Rattle.bike_laws.proofs.EntryLemmas.{amounts_of}
 use Rattle.bike_book.specs.declared.row_change.RowChange.TheVariants as row
 use Rattle.bike_book.specs.Stored.{Listed, IsListing}
 use Rattle.bike_book.specs.Writes.{RowWrite, Add, write_of, writes_of}
+use Rattle.bike_book.specs.Between.{Leads}
 use Rattle.bike_book.specs.Tables.{Entries}
 use Rattle.bike_book.specs.Rows.{entry_row}
 use Rattle.bike_book.specs.CloseLaws.{after_close, AreKept, AreTextsOf, AreNumbersWith}
@@ -43,7 +44,7 @@ use Rattle.bike_accepted.specs.declared.change.Change.{Change}
 use Rattle.bike_accepted.specs.declared.change.Change.TheVariants as change
 use Rattle.bike_accepted.specs.declared.accepted.Booked.{Booked}
 use Rattle.bike_accepted.specs.declared.accepted.Accepted.{Accepted}
-use Rattle.bike_accepted.specs.Effects.{bike_in, after_moved, after_change, where_moved, where_changed, entry_of, changed_by, effect_of, Decides}
+use Rattle.bike_accepted.specs.Effects.{bike_in, after_change, where_moved, where_changed, entry_of, changed_by, effect_of, Decides}
 use Rattle.bike_accepted.specs.Found.{IsMovedFound, IsFound, IsRefundFound, IsBookedFound}
 use Rattle.bike_booking.specs.declared.stored.Stored.{Stored}
 use Rattle.bike_booking.specs.declared.stored.Sums.{Sums}
@@ -51,9 +52,9 @@ use Rattle.bike_booking.specs.declared.texts.KeptTexts.{KeptTexts}
 use Rattle.bike_booking.specs.Stored.{IsMovedStored}
 use Rattle.bike_booking.specs.Sums.{sums_of, sums_after}
 use Rattle.bike_booking.specs.Figures.{figures_of, rentals_after, orders_after, entries_after, figures_after, FiguresFollow}
-use Rattle.bike_booking.specs.Writes.{moved_rows, refund_writes, close_rows, where_moved_writes, where_changed_writes, where_booked_writes, writes_of_accepted}
+use Rattle.bike_booking.specs.Writes.{refund_writes, close_rows, where_moved_writes, where_changed_writes, where_booked_writes, writes_of_accepted}
 use Rattle.bike_booking.specs.Booking.{IsAccepted, BooksAccepted, SumsTakeOneMore}
-use Rattle.bike_booking.proofs.Written.{Leads, of_books, to_books, leads_none, leads_then}
+use Rattle.bike_booking.proofs.Written.{leads_none, leads_then}
 use Rattle.bike_booking.proofs.MovedBooks.{books_moved}
 use Rattle.bike_booking.proofs.ChangedBooks.{IsReady, books_change}
 
@@ -111,7 +112,7 @@ moved_left now None s = none_left s
 moved_left now (Some (moved.Away bike type_id was becomes)) s = bike_left s (fin.insert s.bikes bike (bike_in type_id becomes))
 moved_left now (Some (moved.AtDock at bike type_id was becomes)) s =
     let bikes = fin.insert s.bikes bike (bike_in type_id becomes) in reported now at.station.now s (record s { bikes = bikes }) (bike_left s bikes)
-moved_left now (Some (moved.Grown station was count)) s = station_left s station.now (λ x. record x { row = more_docks count.now x.row })
+moved_left now (Some (moved.AddDocks station was count)) s = station_left s station.now (λ x. record x { row = more_docks count.now x.row })
 moved_left now (Some (moved.Marked at held broken)) s =
     let n = dock_marked at.station.now at.dock broken s in reported now at.station.now s n (mark_left s n.broken)
 
@@ -138,25 +139,24 @@ own_name_left named.Description id name s = record { entries = refl; kept = refl
 own_name_left named.Region id name s = record { entries = refl; kept = refl; rentals = refl; orders = refl }
 
 -- a record leaves the ledger and what is kept
-change_left : (now : ℕ) (c : Change) (s : Operator) → ((after_change now c s).entries ≡ s.entries) × ((after_change now c s).kept ≡ s.kept)
-change_left now (change.SetOwnName kind id name) s = let left = own_name_left kind id.now name.now s in (left.entries, left.kept)
-change_left now c s = (refl, refl)
+change_left : (c : Change) (s : Operator) → ((after_change c s).entries ≡ s.entries) × ((after_change c s).kept ≡ s.kept)
+change_left (change.SetOwnName kind id name) s = let left = own_name_left kind id.now name.now s in (left.entries, left.kept)
+change_left c s = (refl, refl)
 
-changed_left : (now : ℕ) (co : Option Change) (s : Operator) → ((where_changed now co s).entries ≡ s.entries) × ((where_changed now co s).kept ≡ s.kept)
-changed_left now None s = (refl, refl)
-changed_left now (Some c) s = change_left now c s
+changed_left : (co : Option Change) (s : Operator) → ((where_changed co s).entries ≡ s.entries) × ((where_changed co s).kept ≡ s.kept)
+changed_left None s = (refl, refl)
+changed_left (Some c) s = change_left c s
 
 -- ---- the parts of an acceptance
 
 leads_moved : (s : Operator) (m : Listed) (now : ℕ) (n : Stored) → IsSound s → IsListing s m → (mo : Option Moved) → IfSome mo (IsMovedFound s) → IfSome mo (IsMovedStored s m n)
     → (w : Listed) × Leads (where_moved_writes now n mo) s m (where_moved now mo s) w
 leads_moved s m now n sound listing None found stored = (m, leads_none s m listing)
-leads_moved s m now n sound listing (Some mo) found stored =
-    let b = books_moved s m now n sound.catalogue sound.bikes listing mo found stored in (b.0, of_books (moved_rows now n mo) s (after_moved now mo s) m b.0 b.1)
+leads_moved s m now n sound listing (Some mo) found stored = books_moved s m now n sound.catalogue sound.bikes listing mo found stored
 
-leads_changed : (s : Operator) (m : Listed) (now : ℕ) → IsReady s → IsListing s m → (co : Option Change) → IfSome co (IsFound s) → Leads (where_changed_writes now co) s m (where_changed now co s) m
-leads_changed s m now is_ready listing None found = leads_none s m listing
-leads_changed s m now is_ready listing (Some c) found = books_change s m now listing is_ready c found
+leads_changed : (s : Operator) (m : Listed) → IsReady s → IsListing s m → (co : Option Change) → IfSome co (IsFound s) → Leads (where_changed_writes co) s m (where_changed co s) m
+leads_changed s m is_ready listing None found = leads_none s m listing
+leads_changed s m is_ready listing (Some c) found = books_change s m listing is_ready c found
 
 -- the operator after an accepted request is what was decided of the one before, closed
 accepted_closed : (s : Operator) (now : ℕ) (q : Request) (a : Accepted) → Decides s now q.command (Ok a) → (changed_by now a s).kept ≡ s.kept → after_acceptance s now q ≡ after_close now q a.reply (effect_of now a s)
@@ -179,10 +179,10 @@ module _ (s : Operator) (m : Listed) (now : ℕ) (q : Request) (a : Accepted) (n
   left = moved_left now a.moved s
 
   entries : next.entries ≡ s.entries
-  entries = (changed_left now a.change moved_next).0 ∙ left.entries
+  entries = (changed_left a.change moved_next).0 ∙ left.entries
 
   kept : next.kept ≡ s.kept
-  kept = (changed_left now a.change moved_next).1 ∙ left.kept
+  kept = (changed_left a.change moved_next).1 ∙ left.kept
 
   are_kept : AreKept next
   are_kept key k found = h.sound.kept key k (ap (λ (m : FinMap texts_cmp Kept). fin.get m key) (sym kept) ∙ found)
@@ -204,29 +204,26 @@ module _ (s : Operator) (m : Listed) (now : ℕ) (q : Request) (a : Accepted) (n
 
   closes : (w : Listed) → IsListing next w → (o : Option Booked) → IfSome o (IsBookedFound s) → n.sums ≡ sums_after (sums_of s) o → Closes w o
   closes w listing None found sums =
-      of_books (close_rows now n.sums texts) next (after_close now q a.reply next) w w
-      (close_quiet next w now q a.reply texts.caller texts.key texts.command texts.reply listing are_kept texts_are n.sums.cash n.sums.revenue (ap (λ (x : Sums). x.cash) sums ∙ ap cash_of (sym entries)) (ap (λ (x : Sums). x.revenue) sums ∙ ap revenue_of (sym entries)))
+      close_quiet next w now q a.reply texts.caller texts.key texts.command texts.reply listing are_kept texts_are n.sums.cash n.sums.revenue (ap (λ (x : Sums). x.cash) sums ∙ ap cash_of (sym entries)) (ap (λ (x : Sums). x.revenue) sums ∙ ap revenue_of (sym entries))
   closes w listing (Some b) found sums = go b.refunded found.refunded_is where
     go : (o : Option ℤ) → IsRefundFound s b.entry o
         → Leads ((Add Entries (entry_row b.entry.number b.entry) ∷ write_of (row.SetBalance b.entry.rider b.balance) ∷ refund_writes b.entry.rental o) ++ writes_of (close_rows now n.sums texts)) next w (after_close now q a.reply (entry_added (Some b.entry) next)) w
     go None none =
         let e : Bor Entry = record { ref_ptr = (0, 0); now = b.entry } in
-        of_books (row.AddEntry e ∷ row.SetBalance b.entry.rider b.balance ∷ close_rows now n.sums texts) next (after_close now q a.reply (entry_added (Some b.entry) next)) w w
-        (close_entry next w now q a.reply texts.caller texts.key texts.command texts.reply listing are_kept texts_are e b.balance n.sums.cash n.sums.revenue (numbers b found sums) none)
+        close_entry next w now q a.reply texts.caller texts.key texts.command texts.reply listing are_kept texts_are e b.balance n.sums.cash n.sums.revenue (numbers b found sums) none
     go (Some refunded) is =
         let e : Bor Entry = record { ref_ptr = (0, 0); now = b.entry } in
-        of_books (row.AddEntry e ∷ row.SetBalance b.entry.rider b.balance ∷ row.SetRefunded b.entry.rental refunded ∷ close_rows now n.sums texts) next (after_close now q a.reply (entry_added (Some b.entry) next)) w w
-        (close_refund next w now q a.reply texts.caller texts.key texts.command texts.reply listing are_kept texts_are e b.balance refunded n.sums.cash n.sums.revenue (numbers b found sums)
-        (is ∙ ap (λ (es : List Entry). refunded_of b.entry.rental es +ℤ given_back b.entry.kind b.entry.amount) (sym entries)))
+        close_refund next w now q a.reply texts.caller texts.key texts.command texts.reply listing are_kept texts_are e b.balance refunded n.sums.cash n.sums.revenue (numbers b found sums)
+        (is ∙ ap (λ (es : List Entry). refunded_of b.entry.rental es +ℤ given_back b.entry.kind b.entry.amount) (sym entries))
 
   pub leads_accepted : (w : Listed) × Leads (writes_of_accepted now n texts a) s m (after_acceptance s now q) w
   leads_accepted =
       let one = leads_moved s m now n h.sound h.listing a.moved h.found.moved h.stored.moved in
       let w = one.0 in
-      let two = leads_changed moved_next w now (ready s moved_next h.sound left) one.1.listing a.change h.found.change in
+      let two = leads_changed moved_next w (ready s moved_next h.sound left) one.1.listing a.change h.found.change in
       let three = closes w two.listing a.entry h.found.entry h.stored.sums in
       let ms = where_moved_writes now n a.moved in
-      let cs = where_changed_writes now a.change in
+      let cs = where_changed_writes a.change in
       let es = where_booked_writes a.entry in
       let ks = writes_of (close_rows now n.sums texts) in
       let end = after_close now q a.reply (effect_of now a s) in
@@ -241,14 +238,14 @@ books_accepted s m now q a n texts rows h are =
     let l = leads_accepted s m now q a n texts h in
     record {
       listed = l.0;
-      leads = sound_ends rows s (after_acceptance s now q) m l.0 h.sound.bikes h.sound_after.bikes (to_books rows (writes_of_accepted now n texts a) s (after_acceptance s now q) m l.0 are l.1);
+      leads = sound_ends rows s (after_acceptance s now q) m l.0 h.sound.bikes h.sound_after.bikes (subst (λ (ws : List RowWrite). Leads ws s m (after_acceptance s now q) l.0) (sym are) l.1);
     }
 
 -- what an accepted request leaves of the ledger before its entry
 changed_by_left : (now : ℕ) (a : Accepted) (s : Operator) → ((changed_by now a s).entries ≡ s.entries) × ((changed_by now a s).kept ≡ s.kept)
 changed_by_left now a s =
     let before = moved_left now a.moved s in
-    let after = changed_left now a.change (where_moved now a.moved s) in (after.0 ∙ before.entries, after.1 ∙ before.kept)
+    let after = changed_left a.change (where_moved now a.moved s) in (after.0 ∙ before.entries, after.1 ∙ before.kept)
 
 pub sums_take_one_more : SumsTakeOneMore
 sums_take_one_more s now q a sound decides sound_after = go a.entry refl where
@@ -269,20 +266,19 @@ sums_take_one_more s now q a sound decides sound_after = go a.entry refl where
 -- ---- figures
 
 -- how many rentals and orders there are after a record
-rentals_with : (now : ℕ) (co : Option Change) (s : Operator) → IfSome co (IsFound s) → rentals_after (length s.rentals) co ≡ length (where_changed now co s).rentals
-rentals_with now None s found = refl
-rentals_with now (Some (change.AddRental rental rider bike plan from_station)) s found = found ∙ sym (length-append s.rentals _)
-rentals_with now (Some (change.CloseRental rental to_station fare)) s found = sym (length-number_changed rental _ s.rentals)
-rentals_with now (Some (change.SetOwnName kind id name)) s found = ap (λ (rs : List Rental). length rs) (sym (own_name_left kind id.now name.now s).rentals)
-rentals_with now (Some c) s found = refl
+rentals_with : (co : Option Change) (s : Operator) → IfSome co (IsFound s) → rentals_after (length s.rentals) co ≡ length (where_changed co s).rentals
+rentals_with None s found = refl
+rentals_with (Some (change.AddRental rental rider bike plan from_station start)) s found = found ∙ sym (length-append s.rentals _)
+rentals_with (Some (change.CloseRental rental to_station finish fare)) s found = sym (length-number_changed rental _ s.rentals)
+rentals_with (Some (change.SetOwnName kind id name)) s found = ap (λ (rs : List Rental). length rs) (sym (own_name_left kind id.now name.now s).rentals)
+rentals_with (Some c) s found = refl
 
-orders_with : (now : ℕ) (co : Option Change) (s : Operator) → IfSome co (IsFound s) → orders_after (length s.orders) co ≡ length (where_changed now co s).orders
-orders_with now None s found = refl
-orders_with now (Some (change.AddOrder order truck from_end to_end type_id count)) s found = found ∙ sym (length-append s.orders _)
-orders_with now (Some (change.Deliver order was delivered)) s found = sym (length-number_changed order _ s.orders)
-orders_with now (Some (change.CloseOrder order was)) s found = sym (length-number_changed order _ s.orders)
-orders_with now (Some (change.SetOwnName kind id name)) s found = ap (λ (os : List Order). length os) (sym (own_name_left kind id.now name.now s).orders)
-orders_with now (Some c) s found = refl
+orders_with : (co : Option Change) (s : Operator) → IfSome co (IsFound s) → orders_after (length s.orders) co ≡ length (where_changed co s).orders
+orders_with None s found = refl
+orders_with (Some (change.AddOrder order truck from_end to_end type_id count)) s found = found ∙ sym (length-append s.orders _)
+orders_with (Some (change.SetOrder order delivered is_open)) s found = sym (length-number_changed order _ s.orders)
+orders_with (Some (change.SetOwnName kind id name)) s found = ap (λ (os : List Order). length os) (sym (own_name_left kind id.now name.now s).orders)
+orders_with (Some c) s found = refl
 
 -- the figures of the ledger with an entry
 record LedgerWith (s next : Operator) (o : Option Booked) : Type 0 where
@@ -317,8 +313,8 @@ figures_follow s now q a decides found =
     let end = effect_of now a s in
     let ledger = ledger_with s next a.entry left.0 found.entry in
     let closed = accepted_closed s now q a decides left.1 in
-    let rentals = ap (λ (rs : List Rental). rentals_after (length rs) a.change) (sym before.rentals) ∙ rentals_with now a.change mid found.change ∙ ap (λ (rs : List Rental). length rs) (sym ledger.rentals) in
-    let orders = ap (λ (os : List Order). orders_after (length os) a.change) (sym before.orders) ∙ orders_with now a.change mid found.change ∙ ap (λ (os : List Order). length os) (sym ledger.orders) in
+    let rentals = ap (λ (rs : List Rental). rentals_after (length rs) a.change) (sym before.rentals) ∙ rentals_with a.change mid found.change ∙ ap (λ (rs : List Rental). length rs) (sym ledger.rentals) in
+    let orders = ap (λ (os : List Order). orders_after (length os) a.change) (sym before.orders) ∙ orders_with a.change mid found.change ∙ ap (λ (os : List Order). length os) (sym ledger.orders) in
     let all : figures_after (figures_of s) now a ≡ figures_of (after_close now q a.reply end) =
     λ i. record { now = now; sums = ledger.sums i; rentals = rentals i; orders = orders i; entries = ledger.entries i } in
     all ∙ ap figures_of (sym closed)

@@ -8,14 +8,14 @@ use Rattle.bike_book.specs.declared.row_change.RowChange.{RowChange}
 use Rattle.bike_book.specs.declared.row_change.RowChange.TheVariants as row
 use Rattle.bike_book.specs.Tables.{Segments, Entries}
 use Rattle.bike_book.specs.Rows.{segment_row, entry_row}
-use Rattle.bike_book.specs.Writes.{RowWrite, Add, write_of, writes_of}
-use Rattle.bike_book.specs.ChangeLaws.{segment_writes}
+use Rattle.bike_book.specs.Writes.{RowWrite, Add, record_write, write_of, writes_of}
+use Rattle.bike_book.specs.ChangeLaws.{segment_writes, segments_of, change_writes}
 use Rattle.bike_accepted.specs.declared.moved.Moved.{Moved}
 use Rattle.bike_accepted.specs.declared.change.Change.{Change}
 use Rattle.bike_accepted.specs.declared.change.Change.TheVariants as change
 use Rattle.bike_accepted.specs.declared.accepted.Booked.{Booked}
 use Rattle.bike_booking.specs.declared.stored.Stored.{Stored}
-use Rattle.bike_booking.specs.Writes.{moved_rows, change_row, segments_of, change_writes, refund_writes, entry_writes, where_moved_writes, where_changed_writes, where_booked_writes, AreAdded}
+use Rattle.bike_booking.specs.Writes.{moved_rows, refund_writes, entry_writes, where_moved_writes, where_changed_writes, where_booked_writes, AreAdded}
 
 pub writes_both : (cs ds : List RowChange) → writes_of (cs ++ ds) ≡ writes_of cs ++ writes_of ds
 writes_both [] ds = refl
@@ -49,10 +49,8 @@ segment_more plan before more g seq r0 r1 r2 c added are write seq_is more_is =
 -- ---- one record
 
 -- its row, and the segments of a plan
-pub change_added : (now : ℕ) (change : Change) (r0 r1 r2 : List RowChange) (row : RowChange) → r1 ≡ r0 ++ row ∷ [] → row ≡ change_row now change → AreAdded (segments_of change) r1 r2
-    → AreAdded (change_writes now change) r0 r2
-change_added now change r0 r1 r2 row are is segments =
-    added_then (write_of (change_row now change) ∷ []) (segments_of change) r0 r1 r2 (added_rows r0 (change_row now change ∷ []) r1 (are ∙ ap (λ (c : RowChange). r0 ++ c ∷ []) is)) segments
+pub change_added : (made : Bor Change) (r0 r1 r2 : List RowChange) → r1 ≡ r0 ++ row.Record made ∷ [] → AreAdded (segments_of made.now) r1 r2 → AreAdded (change_writes made.now) r0 r2
+change_added made r0 r1 r2 are segments = added_then (record_write made.now ∷ []) (segments_of made.now) r0 r1 r2 (added_rows r0 (row.Record made ∷ []) r1 are) segments
 
 pub none_added : (before after : List RowChange) → after ≡ before → AreAdded [] before after
 none_added before after is = ap writes_of is ∙ sym (append-nil (writes_of before))
@@ -95,11 +93,11 @@ module _ (before after : List RowChange) where
   pub not_moved : (now : ℕ) (n : Stored) (o : Option Moved) → o ≡ None → after ≡ before → AreAdded (where_moved_writes now n o) before after
   not_moved now n o none are = subst (λ (z : Option Moved). AreAdded (where_moved_writes now n z) before after) (sym none) (none_added before after are)
 
-  pub where_changed : (now : ℕ) (o : Option Change) (c : Change) → o ≡ Some c → AreAdded (change_writes now c) before after → AreAdded (where_changed_writes now o) before after
-  where_changed now o c some are = subst (λ (z : Option Change). AreAdded (where_changed_writes now z) before after) (sym some) are
+  pub where_changed : (o : Option Change) (c : Change) → o ≡ Some c → AreAdded (change_writes c) before after → AreAdded (where_changed_writes o) before after
+  where_changed o c some are = subst (λ (z : Option Change). AreAdded (where_changed_writes z) before after) (sym some) are
 
-  pub not_changed : (now : ℕ) (o : Option Change) → o ≡ None → after ≡ before → AreAdded (where_changed_writes now o) before after
-  not_changed now o none are = subst (λ (z : Option Change). AreAdded (where_changed_writes now z) before after) (sym none) (none_added before after are)
+  pub not_changed : (o : Option Change) → o ≡ None → after ≡ before → AreAdded (where_changed_writes o) before after
+  not_changed o none are = subst (λ (z : Option Change). AreAdded (where_changed_writes z) before after) (sym none) (none_added before after are)
 
   pub where_booked : (o : Option Booked) (b : Booked) → o ≡ Some b → AreAdded (entry_writes b) before after → AreAdded (where_booked_writes o) before after
   where_booked o b some are = subst (λ (z : Option Booked). AreAdded (where_booked_writes z) before after) (sym some) are

@@ -37,7 +37,7 @@ moved_elsewhere : (now : ℕ) (n : Stored) (o : Option Moved) → AreElsewhere (
 moved_elsewhere now n None = tt
 moved_elsewhere now n (Some (moved.Away bike type_id was becomes)) = (refl, tt)
 moved_elsewhere now n (Some (moved.AtDock at bike type_id was becomes)) = (refl, (refl, (count_elsewhere n.counts at.station type_id _, tt)))
-moved_elsewhere now n (Some (moved.Grown station was count)) = (refl, tt)
+moved_elsewhere now n (Some (moved.AddDocks station was count)) = (refl, tt)
 moved_elsewhere now n (Some (moved.Marked at None broken)) = (dock_elsewhere n.dock.is_listed at broken, (refl, tt))
 moved_elsewhere now n (Some (moved.Marked at (Some h) broken)) = (dock_elsewhere n.dock.is_listed at broken, (refl, (count_elsewhere n.counts at.station h.type_id _, tt)))
 
@@ -53,31 +53,30 @@ segments_elsewhere : (plan : List ℕ) (seq : ℕ) (gs : List SegmentRow) → Ar
 segments_elsewhere plan seq [] = tt
 segments_elsewhere plan seq (g ∷ gs) = (refl, segments_elsewhere plan (suc seq) gs)
 
-changed_elsewhere : (now : ℕ) (o : Option Change) → AreElsewhere (where_changed_writes now o)
-changed_elsewhere now None = tt
-changed_elsewhere now (Some (change.SetSystem x)) = (refl, tt)
-changed_elsewhere now (Some (change.AddPlan p)) = (refl, segments_elsewhere p.now.plan_id 1 p.now.segments)
-changed_elsewhere now (Some (change.AddType t)) = (refl, tt)
-changed_elsewhere now (Some (change.SetPlan type_id plan)) = (refl, tt)
-changed_elsewhere now (Some (change.AddStation x)) = (refl, tt)
-changed_elsewhere now (Some (change.SetStation station installed renting returning)) = (refl, tt)
-changed_elsewhere now (Some (change.AddRegion r)) = (refl, tt)
-changed_elsewhere now (Some (change.SetRegion station region)) = (refl, tt)
-changed_elsewhere now (Some (change.AddName kind id language name)) = (refl, tt)
-changed_elsewhere now (Some (change.SetOwnName kind id name)) = (name_elsewhere kind id.now name.now, tt)
-changed_elsewhere now (Some (change.SetFurtherName kind id language name)) = (refl, tt)
-changed_elsewhere now (Some (change.RemoveName kind id language)) = (refl, tt)
-changed_elsewhere now (Some (change.ChangeSystem x)) = (refl, tt)
-changed_elsewhere now (Some (change.MoveStation station p)) = (refl, tt)
-changed_elsewhere now (Some (change.AddBike bike type_id)) = (refl, tt)
-changed_elsewhere now (Some (change.AddTruck truck capacity)) = (refl, tt)
-changed_elsewhere now (Some (change.AddRider rider)) = (refl, tt)
-changed_elsewhere now (Some (change.SetRider rider blocked)) = (refl, tt)
-changed_elsewhere now (Some (change.AddRental rental rider bike plan from_station)) = (refl, tt)
-changed_elsewhere now (Some (change.CloseRental rental to_station fare)) = (refl, tt)
-changed_elsewhere now (Some (change.AddOrder order truck from_end to_end type_id count)) = (refl, tt)
-changed_elsewhere now (Some (change.Deliver order was delivered)) = (refl, tt)
-changed_elsewhere now (Some (change.CloseOrder order was)) = (refl, tt)
+changed_elsewhere : (o : Option Change) → AreElsewhere (where_changed_writes o)
+changed_elsewhere None = tt
+changed_elsewhere (Some (change.SetSystem x)) = (refl, tt)
+changed_elsewhere (Some (change.AddPlan p)) = (refl, segments_elsewhere p.now.plan_id 1 p.now.segments)
+changed_elsewhere (Some (change.AddType t)) = (refl, tt)
+changed_elsewhere (Some (change.SetPlan type_id plan)) = (refl, tt)
+changed_elsewhere (Some (change.AddStation x reported)) = (refl, tt)
+changed_elsewhere (Some (change.SetStation station installed renting returning reported)) = (refl, tt)
+changed_elsewhere (Some (change.AddRegion r)) = (refl, tt)
+changed_elsewhere (Some (change.SetRegion station region)) = (refl, tt)
+changed_elsewhere (Some (change.AddName kind id language name)) = (refl, tt)
+changed_elsewhere (Some (change.SetOwnName kind id name)) = (name_elsewhere kind id.now name.now, tt)
+changed_elsewhere (Some (change.SetFurtherName kind id language name)) = (refl, tt)
+changed_elsewhere (Some (change.RemoveName kind id language)) = (refl, tt)
+changed_elsewhere (Some (change.ChangeSystem x)) = (refl, tt)
+changed_elsewhere (Some (change.MoveStation station p)) = (refl, tt)
+changed_elsewhere (Some (change.AddBike bike type_id)) = (refl, tt)
+changed_elsewhere (Some (change.AddTruck truck capacity)) = (refl, tt)
+changed_elsewhere (Some (change.AddRider rider)) = (refl, tt)
+changed_elsewhere (Some (change.SetRider rider blocked)) = (refl, tt)
+changed_elsewhere (Some (change.AddRental rental rider bike plan from_station start)) = (refl, tt)
+changed_elsewhere (Some (change.CloseRental rental to_station finish fare)) = (refl, tt)
+changed_elsewhere (Some (change.AddOrder order truck from_end to_end type_id count)) = (refl, tt)
+changed_elsewhere (Some (change.SetOrder order delivered is_open)) = (refl, tt)
 
 booked_elsewhere : (o : Option Booked) → AreElsewhere (where_booked_writes o)
 booked_elsewhere None = tt
@@ -94,9 +93,9 @@ may_be_written s m now q a n texts rows h anew are =
     let told = h.texts_are in
     let free : fin.get s.kept (key_of texts.caller.now texts.key.now) ≡ None = ap (fin.get s.kept) (λ i. key_of (told.caller i) (told.key i)) ∙ anew in
     let ms = where_moved_writes now n a.moved in
-    let cs = where_changed_writes now a.change in
+    let cs = where_changed_writes a.change in
     let es = where_booked_writes a.entry in
-    let others = elsewhere_both (ms ++ cs) es (elsewhere_both ms cs (moved_elsewhere now n a.moved) (changed_elsewhere now a.change)) (booked_elsewhere a.entry) in
+    let others = elsewhere_both (ms ++ cs) es (elsewhere_both ms cs (moved_elsewhere now n a.moved) (changed_elsewhere a.change)) (booked_elsewhere a.entry) in
     subst (λ ws. MayWriteAll ws (tables_for s m)) (sym are)
     (all_may ((ms ++ cs) ++ es) (writes_of (close_rows now n.sums texts)) (tables_for s m) others (λ t same.
     (tt, (may_keep s m h.sound h.listing texts.caller.now texts.key.now texts.command.now texts.reply.now free (tables_after (write_of (row.SetMeta now n.sums.cash n.sums.revenue)) t) same, tt))))

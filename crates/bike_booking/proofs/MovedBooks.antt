@@ -20,7 +20,7 @@ use Rattle.bike_moves.specs.Put.{IsDockAt, IsPutAtDock, adds_put, adds_marked, d
 use Rattle.bike_moves.specs.PutLaws.{docks_reported}
 use Rattle.bike_moves.proofs.Ends.{left_is}
 use Rattle.bike_moves.proofs.PutBooks.{put_away, put_at_dock}
-use Rattle.bike_moves.proofs.GrownBooks.{grown}
+use Rattle.bike_moves.proofs.AddedDocks.{add_docks}
 use Rattle.bike_moves.proofs.MarkedBooks.{marked_empty, marked_held}
 use Rattle.bike_accepted.specs.declared.moved.DockAt.{DockAt}
 use Rattle.bike_accepted.specs.declared.moved.Moved.{Moved}
@@ -84,12 +84,12 @@ module _ (s : Operator) (m : Listed) (now : ℕ) (n : Stored) (catalogue : IsCat
             (count_is m at.station type_id n.counts o stored.1.has_row)
             (put_at_dock s m now listing bike b becomes.state becomes.place at.station type_id at.dock at.is_broken (docks_in n.dock) (counts_in n.counts) sound refl h docks bikes),
       )
-  books_moved (moved.Grown station was count) found stored =
+  books_moved (moved.AddDocks station was count) found stored =
       let d = docks_in n.dock in
       let free = left_is s sound station.now found.row found.found ∙ ap (λ (k : ℕ). pos k) (sym (stored.free found.row found.found)) in (
         m,
-        subst (λ (docks : ℕ). Books (row.SetDockCount station (docks + count.now) (d.free + count.now) ∷ []) s m (after_moved now (moved.Grown station was count) s) m) found.docks_are
-            (grown s m now listing station found.row count.now d catalogue found.found free),
+        subst (λ (docks : ℕ). Books (row.SetDockCount station (docks + count.now) (d.free + count.now) ∷ []) s m (after_moved now (moved.AddDocks station was count) s) m) found.docks_are
+            (add_docks s m listing station found.row count.now d catalogue found.found free),
       )
   books_moved (moved.Marked at None broken) found stored =
       let w = with_dock at.station.now at.dock m in

@@ -17,7 +17,7 @@ figures_of s = record { now = s.now; sums = sums_of s; rentals = length s.rental
 
 -- what is added has the next number, and that is how many there are then
 abbrev pub rentals_after : ℕ → Option Change → ℕ
-rentals_after rentals (Some (change.AddRental rental rider bike plan from_station)) = rental
+rentals_after rentals (Some (change.AddRental rental rider bike plan from_station start)) = rental
 rentals_after rentals c = rentals
 
 abbrev pub orders_after : ℕ → Option Change → ℕ

@@ -49,7 +49,7 @@ module _ (s : Operator) (m : Listed) where
   abbrev pub IsMovedStored : Stored → Moved → Type 0
   IsMovedStored n (moved.Away bike type_id was becomes) = Unit {0}
   IsMovedStored n (moved.AtDock at bike type_id was becomes) = IsDockStored at.station.now n.dock × AreCountsStored at type_id.now n.counts
-  IsMovedStored n (moved.Grown station was count) = IsDockStored station.now n.dock
+  IsMovedStored n (moved.AddDocks station was count) = IsDockStored station.now n.dock
   IsMovedStored n (moved.Marked at held broken) = IsDockStored at.station.now n.dock × IsListedAt at n.dock × AreHeldStored at held n.counts
 
   -- that, and the operator's sums with the entry

@@ -1,12 +1,12 @@
 -- What an accepted command writes, as a table.
-use Rattle.std.specs.Prelude.{◌≡◌, ◌+◌, ◌++◌, ℕ, ℤ, List, [], ◌∷◌, Bool, false, Option, Some, None, if◌then◌else◌}
+use Rattle.std.specs.Prelude.{◌≡◌, ◌+◌, ◌++◌, ℕ, ℤ, List, [], ◌∷◌, Bool, Option, Some, None, if◌then◌else◌}
 use Rattle.std.specs.Borrow.{Bor}
 use Rattle.bike_book.specs.declared.row_change.RowChange.{RowChange}
 use Rattle.bike_book.specs.declared.row_change.RowChange.TheVariants as row
 use Rattle.bike_book.specs.Tables.{Entries}
 use Rattle.bike_book.specs.Rows.{entry_row}
 use Rattle.bike_book.specs.Writes.{RowWrite, Add, write_of, writes_of}
-use Rattle.bike_book.specs.ChangeLaws.{segment_writes}
+use Rattle.bike_book.specs.ChangeLaws.{change_writes}
 use Rattle.bike_moves.specs.Facts.{BikeTotals}
 use Rattle.bike_moves.specs.Put.{adds_put, adds_marked, docks_by, bikes_by, docks_marked_empty, docks_marked_held}
 use Rattle.bike_moves.specs.PutLaws.{docks_reported}
@@ -14,7 +14,6 @@ use Rattle.bike_accepted.specs.declared.moved.DockAt.{DockAt}
 use Rattle.bike_accepted.specs.declared.moved.Moved.{Moved}
 use Rattle.bike_accepted.specs.declared.moved.Moved.TheVariants as moved
 use Rattle.bike_accepted.specs.declared.change.Change.{Change}
-use Rattle.bike_accepted.specs.declared.change.Change.TheVariants as change
 use Rattle.bike_accepted.specs.declared.accepted.Booked.{Booked}
 use Rattle.bike_accepted.specs.declared.accepted.Accepted.{Accepted}
 use Rattle.bike_accepted.specs.Effects.{bike_in}
@@ -41,47 +40,12 @@ moved_rows now n (moved.AtDock at bike type_id was becomes) =
     row.SetBike bike becomes.state becomes.place
     ∷ docks_reported now at.station (docks_by (adds_put at.is_broken (bike_in type_id was) becomes.state becomes.place) (docks_in n.dock))
     ∷ count_row n.counts at.station type_id (bikes_by (adds_put at.is_broken (bike_in type_id was) becomes.state becomes.place) (counts_in n.counts)) ∷ []
-moved_rows now n (moved.Grown station was count) = row.SetDockCount station (was.now + count.now) (n.dock.free + count.now) ∷ []
+moved_rows now n (moved.AddDocks station was count) = row.SetDockCount station (was.now + count.now) (n.dock.free + count.now) ∷ []
 moved_rows now n (moved.Marked at None broken) =
     dock_row n.dock.is_listed at broken ∷ docks_reported now at.station (docks_marked_empty at.is_broken broken (docks_in n.dock)) ∷ []
 moved_rows now n (moved.Marked at (Some h) broken) =
     dock_row n.dock.is_listed at broken ∷ docks_reported now at.station (docks_marked_held at.is_broken broken (docks_in n.dock))
     ∷ count_row n.counts at.station h.type_id (bikes_by (adds_marked at.is_broken broken h.state) (counts_in n.counts)) ∷ []
-
--- ---- one other record
-
--- THE TABLE: the row change of each record. A plan's segments are rows beside its own.
-abbrev pub change_row : ℕ → Change → RowChange
-change_row now (change.SetSystem x) = row.AddSystem x
-change_row now (change.AddPlan p) = row.AddPlan p
-change_row now (change.AddType t) = row.AddType t
-change_row now (change.SetPlan type_id plan) = row.SetDefaultPlan type_id plan
-change_row now (change.AddStation x) = row.AddStation x now
-change_row now (change.SetStation station installed renting returning) = row.SetFlags station installed renting returning now
-change_row now (change.AddRegion r) = row.AddRegion r
-change_row now (change.SetRegion station region) = row.SetRegion station region
-change_row now (change.AddName kind id language name) = row.AddName kind id language name
-change_row now (change.SetOwnName kind id name) = row.SetOwnName kind id name
-change_row now (change.SetFurtherName kind id language name) = row.SetFurtherName kind id language name
-change_row now (change.RemoveName kind id language) = row.RemoveName kind id language
-change_row now (change.ChangeSystem x) = row.SetSettings x
-change_row now (change.MoveStation station p) = row.SetPosition station p
-change_row now (change.AddBike bike type_id) = row.AddBike bike type_id
-change_row now (change.AddTruck truck capacity) = row.AddTruck truck capacity
-change_row now (change.AddRider rider) = row.AddRider rider false
-change_row now (change.SetRider rider blocked) = row.SetBlocked rider blocked
-change_row now (change.AddRental rental rider bike plan from_station) = row.AddRental rental rider bike plan from_station now
-change_row now (change.CloseRental rental to_station fare) = row.CloseRental rental to_station now fare
-change_row now (change.AddOrder order truck from_end to_end type_id count) = row.AddOrder order truck from_end to_end type_id count
-change_row now (change.Deliver order was delivered) = row.SetOrder order delivered was.now.is_open
-change_row now (change.CloseOrder order was) = row.SetOrder order was.now.delivered false
-
-abbrev pub segments_of : Change → List RowWrite
-segments_of (change.AddPlan p) = segment_writes p.now.plan_id 1 p.now.segments
-segments_of c = []
-
-abbrev pub change_writes : ℕ → Change → List RowWrite
-change_writes now c = write_of (change_row now c) ∷ segments_of c
 
 -- ---- an entry, and the close
 
@@ -103,9 +67,9 @@ abbrev pub where_moved_writes : ℕ → Stored → Option Moved → List RowWrit
 where_moved_writes now n None = []
 where_moved_writes now n (Some m) = writes_of (moved_rows now n m)
 
-abbrev pub where_changed_writes : ℕ → Option Change → List RowWrite
-where_changed_writes now None = []
-where_changed_writes now (Some c) = change_writes now c
+abbrev pub where_changed_writes : Option Change → List RowWrite
+where_changed_writes None = []
+where_changed_writes (Some c) = change_writes c
 
 abbrev pub where_booked_writes : Option Booked → List RowWrite
 where_booked_writes None = []
@@ -113,7 +77,7 @@ where_booked_writes (Some b) = entry_writes b
 
 abbrev pub writes_of_accepted : ℕ → Stored → KeptTexts → Accepted → List RowWrite
 writes_of_accepted now n texts a =
-    where_moved_writes now n a.moved ++ where_changed_writes now a.change ++ where_booked_writes a.entry ++ writes_of (close_rows now n.sums texts)
+    where_moved_writes now n a.moved ++ where_changed_writes a.change ++ where_booked_writes a.entry ++ writes_of (close_rows now n.sums texts)
 
 -- these are written beside those before
 abbrev pub AreAdded : List RowWrite → List RowChange → List RowChange → Type 0

@@ -2,7 +2,6 @@
 //! touches, and the law that they lead from the tables of the operator to those of the operator after the request.
 #![tactic(auto)]
 
-mod change_row;
 mod figures;
 mod laws;
 mod rows;

@@ -2,15 +2,14 @@
 
 ghost use Rattle.std.specs.Prelude.{◌≡◌, ◌+◌, ◌++◌, ◌≤◌, length, Some, None};
 ghost use Rattle.bike_book.specs.declared.row_change.RowChange.TheVariants as row;
-ghost use Rattle.bike_book.specs.ChangeLaws.{segment_writes};
+ghost use Rattle.bike_book.specs.ChangeLaws.{segment_writes, change_writes};
 ghost use Rattle.bike_book.specs.Writes.{writes_of};
 ghost use Rattle.bike_moves.specs.Put.{bikes_by};
 ghost use Rattle.bike_accepted.specs.declared.moved.Moved.TheVariants as moved;
 ghost use Rattle.bike_booking.specs.Room.{HasRoom, TakesRows};
 ghost use Rattle.bike_booking.specs.Stored.{counts_in};
-ghost use Rattle.bike_booking.specs.Writes.{count_row, dock_row, moved_rows, change_writes, entry_writes, close_rows, writes_of_accepted, AreAdded};
+ghost use Rattle.bike_booking.specs.Writes.{count_row, dock_row, moved_rows, entry_writes, close_rows, writes_of_accepted, AreAdded};
 
-use crate::change_row::change_row;
 use crate::shares::{BikeShares, moved_by, one};
 use crate::stored::{Stored, StoredCounts, StoredDock, Sums};
 use crate::texts::KeptTexts;
@@ -90,7 +89,7 @@ fn docks_row<'a>(at: &DockAt<'a>, free: u32, broken: u32, now: Moment) -> RowCha
 }
 
 /// The docks of a station that has so many and gets more, which are available.
-fn grown_row<'a>(
+fn dock_count_row<'a>(
     station: &'a Ident,
     was: &DockCount,
     count: &DockCount,
@@ -194,11 +193,11 @@ fn push_moved<'a>(rows: &mut Rows<'a>, moved: &Moved<'a>, stored: &Stored, now: 
             let count = count_row(&stored.counts, at.station, type_id, less, more);
             add(rows, &[bike_row(*bike, becomes), docks, count]);
         }
-        Moved::Grown {
+        Moved::AddDocks {
             station,
             was,
             count,
-        } => add(rows, &[grown_row(station, was, count, &stored.dock)]),
+        } => add(rows, &[dock_count_row(station, was, count, &stored.dock)]),
         Moved::Marked {
             at,
             held: None,
@@ -226,13 +225,13 @@ fn push_segments<'a>(rows: &mut Rows<'a>, plan: &'a Ident, segments: &'a [Segmen
     }
 }
 
-/// Adds the row changes of one record.
-fn push_change<'a>(rows: &mut Rows<'a>, change: &Change<'a>, now: Moment)
+/// Adds the row change of one record, and those of a plan's segments beside it.
+fn push_change<'a>(rows: &mut Rows<'a>, change: &'a Change<'a>)
     requires { HasRoom 9 rows.old }
-    ensures added { AreAdded (change_writes now change.now) rows.old.items rows.new.items }
+    ensures added { AreAdded (change_writes change.now) rows.old.items rows.new.items }
     ensures room { TakesRows 9 rows.old rows.new }
 {
-    add(rows, &[change_row(change, now)]);
+    add(rows, &[RowChange::Record(change)]);
     if let Change::AddPlan(plan) = change {
         push_segments(rows, plan.plan_id(), plan.segments());
     }
@@ -289,7 +288,7 @@ pub fn rows_of<'a>(
         push_moved(&mut rows, moved, stored, now);
     }
     if let Some(change) = &accepted.change {
-        push_change(&mut rows, change, now);
+        push_change(&mut rows, change);
     }
     if let Some(booked) = &accepted.entry {
         push_entry(&mut rows, booked);

@@ -1,5 +1,5 @@
 -- Orders that are opened, bicycles that are loaded and unloaded: their decisions, and what was found for them.
-use Rattle.std.proofs.Common.{◌≡◌, ◌≤◌, ◌+◌, ◌==◌, ℕ, List, true, false, not, ◌&&◌, Option, Some, None, is_some, is_none, Ok, refl, sym, ap, ◌∙◌, subst, arith}
+use Rattle.std.proofs.Common.{◌≡◌, ◌≤◌, ◌+◌, ◌==◌, ℕ, zero, suc, List, [], ◌∷◌, true, false, not, ◌&&◌, Option, Some, None, is_some, is_none, Ok, refl, sym, ap, ◌∙◌, subst, arith}
 use Rattle.std.specs.Prelude.{IfSome}
 use Rattle.std.specs.Borrow.{Bor}
 use Rattle.std.specs.FinMap as map
@@ -17,10 +17,10 @@ use Rattle.bike_operator.specs.declared.records.Place.TheVariants as place
 use Rattle.bike_operator.specs.declared.records.Bike.{Bike}
 use Rattle.bike_operator.specs.declared.records.Order.{Order}
 use Rattle.bike_operator.specs.declared.view.View.{View}
-use Rattle.bike_operator.specs.Operator.{Operator, Station, item_numbered}
+use Rattle.bike_operator.specs.Operator.{Operator, Station, item_at, item_numbered, item_changed}
 use Rattle.bike_operator.specs.Counts.{is_on_truck, is_for_order, is_broken, docked_at}
 use Rattle.bike_operator.specs.View.{view_of, station_view, truck_at, docked_view, end_view, side_view, end_at, has_end, is_in_broken_dock, is_broken_dock}
-use Rattle.bike_operator.specs.Steps.{first, tests, has_no_dock, ends_apart, with_delivery, placed_at_end, after_unload}
+use Rattle.bike_operator.specs.Steps.{first, tests, has_no_dock, ends_apart, order_changed, with_delivery, placed_at_end, after_unload}
 use Rattle.bike_operator.specs.Changes.{place_of}
 use Rattle.bike_operator.specs.Sound.{HasDock, IsOrderAt, IsSound}
 use Rattle.bike_places.specs.Laws.{IsAway}
@@ -85,16 +85,43 @@ pub open_order_decided : (s : Operator) (v : View) (now truck count : ℕ) (from
 open_order_decided s v now truck count from to type_id e none =
     (refused_as s v (command.OpenOrder truck from.now to.now type_id.now count) None e none, ap (λ (w : View). Ordered (w.orders + 1)) e, refl)
 
+-- ---- an order that is closed
+
+item_as : {A : Type 0} (n : ℕ) (f g : A → A) (xs : List A) (x : A) → item_at n xs ≡ Some x → f x ≡ g x → item_changed n f xs ≡ item_changed n g xs
+item_as n f g [] x there same = absurd cc
+item_as zero f g (y ∷ ys) x there same = let is : y ≡ x = cc in ap (λ z. z ∷ ys) (ap f is ∙ same ∙ sym (ap g is))
+item_as (suc n) f g (y ∷ ys) x there same = ap (λ zs. y ∷ zs) (item_as n f g ys x there same)
+
+-- an order that is there, changed by two functions that make the same of it
+pub order_as : (order : ℕ) (f g : Order → Order) (o : Order) (s : Operator) → item_numbered order s.orders ≡ Some o → f o ≡ g o → order_changed order f s ≡ order_changed order g s
+order_as zero f g o s there same = refl
+order_as (suc n) f g o s there same = ap (λ os. record s { orders = os }) (item_as n f g s.orders o there same)
+
+pub close_order_decided : (v : View) (order : ℕ) (o : Order) (s : Operator) (now : ℕ) → v ≡ view_of s (command.CloseOrder order) → v.order ≡ Some o → o.is_open ≡ true → v.on_truck ≤ 0
+    → Decides s now (command.CloseOrder order) (Ok (record { reply = Done; moved = None; change = Some (change.SetOrder order o.delivered false); entry = None }))
+close_order_decided v order o s now e order_is is_open few =
+    let empty : v.on_truck ≡ 0 = omega (arith, few) in
+    let none : None ≡ first (tests v (command.CloseOrder order)) = rw (order_is, is_open, empty) refl in
+    let there = ap (λ (w : View). w.order) (sym e) ∙ order_is in
+    (refused_as s v (command.CloseOrder order) None e none, refl, order_as order (λ x. record x { delivered = o.delivered; is_open = false }) (λ x. record x { is_open = false }) o s there refl)
+
 -- ---- a bicycle that is unloaded
 
 -- one more is delivered at the end to which the order brings bicycles
 abbrev pub IsDelivery : Side → ℕ → Order → Option Change → Type 0
 IsDelivery From order o c = c ≡ None
-IsDelivery To order o c = (was : Bor Order) × (was.now ≡ o) × (c ≡ Some (change.Deliver order was (o.delivered + 1)))
+IsDelivery To order o c = c ≡ Some (change.SetOrder order (o.delivered + 1) o.is_open)
 
-after_delivery : (side : Side) (now order : ℕ) (o : Order) (co : Option Change) (s : Operator) → IsDelivery side order o co → where_changed now co s ≡ with_delivery order side s
-after_delivery From now order o co s made = rw made refl
-after_delivery To now order o co s made = rw made.2 refl
+after_delivery : (side : Side) (order : ℕ) (o : Order) (co : Option Change) (s : Operator) → item_numbered order s.orders ≡ Some o → IsDelivery side order o co → where_changed co s ≡ with_delivery order side s
+after_delivery From order o co s there made = rw made refl
+after_delivery To order o co s there made =
+    rw made (order_as order (λ x. record x { delivered = o.delivered + 1; is_open = o.is_open }) (λ x. record x { delivered = x.delivered + 1 }) o s there refl)
+
+orders_left : (now order : ℕ) (m : Moved) (s : Operator) → item_numbered order (after_moved now m s).orders ≡ item_numbered order s.orders
+orders_left now order (moved.Away bike type_id was becomes) s = refl
+orders_left now order (moved.AtDock at bike type_id was becomes) s = refl
+orders_left now order (moved.AddDocks station was count) s = refl
+orders_left now order (moved.Marked at held broken) s = refl
 
 -- put at an end
 after_end_put : (e : OrderEnd) (now bike dock : ℕ) (b : Bike) (type_id : Bor (List ℕ)) (was : Standing) (m : Moved) (s : Operator) → map.get s.bikes bike ≡ Some b → IsShown b type_id was → IsPutAtEnd e bike type_id was dock m
@@ -158,7 +185,7 @@ module _ (v : View) (now truck order bike : ℕ) (side : Side) (dock : ℕ) wher
           let placed = after_end_put (end_at side o) now bike dock b type_id was m s bike_there shown put in (
             refused_as s v unload None e passes,
             refl,
-            after_delivery side now order o co (after_moved now m s) delivery ∙ ap (with_delivery order side) placed
+            after_delivery side order o co (after_moved now m s) (orders_left now order m s ∙ order_there) delivery ∙ ap (with_delivery order side) placed
                 ∙ sym (ap (λ (z : Option Order). after_unload order bike side dock now z s) order_there),
           )
 
@@ -187,13 +214,6 @@ module _ (v : View) (now truck order bike : ℕ) (side : Side) (dock : ℕ) wher
             entry = tt;
           }
         where
-          orders_left : (n : Moved) → item_numbered order (after_moved now n s).orders ≡ item_numbered order s.orders
-          orders_left (moved.Away k t w z) = refl
-          orders_left (moved.AtDock at k t w z) = refl
-          orders_left (moved.Grown station was count) = refl
-          orders_left (moved.Marked at held broken) = refl
-
           delivered : (d : Side) → IsDelivery d order o co → IfSome co (IsFound (after_moved now m s))
           delivered From made = subst (λ (z : Option Change). IfSome z (IsFound (after_moved now m s))) (sym made) tt
-          delivered To made = subst (λ (z : Option Change). IfSome z (IsFound (after_moved now m s))) (sym made.2)
-              (orders_left m ∙ order_there ∙ ap (λ (x : Order). Some x) (sym made.1), ap (λ (x : Order). x.delivered + 1) (sym made.1))
+          delivered To made = subst (λ (z : Option Change). IfSome z (IsFound (after_moved now m s))) (sym made) tt

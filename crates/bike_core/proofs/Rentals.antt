@@ -98,7 +98,7 @@ module _ (v : View) (now bike dock : ℕ) (station : Bor (List ℕ)) where
     ended = record {
       reply = Ended booked.entry.amount booked.balance;
       moved = Some (moved.AtDock (record { station = station; dock = dock; is_broken = false }) bike type_id was becomes);
-      change = Some (change.CloseRental r.number (Some station) booked.entry.amount);
+      change = Some (change.CloseRental r.number (Some station) booked.entry.at booked.entry.amount);
       entry = Some booked;
     }
 
@@ -172,7 +172,7 @@ module _ (v : View) (now rider dock : ℕ) (station plan type_id : Bor (List ℕ
     started = record {
       reply = Started (v.rentals + 1) d.bike;
       moved = Some (moved.AtDock (record { station = station; dock = dock; is_broken = false }) d.bike type_id stood rides);
-      change = Some (change.AddRental (v.rentals + 1) rider d.bike plan station);
+      change = Some (change.AddRental (v.rentals + 1) rider d.bike plan station now);
       entry = None;
     }
 
@@ -215,7 +215,7 @@ module _ (v : View) (now rental : ℕ) (r : RentalView) (booked : Booked) (fare 
   recovery = command.Recover rental
 
   abbrev closed : Accepted
-  closed = record { reply = Ended booked.entry.amount booked.balance; moved = mo; change = Some (change.CloseRental r.number None booked.entry.amount); entry = Some booked }
+  closed = record { reply = Ended booked.entry.amount booked.balance; moved = mo; change = Some (change.CloseRental r.number None booked.entry.at booked.entry.amount); entry = Some booked }
 
   module _ (s : Operator) (e : v ≡ view_of s recovery) where
     shown : rental_view s rental (item_numbered rental s.rentals) ≡ Some r

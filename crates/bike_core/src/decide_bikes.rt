@@ -29,10 +29,14 @@ pub(crate) fn decide_add_bike<'a>(
     if view.is_full {
         return Err(Refusal::LimitReached);
     }
-    Ok(Accepted::changed(Change::AddBike {
+    let change = Change::AddBike {
         bike: bike.get(),
         type_id,
-    }))
+    };
+    Ok(Accepted {
+        change: Some(change),
+        ..Accepted::done()
+    })
 }
 
 /// Decides on a bicycle that is disabled, or fit again.

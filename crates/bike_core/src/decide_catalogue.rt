@@ -2,14 +2,15 @@
 
 ghost use Rattle.std.specs.Prelude.{IfOk};
 ghost use Rattle.bike_commands.specs.declared.command.Command.TheVariants as command;
-ghost use Rattle.bike_accepted.specs.Effects.{DecidesOn};
-ghost use Rattle.bike_accepted.specs.Found.{FindsOn};
+ghost use Rattle.bike_accepted.specs.Effects.{DecidesAt, DecidesOn};
+ghost use Rattle.bike_accepted.specs.Found.{FindsAt, FindsOn};
 
 use bike_accepted::{Accepted, Change, Decision, DockAt, Moved};
 use bike_attributes::Position;
 use bike_catalogue::{Plan, Settings, Station, System, VehicleType};
 use bike_commands::Refusal;
 use bike_fields::{DockCount, DockNumber, Ident, MOST_DOCKS};
+use bike_fixed::Moment;
 use bike_operator::View;
 use bike_parts::held_in;
 
@@ -21,7 +22,10 @@ pub(crate) fn decide_set_system<'a>(view: &View, system: &'a System) -> Decision
     if view.has_system {
         return Err(Refusal::AlreadyThere);
     }
-    Ok(Accepted::changed(Change::SetSystem(system)))
+    Ok(Accepted {
+        change: Some(Change::SetSystem(system)),
+        ..Accepted::done()
+    })
 }
 
 /// Decides on other settings of the system, which is set.
@@ -32,7 +36,10 @@ pub(crate) fn decide_change_system<'a>(view: &View, settings: &'a Settings) -> D
     if !view.has_system {
         return Err(Refusal::SystemMissing);
     }
-    Ok(Accepted::changed(Change::ChangeSystem(settings)))
+    Ok(Accepted {
+        change: Some(Change::ChangeSystem(settings)),
+        ..Accepted::done()
+    })
 }
 
 /// Decides on a new pricing plan.
@@ -46,7 +53,10 @@ pub(crate) fn decide_add_plan<'a>(view: &View, plan: &'a Plan) -> Decision<'a>
     if view.is_full {
         return Err(Refusal::LimitReached);
     }
-    Ok(Accepted::changed(Change::AddPlan(plan)))
+    Ok(Accepted {
+        change: Some(Change::AddPlan(plan)),
+        ..Accepted::done()
+    })
 }
 
 /// Decides on a new vehicle type with its default plan.
@@ -63,7 +73,10 @@ pub(crate) fn decide_add_type<'a>(view: &View, vehicle_type: &'a VehicleType) ->
     if view.is_full {
         return Err(Refusal::LimitReached);
     }
-    Ok(Accepted::changed(Change::AddType(vehicle_type)))
+    Ok(Accepted {
+        change: Some(Change::AddType(vehicle_type)),
+        ..Accepted::done()
+    })
 }
 
 /// Decides on another default plan of a vehicle type.
@@ -77,13 +90,16 @@ pub(crate) fn decide_set_plan<'a>(view: &View, type_id: &'a Ident, plan: &'a Ide
     if !view.has_plan {
         return Err(Refusal::UnknownPlan);
     }
-    Ok(Accepted::changed(Change::SetPlan { type_id, plan }))
+    Ok(Accepted {
+        change: Some(Change::SetPlan { type_id, plan }),
+        ..Accepted::done()
+    })
 }
 
 /// Decides on a new station.
-pub(crate) fn decide_add_station<'a>(view: &View, station: &'a Station) -> Decision<'a>
-    ensures decides { DecidesOn view.now (command.AddStation station.now) result }
-    ensures found { IfOk result (FindsOn view.now (command.AddStation station.now)) }
+pub(crate) fn decide_add_station<'a>(view: &View, now: Moment, station: &'a Station) -> Decision<'a>
+    ensures decides { DecidesAt now view.now (command.AddStation station.now) result }
+    ensures found { IfOk result (FindsAt now view.now (command.AddStation station.now)) }
 {
     if view.station.is_some() {
         return Err(Refusal::AlreadyThere);
@@ -91,7 +107,14 @@ pub(crate) fn decide_add_station<'a>(view: &View, station: &'a Station) -> Decis
     if view.is_full {
         return Err(Refusal::LimitReached);
     }
-    Ok(Accepted::changed(Change::AddStation(station)))
+    let change = Change::AddStation {
+        station,
+        reported: now,
+    };
+    Ok(Accepted {
+        change: Some(change),
+        ..Accepted::done()
+    })
 }
 
 /// Decides on another position of a station.
@@ -106,7 +129,10 @@ pub(crate) fn decide_move_station<'a>(
     if view.station.is_none() {
         return Err(Refusal::UnknownStation);
     }
-    Ok(Accepted::changed(Change::MoveStation { station, position }))
+    Ok(Accepted {
+        change: Some(Change::MoveStation { station, position }),
+        ..Accepted::done()
+    })
 }
 
 /// Decides on docks that a station gets: it has at most `MOST_DOCKS` then.
@@ -125,34 +151,41 @@ pub(crate) fn decide_add_docks<'a>(
     if was.get() + count.get() > MOST_DOCKS {
         return Err(Refusal::LimitReached);
     }
-    Ok(Accepted::moved(Moved::Grown {
+    Ok(Accepted::moved(Moved::AddDocks {
         station,
         was,
         count,
     }))
 }
 
-/// Decides on the flags of a station.
+/// Decides on the flags of a station, which reports.
 pub(crate) fn decide_set_station<'a>(
     view: &View,
+    now: Moment,
     station: &'a Ident,
     is_installed: bool,
     is_renting: bool,
     is_returning: bool,
 ) -> Decision<'a>
-    ensures decides { DecidesOn view.now (command.SetStation station.now is_installed is_renting is_returning) result }
+    ensures decides { DecidesAt now view.now
+        (command.SetStation station.now is_installed is_renting is_returning) result }
     ensures found { IfOk result
-        (FindsOn view.now (command.SetStation station.now is_installed is_renting is_returning)) }
+        (FindsAt now view.now (command.SetStation station.now is_installed is_renting is_returning)) }
 {
     if view.station.is_none() {
         return Err(Refusal::UnknownStation);
     }
-    Ok(Accepted::changed(Change::SetStation {
+    let change = Change::SetStation {
         station,
         is_installed,
         is_renting,
         is_returning,
-    }))
+        reported: now,
+    };
+    Ok(Accepted {
+        change: Some(change),
+        ..Accepted::done()
+    })
 }
 
 /// Decides on a dock that is broken, or works again. By the no-change rule it may be so already.

@@ -59,12 +59,16 @@ pub(crate) fn decide_add_name<'a>(
     if view.is_full {
         return Err(Refusal::LimitReached);
     }
-    Ok(Accepted::changed(Change::AddName {
+    let change = Change::AddName {
         kind,
         id,
         language,
         name,
-    }))
+    };
+    Ok(Accepted {
+        change: Some(change),
+        ..Accepted::done()
+    })
 }
 
 /// Decides on another name in place of one that is there, in the system's language or in a further one.
@@ -83,14 +87,21 @@ pub(crate) fn decide_set_name<'a>(
         return Err(Refusal::UnknownName);
     }
     if view.is_own_language {
-        return Ok(Accepted::changed(Change::SetOwnName { kind, id, name }));
+        return Ok(Accepted {
+            change: Some(Change::SetOwnName { kind, id, name }),
+            ..Accepted::done()
+        });
     }
-    Ok(Accepted::changed(Change::SetFurtherName {
+    let change = Change::SetFurtherName {
         kind,
         id,
         language,
         name,
-    }))
+    };
+    Ok(Accepted {
+        change: Some(change),
+        ..Accepted::done()
+    })
 }
 
 /// Decides on a name in a further language that goes.
@@ -107,5 +118,8 @@ pub(crate) fn decide_remove_name<'a>(
     if !view.has_language || view.is_own_language {
         return Err(Refusal::UnknownName);
     }
-    Ok(Accepted::changed(Change::RemoveName { kind, id, language }))
+    Ok(Accepted {
+        change: Some(Change::RemoveName { kind, id, language }),
+        ..Accepted::done()
+    })
 }

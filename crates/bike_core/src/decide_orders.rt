@@ -32,10 +32,14 @@ pub(crate) fn decide_add_truck<'a>(
     if view.is_full {
         return Err(Refusal::LimitReached);
     }
-    Ok(Accepted::changed(Change::AddTruck {
+    let change = Change::AddTruck {
         truck: truck.get(),
         capacity: capacity.get(),
-    }))
+    };
+    Ok(Accepted {
+        change: Some(change),
+        ..Accepted::done()
+    })
 }
 
 /// The number of a new order, or the first refusal of it, the last of which is the limit rule's.
@@ -250,10 +254,10 @@ pub(crate) fn decide_unload<'a>(
     let row = unloading.order;
     let delivery = match side {
         Side::From => None,
-        Side::To => Some(Change::Deliver {
+        Side::To => Some(Change::SetOrder {
             order: order.get(),
-            was: row,
             delivered: delivered_with(row),
+            is_open: row.is_open,
         }),
     };
     let was = standing_of(unloading.bike);
@@ -268,7 +272,7 @@ pub(crate) fn decide_unload<'a>(
 }
 
 /// Decides on closing an order, which has no bicycle on its truck.
-pub(crate) fn decide_close_order<'a>(view: &'a View, order: OrderNumber) -> Decision<'a>
+pub(crate) fn decide_close_order<'a>(view: &View, order: OrderNumber) -> Decision<'a>
     ensures decides { DecidesOn view.now (command.CloseOrder order) result }
     ensures found { IfOk result (FindsOn view.now (command.CloseOrder order)) }
 {
@@ -281,8 +285,13 @@ pub(crate) fn decide_close_order<'a>(view: &'a View, order: OrderNumber) -> Deci
     if view.on_truck > 0 {
         return Err(Refusal::BikesOnTruck);
     }
-    Ok(Accepted::changed(Change::CloseOrder {
+    let change = Change::SetOrder {
         order: order.get(),
-        was: row,
-    }))
+        delivered: row.delivered,
+        is_open: false,
+    };
+    Ok(Accepted {
+        change: Some(change),
+        ..Accepted::done()
+    })
 }

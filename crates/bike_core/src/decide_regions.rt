@@ -23,7 +23,10 @@ pub(crate) fn decide_add_region<'a>(view: &View, region: &'a Region) -> Decision
     if view.is_full {
         return Err(Refusal::LimitReached);
     }
-    Ok(Accepted::changed(Change::AddRegion(region)))
+    Ok(Accepted {
+        change: Some(Change::AddRegion(region)),
+        ..Accepted::done()
+    })
 }
 
 /// Decides on the region of a station, which may be none.
@@ -41,5 +44,8 @@ pub(crate) fn decide_set_region<'a>(
     if !view.has_region {
         return Err(Refusal::UnknownRegion);
     }
-    Ok(Accepted::changed(Change::SetRegion { station, region }))
+    Ok(Accepted {
+        change: Some(Change::SetRegion { station, region }),
+        ..Accepted::done()
+    })
 }

@@ -111,6 +111,7 @@ pub(crate) fn decide_start<'a>(
         bike: bike.get(),
         plan: &docked.plan,
         from_station: station,
+        start: now,
     };
     Ok(Accepted {
         reply: Reply::Started { rental, bike },

@@ -25,7 +25,10 @@ pub(crate) fn decide_add_rider<'a>(view: &View, rider: RiderNumber) -> Decision<
     if view.is_full {
         return Err(Refusal::LimitReached);
     }
-    Ok(Accepted::changed(Change::AddRider { rider: rider.get() }))
+    Ok(Accepted {
+        change: Some(Change::AddRider { rider: rider.get() }),
+        ..Accepted::done()
+    })
 }
 
 /// Decides on a rider who is blocked, or may ride again.
@@ -40,10 +43,14 @@ pub(crate) fn decide_set_rider<'a>(
     if !view.has_rider {
         return Err(Refusal::UnknownRider);
     }
-    Ok(Accepted::changed(Change::SetRider {
+    let change = Change::SetRider {
         rider: rider.get(),
         is_blocked,
-    }))
+    };
+    Ok(Accepted {
+        change: Some(change),
+        ..Accepted::done()
+    })
 }
 
 /// Decides on a top-up: one entry.

@@ -35,13 +35,13 @@ pub fn decide<'a>(view: &'a View, now: Moment, command: &'a Command) -> Decision
         Command::AddPlan(plan) => decide_add_plan(view, plan),
         Command::AddType(vehicle_type) => decide_add_type(view, vehicle_type),
         Command::SetPlan { type_id, plan } => decide_set_plan(view, type_id, plan),
-        Command::AddStation(station) => decide_add_station(view, station),
+        Command::AddStation(station) => decide_add_station(view, now, station),
         Command::SetStation {
             station,
             installed,
             renting,
             returning,
-        } => decide_set_station(view, station, *installed, *renting, *returning),
+        } => decide_set_station(view, now, station, *installed, *renting, *returning),
         Command::MarkDock {
             station,
             dock,

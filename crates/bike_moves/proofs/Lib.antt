@@ -1,7 +1,7 @@
 pub mod TotalsRows
 pub mod Listed
 pub mod ReportBooks
-pub mod GrownBooks
+pub mod AddedDocks
 pub mod NumbersMove
 pub mod BikeMoves
 pub mod BikeBooks

@@ -9,10 +9,9 @@ use Rattle.bike_operator.specs.Sound.{AreBikesSound}
 use Rattle.bike_places.specs.Laws.{one, IsMoved, dock_shares, MarkLaw, is_free}
 use Rattle.bike_places.proofs.MarkLaw.{mark_law}
 use Rattle.bike_book.specs.declared.row_change.RowChange.TheVariants as row
-use Rattle.bike_book.specs.ChangeLaws.{Everywhere}
 use Rattle.bike_moves.specs.Facts.{DockTotals, BikeTotals, HasDockTotals, HasBikeTotals}
 use Rattle.bike_moves.specs.Put.{IsDockAt, moved_by, Adds, adds_marked, bikes_by, docks_marked_empty, docks_marked_held}
-use Rattle.bike_moves.specs.PutLaws.{MarkedEmptyLaw, MarkedHeldLaw}
+use Rattle.bike_moves.specs.PutLaws.{AtEachMoment, MarkedEmptyLaw, MarkedHeldLaw}
 use Rattle.bike_moves.proofs.NumbersMove.{IsMarkedEmpty, IsMarkedHeld, BikesMove}
 use Rattle.bike_moves.proofs.TotalsRows.{totals_at}
 use Rattle.bike_moves.proofs.DockMarks.{broken_or_not, has_marked, available_held, disabled_held}
@@ -81,12 +80,12 @@ module _ (s : Operator) (station : List ℕ) (dock : ℕ) (was broken : Bool) (d
 
 -- ---- the laws
 
-pub marked_empty : Everywhere MarkedEmptyLaw
+pub marked_empty : AtEachMoment MarkedEmptyLaw
 marked_empty s m now listing station dock was broken d sound found empty docks =
     let e = docks_marked_empty was broken d in
     empty_books s m listing sound station dock broken now d e (is_empty s station.now dock was broken d sound found docks empty)
 
-pub marked_held : Everywhere MarkedHeldLaw
+pub marked_held : AtEachMoment MarkedHeldLaw
 marked_held s m now listing station type_id dock was broken bike b d n sound type_is found held docks bikes =
     let e = docks_marked_held was broken d in
     let o = bikes_by (adds_marked was broken b.state) n in

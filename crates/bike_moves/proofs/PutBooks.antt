@@ -22,11 +22,10 @@ use Rattle.bike_book.specs.declared.row_change.RowChange.TheVariants as row
 use Rattle.bike_book.specs.Stored.{Listed, IsListing, stored_count}
 use Rattle.bike_book.specs.Writes.{writes_of, tables_after_all}
 use Rattle.bike_book.specs.Between.{tables_between, Books}
-use Rattle.bike_book.specs.ChangeLaws.{Everywhere}
 use Rattle.bike_moves.specs.Facts.{DockTotals, BikeTotals, HasDockTotals, HasBikeTotals}
 use Rattle.bike_moves.specs.AddedOrSet.{count_change, with_count}
 use Rattle.bike_moves.specs.Put.{standing, bike_put, IsNoOtherDock, IsPutAtDock, moved_by, Adds, adds_put, docks_by, bikes_by}
-use Rattle.bike_moves.specs.PutLaws.{docks_reported, AwayLaw, AtDockLaw}
+use Rattle.bike_moves.specs.PutLaws.{AtEachMoment, docks_reported, AwayLaw, AtDockLaw}
 use Rattle.bike_moves.proofs.NumbersMove.{DocksMove, BikesMove}
 use Rattle.bike_moves.proofs.TotalsRows.{totals_at, stations_set}
 use Rattle.bike_moves.proofs.ReportBooks.{report_listed}
@@ -91,7 +90,7 @@ put_is s bike b f found = ap (λ (z : FinMap nat_cmp Bike). record s { bikes = z
 
 -- ---- the laws
 
-pub put_away : Everywhere AwayLaw
+pub put_away : AtEachMoment AwayLaw
 put_away s m now listing bike b state p found from_away to_away =
     let f : Bike → Bike = λ x. standing x state p in
     subst (λ (n : Operator). Books (row.SetBike bike state p ∷ []) s m n m) (put_is s bike b f found) (away s m listing bike f b state p found refl from_away to_away)
@@ -150,7 +149,7 @@ module _ (s : Operator) (m : Listed) (listing : IsListing s m) (bike : ℕ) (b :
             (listing_at s m listing bike f station type_id b type_is (bikes_elsewhere moves) bikes.station_is bikes.type_is);
       }
 
-pub put_at_dock : Everywhere AtDockLaw
+pub put_at_dock : AtEachMoment AtDockLaw
 put_at_dock s m now listing bike b state p station type_id dock broken d n sound type_is h docks bikes =
     let f : Bike → Bike = λ x. standing x state p in
     let o = bikes_by (adds_put broken b state p) n in

@@ -14,7 +14,7 @@ use Rattle.bike_operator.specs.Sound.{AreBikesSound, IsCatalogueSound}
 use Rattle.bike_places.specs.Laws.{IsAway}
 use Rattle.bike_book.specs.declared.row_change.RowChange.{RowChange}
 use Rattle.bike_book.specs.declared.row_change.RowChange.TheVariants as row
-use Rattle.bike_book.specs.Stored.{Listed}
+use Rattle.bike_book.specs.Stored.{Listed, IsListing}
 use Rattle.bike_book.specs.Between.{docks_left, Books}
 use Rattle.bike_moves.specs.Facts.{DockTotals, BikeTotals, HasDockTotals, HasBikeTotals}
 use Rattle.bike_moves.specs.AddedOrSet.{count_change, dock_change, with_count, with_dock}
@@ -59,10 +59,14 @@ module _ (s : Operator) (m : Listed) (now : ℕ) where
       ∷ count_change m station type_id (bikes_by (adds_marked was broken b.state) n) ∷ []) s m
       (with_report station.now now (dock_marked station.now dock broken s)) (with_count station.now type_id.now (with_dock station.now dock m))
 
-  -- docks that a station gets, which are empty and work
-  abbrev pub GrownLaw : Type 0
-  GrownLaw =
-      (station : Bor (List ℕ)) (x : Station) (count : ℕ) (d : DockTotals)
-      → IsCatalogueSound s → map.get s.stations station.now ≡ Some x → docks_left s station.now x.row.docks ≡ pos d.free
-      → Books (row.SetDockCount station (x.row.docks + count) (d.free + count) ∷ []) s m
-      (record s { stations = key_changed s.stations station.now (λ y. record y { row = more_docks count y.row }) }) m
+-- The law holds of each operator whose rows are listed right, at each moment.
+abbrev pub AtEachMoment : (Operator → Listed → ℕ → Type 0) → Type 0
+AtEachMoment Law = (s : Operator) (m : Listed) (now : ℕ) → IsListing s m → Law s m now
+
+-- docks that a station gets, which are empty and work
+abbrev pub AddDocksLaw : Operator → Listed → Type 0
+AddDocksLaw s m =
+    (station : Bor (List ℕ)) (x : Station) (count : ℕ) (d : DockTotals)
+    → IsCatalogueSound s → map.get s.stations station.now ≡ Some x → docks_left s station.now x.row.docks ≡ pos d.free
+    → Books (row.SetDockCount station (x.row.docks + count) (d.free + count) ∷ []) s m
+    (record s { stations = key_changed s.stations station.now (λ y. record y { row = more_docks count y.row }) }) m

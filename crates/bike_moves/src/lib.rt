@@ -6,4 +6,4 @@
 
 mod laws;
 
-pub use laws::{books_grown, books_marked, books_put, books_request};
+pub use laws::{books_added_docks, books_marked, books_put, books_request};

@@ -73,14 +73,16 @@ pub fn fare_booked(entries: u32, row: &RentalView, now: Moment) -> Booked
     booked(row.balance, entry, None)
 }
 
-/// The rental closed at a station or recovered, at the fare that is booked.
+/// The rental closed at a station or recovered, at the moment and the fare that are booked.
 pub fn closing<'a>(row: &RentalView, to_station: Option<&'a Ident>, booked: &Booked) -> Change<'a>
-    ensures { result ≡ change.CloseRental row.now.number to_station.entry booked.now.entry.amount }
+    ensures { let entry = booked.now.entry in
+        result ≡ change.CloseRental row.now.number to_station.entry entry.at entry.amount }
 {
     Change::CloseRental {
         rental: row.number.get(),
         to_station,
-        fare: booked.entry.amount().hundredths(),
+        finish: booked.entry.at(),
+        fare: booked.entry.amount(),
     }
 }
 

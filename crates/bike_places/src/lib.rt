@@ -7,8 +7,8 @@ mod counts;
 mod laws;
 
 pub use bike_operator::{
-    BikeState, Cents, DockCount, Entry, Ident, Language, Name, NameKind, NewPlace, Order, OrderEnd,
-    Plan, Position, Refusal, Region, Reply, Settings, Station, System, VehicleType,
+    BikeState, Cents, DockCount, Entry, Ident, Language, Name, NameKind, NewPlace, OrderEnd, Plan,
+    Position, Refusal, Region, Reply, Settings, Station, System, VehicleType,
 };
 pub use counts::{docks_law, mark_law, put_law, share_law};
 pub use laws::{keeps_bikes, keeps_catalogue, keeps_names, keeps_orders};

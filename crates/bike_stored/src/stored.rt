@@ -192,7 +192,7 @@ fn find_moved<S: Alter>(
             let counts = find_counts_at(conn, at, type_id)?;
             Ok(Stored { dock, counts, sums })
         }
-        Moved::Grown { station, .. } => {
+        Moved::AddDocks { station, .. } => {
             let dock = find_station_docks(conn, station)?;
             Ok(Stored {
                 dock,

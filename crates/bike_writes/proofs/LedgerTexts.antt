@@ -9,17 +9,18 @@ use Rattle.bike_writes.proofs.TextLemmas.{Makes}
 use Rattle.sqlite_tied.specs.Compute.{everything}
 use Rattle.bike_rows.proofs.WriteLaws.{row_put, row_put_free, row_updated}
 use Rattle.bike_book.specs.declared.row_change.RowChange.TheVariants as row
+use Rattle.bike_book.specs.Writes.{write_of}
 use Rattle.bike_schema.proofs.KeyLemmas.{unique_key}
 use Rattle.bike_schema.proofs.MakesLemmas.{adds_row, keeps_row, sets_columns}
 
-pub adds_entry : (e : Bor Entry) → Makes (codes "INSERT INTO entries VALUES (?1, ?2, ?3, ?4, ?5, ?6)") (entry_row e.now.number e.now) (row.AddEntry e)
+pub adds_entry : (e : Bor Entry) → Makes (codes "INSERT INTO entries VALUES (?1, ?2, ?3, ?4, ?5, ?6)") (entry_row e.now.number e.now) (write_of (row.AddEntry e))
 unfolding everything
 adds_entry e = adds_row Entries (λ s. row_put (unique_key Entries) (λ s tree. (refl, refl, refl, λ base. refl)) refl refl (λ rows. refl))
 
-pub adds_kept : (caller key command reply : Bor (List ℕ)) → Makes (codes "INSERT INTO kept VALUES (?1, ?2, ?3, ?4)") (kept_row caller.now key.now command.now reply.now) (row.AddKept caller key command reply)
+pub adds_kept : (caller key command reply : Bor (List ℕ)) → Makes (codes "INSERT INTO kept VALUES (?1, ?2, ?3, ?4)") (kept_row caller.now key.now command.now reply.now) (write_of (row.AddKept caller key command reply))
 unfolding everything
 adds_kept caller key command reply = keeps_row (λ s. row_put_free (λ s tree. (refl, refl, refl, λ base. refl)) refl refl (λ rows. refl))
 
-pub sets_meta : (now : ℕ) (cash revenue : ℤ) → Makes (codes "UPDATE meta SET now = ?2, cash = ?3, revenue = ?4 WHERE one = ?1") (Int (pos 1) ∷ number_value now ∷ Int cash ∷ Int revenue ∷ []) (row.SetMeta now cash revenue)
+pub sets_meta : (now : ℕ) (cash revenue : ℤ) → Makes (codes "UPDATE meta SET now = ?2, cash = ?3, revenue = ?4 WHERE one = ?1") (Int (pos 1) ∷ number_value now ∷ Int cash ∷ Int revenue ∷ []) (write_of (row.SetMeta now cash revenue))
 unfolding everything
 sets_meta now cash revenue = sets_columns Meta _ _ (λ s. row_updated (unique_key Meta) 0 ((3, 1) ∷ (4, 2) ∷ (5, 3) ∷ []) _ (λ tree. (refl, refl, refl), refl) refl refl refl (λ r. refl) (λ r. refl))

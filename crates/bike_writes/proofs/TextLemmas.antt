@@ -1,4 +1,4 @@
--- What a text does, as a row change, and the values that it is sent.
+-- What a text does, as a write to one table, and the values that it is sent.
 use Rattle.std.proofs.Common.{◌≡◌, ℕ, pos, List, [], ◌∷◌, Option, Some, None, true, refl, rules}
 use Rattle.std.proofs.lemmas.Int.{to_z-of_z}
 use Rattle.sqlite_value.specs.declared.value.Value.TheVariants.{Int}
@@ -8,16 +8,15 @@ use Rattle.sqlite.specs.Values.{or_null, bound_value}
 use Rattle.bike_rows.proofs.CallLaws.{Does}
 use Rattle.bike_rows.proofs.CastLemmas.{suits}
 use Rattle.bike_rows.proofs.ParamLemmas.{text_or_null}
-use Rattle.bike_book.specs.declared.row_change.RowChange.{RowChange}
 use Rattle.bike_book.specs.Rows.{number_value}
-use Rattle.bike_book.specs.Writes.{write_of}
+use Rattle.bike_book.specs.Writes.{RowWrite}
 use Rattle.bike_schema.specs.Tables.{tables_of}
 use Rattle.bike_schema.specs.Makes.{Puts}
 use Rattle.bike_schema.specs.Calls.{WasFree, Admits}
 
--- with these parameters the text makes the row change
-abbrev pub Makes : List ℕ → Row → RowChange → Type 1
-Makes text params change = Does (Admits (write_of change)) (λ db. WasFree (write_of change) (tables_of db)) (Puts (write_of change ∷ [])) text params
+-- with these parameters the text makes the write
+abbrev pub Makes : List ℕ → Row → RowWrite → Type 1
+Makes text params w = Does (Admits w) (λ db. WasFree w (tables_of db)) (Puts (w ∷ [])) text params
 
 pub number_or_null : (o : Option ℕ) → bound_value (or_null (λ n. Int (pos n)) o) ≡ or_null number_value o
 number_or_null None = refl

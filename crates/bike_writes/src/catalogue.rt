@@ -1,7 +1,8 @@
 //! The statements on `system`, `plans`, `segments`, `types` and `regions`.
 
+ghost use Rattle.bike_accepted.specs.declared.change.Change.TheVariants as change;
 ghost use Rattle.bike_book.specs.declared.row_change.RowChange.TheVariants as row;
-ghost use Rattle.bike_book.specs.Writes.{write_of};
+ghost use Rattle.bike_book.specs.Writes.{record_write, write_of};
 ghost use Rattle.bike_schema.specs.Calls.{Writes};
 
 use bike_attributes::Segment;
@@ -12,11 +13,11 @@ use bike_schema::{Staged, StatementFault};
 use sqlite::{Alter, params};
 
 /// Adds the one row of `system`.
-pub(crate) fn add_system<S: Alter>(
+pub(crate) fn set_system<S: Alter>(
     tx: &mut Staged<'_, S>,
     system: &System,
 ) -> Result<(), StatementFault>
-    ensures { Writes S.Store tx.old.conn tx.new.conn result (write_of (row.AddSystem system.entry)) }
+    ensures { Writes S.Store tx.old.conn tx.new.conn result (record_write (change.SetSystem system.entry)) }
 {
     run(
         tx,
@@ -37,11 +38,11 @@ pub(crate) fn add_system<S: Alter>(
 }
 
 /// Sets the columns of `system` that may change.
-pub(crate) fn set_settings<S: Alter>(
+pub(crate) fn change_system<S: Alter>(
     tx: &mut Staged<'_, S>,
     settings: &Settings,
 ) -> Result<(), StatementFault>
-    ensures { Writes S.Store tx.old.conn tx.new.conn result (write_of (row.SetSettings settings.entry)) }
+    ensures { Writes S.Store tx.old.conn tx.new.conn result (record_write (change.ChangeSystem settings.entry)) }
 {
     run(
         tx,
@@ -60,7 +61,7 @@ pub(crate) fn set_settings<S: Alter>(
 
 /// Adds a plan, without its segments.
 pub(crate) fn add_plan<S: Alter>(tx: &mut Staged<'_, S>, plan: &Plan) -> Result<(), StatementFault>
-    ensures { Writes S.Store tx.old.conn tx.new.conn result (write_of (row.AddPlan plan.entry)) }
+    ensures { Writes S.Store tx.old.conn tx.new.conn result (record_write (change.AddPlan plan.entry)) }
 {
     run(
         tx,
@@ -103,7 +104,7 @@ pub(crate) fn add_type<S: Alter>(
     tx: &mut Staged<'_, S>,
     vehicle_type: &VehicleType,
 ) -> Result<(), StatementFault>
-    ensures { Writes S.Store tx.old.conn tx.new.conn result (write_of (row.AddType vehicle_type.entry)) }
+    ensures { Writes S.Store tx.old.conn tx.new.conn result (record_write (change.AddType vehicle_type.entry)) }
 {
     run(
         tx,
@@ -120,12 +121,12 @@ pub(crate) fn add_type<S: Alter>(
 }
 
 /// Sets the default plan of a type.
-pub(crate) fn set_default_plan<S: Alter>(
+pub(crate) fn set_plan<S: Alter>(
     tx: &mut Staged<'_, S>,
     type_id: &Ident,
     plan: &Ident,
 ) -> Result<(), StatementFault>
-    ensures { Writes S.Store tx.old.conn tx.new.conn result (write_of (row.SetDefaultPlan type_id.entry plan.entry)) }
+    ensures { Writes S.Store tx.old.conn tx.new.conn result (record_write (change.SetPlan type_id.entry plan.entry)) }
 {
     run(
         tx,
@@ -139,7 +140,7 @@ pub(crate) fn add_region<S: Alter>(
     tx: &mut Staged<'_, S>,
     region: &Region,
 ) -> Result<(), StatementFault>
-    ensures { Writes S.Store tx.old.conn tx.new.conn result (write_of (row.AddRegion region.entry)) }
+    ensures { Writes S.Store tx.old.conn tx.new.conn result (record_write (change.AddRegion region.entry)) }
 {
     run(
         tx,

@@ -2,9 +2,10 @@
 
 ghost use Rattle.std.specs.Prelude.{◌≡◌};
 ghost use Rattle.bike_operator.specs.Changes.{place_of};
+ghost use Rattle.bike_accepted.specs.declared.change.Change.TheVariants as change;
 ghost use Rattle.bike_book.specs.declared.row_change.RowChange.TheVariants as row;
 ghost use Rattle.bike_book.specs.Rows.{place_columns};
-ghost use Rattle.bike_book.specs.Writes.{write_of};
+ghost use Rattle.bike_book.specs.Writes.{record_write, write_of};
 ghost use Rattle.bike_schema.specs.Calls.{Writes};
 ghost use Rattle.bike_writes.specs.Columns.{columns_of};
 
@@ -57,7 +58,7 @@ pub(crate) fn add_bike<S: Alter>(
     bike: u32,
     type_id: &Ident,
 ) -> Result<(), StatementFault>
-    ensures { Writes S.Store tx.old.conn tx.new.conn result (write_of (row.AddBike bike type_id.entry)) }
+    ensures { Writes S.Store tx.old.conn tx.new.conn result (record_write (change.AddBike bike type_id.entry)) }
 {
     run(
         tx,
@@ -106,7 +107,7 @@ pub(crate) fn add_truck<S: Alter>(
     truck: u32,
     capacity: u32,
 ) -> Result<(), StatementFault>
-    ensures { Writes S.Store tx.old.conn tx.new.conn result (write_of (row.AddTruck truck capacity)) }
+    ensures { Writes S.Store tx.old.conn tx.new.conn result (record_write (change.AddTruck truck capacity)) }
 {
     run(
         tx,

@@ -1,7 +1,7 @@
 //! The statements on names: in the own row of what has one, and in `more_names`.
 
-ghost use Rattle.bike_book.specs.declared.row_change.RowChange.TheVariants as row;
-ghost use Rattle.bike_book.specs.Writes.{write_of};
+ghost use Rattle.bike_accepted.specs.declared.change.Change.TheVariants as change;
+ghost use Rattle.bike_book.specs.Writes.{record_write};
 ghost use Rattle.bike_schema.specs.Calls.{Writes};
 
 use bike_attributes::NameKind;
@@ -17,7 +17,8 @@ pub(crate) fn set_own_name<S: Alter>(
     id: &Ident,
     name: &Name,
 ) -> Result<(), StatementFault>
-    ensures { Writes S.Store tx.old.conn tx.new.conn result (write_of (row.SetOwnName kind id.entry name.entry)) }
+    ensures { Writes S.Store tx.old.conn tx.new.conn result
+        (record_write (change.SetOwnName kind id.entry name.entry)) }
 {
     let (id, name) = (id.as_str(), name.as_str());
     let sql = match kind {
@@ -43,7 +44,7 @@ pub(crate) fn add_name<S: Alter>(
     name: &Name,
 ) -> Result<(), StatementFault>
     ensures { Writes S.Store tx.old.conn tx.new.conn result
-        (write_of (row.AddName kind id.entry language.entry name.entry)) }
+        (record_write (change.AddName kind id.entry language.entry name.entry)) }
 {
     run(
         tx,
@@ -61,7 +62,7 @@ pub(crate) fn set_further_name<S: Alter>(
     name: &Name,
 ) -> Result<(), StatementFault>
     ensures { Writes S.Store tx.old.conn tx.new.conn result
-        (write_of (row.SetFurtherName kind id.entry language.entry name.entry)) }
+        (record_write (change.SetFurtherName kind id.entry language.entry name.entry)) }
 {
     run(
         tx,
@@ -78,7 +79,7 @@ pub(crate) fn remove_name<S: Alter>(
     language: &Language,
 ) -> Result<(), StatementFault>
     ensures { Writes S.Store tx.old.conn tx.new.conn result
-        (write_of (row.RemoveName kind id.entry language.entry)) }
+        (record_write (change.RemoveName kind id.entry language.entry)) }
 {
     run(
         tx,

@@ -1,7 +1,7 @@
 //! The statements on `orders`.
 
-ghost use Rattle.bike_book.specs.declared.row_change.RowChange.TheVariants as row;
-ghost use Rattle.bike_book.specs.Writes.{write_of};
+ghost use Rattle.bike_accepted.specs.declared.change.Change.TheVariants as change;
+ghost use Rattle.bike_book.specs.Writes.{record_write};
 ghost use Rattle.bike_schema.specs.Calls.{Writes};
 
 use crate::columns::end_text;
@@ -22,7 +22,7 @@ pub(crate) fn add_order<S: Alter>(
     count: u32,
 ) -> Result<(), StatementFault>
     ensures { Writes S.Store tx.old.conn tx.new.conn result
-        (write_of (row.AddOrder order truck from_end.entry to_end.entry type_id.entry count)) }
+        (record_write (change.AddOrder order truck from_end.entry to_end.entry type_id.entry count)) }
 {
     run(
         tx,
@@ -47,7 +47,7 @@ pub(crate) fn set_order<S: Alter>(
     delivered: u32,
     is_open: bool,
 ) -> Result<(), StatementFault>
-    ensures { Writes S.Store tx.old.conn tx.new.conn result (write_of (row.SetOrder order delivered is_open)) }
+    ensures { Writes S.Store tx.old.conn tx.new.conn result (record_write (change.SetOrder order delivered is_open)) }
 {
     run(
         tx,

@@ -1,7 +1,8 @@
 //! The statements on `rentals`.
 
+ghost use Rattle.bike_accepted.specs.declared.change.Change.TheVariants as change;
 ghost use Rattle.bike_book.specs.declared.row_change.RowChange.TheVariants as row;
-ghost use Rattle.bike_book.specs.Writes.{write_of};
+ghost use Rattle.bike_book.specs.Writes.{record_write, write_of};
 ghost use Rattle.bike_schema.specs.Calls.{Writes};
 
 use crate::columns::{seconds_of, text_in};
@@ -22,7 +23,7 @@ pub(crate) fn add_rental<S: Alter>(
     start: Moment,
 ) -> Result<(), StatementFault>
     ensures { Writes S.Store tx.old.conn tx.new.conn result
-        (write_of (row.AddRental rental rider bike plan.entry from_station.entry start)) }
+        (record_write (change.AddRental rental rider bike plan.entry from_station.entry start)) }
 {
     run(
         tx,
@@ -51,7 +52,7 @@ pub(crate) fn close_rental<S: Alter>(
     fare: Cents,
 ) -> Result<(), StatementFault>
     ensures { Writes S.Store tx.old.conn tx.new.conn result
-        (write_of (row.CloseRental rental to_station.entry finish fare)) }
+        (record_write (change.CloseRental rental to_station.entry finish fare)) }
 {
     run(
         tx,

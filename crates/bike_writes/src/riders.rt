@@ -1,7 +1,8 @@
 //! The statements on `riders`.
 
+ghost use Rattle.bike_accepted.specs.declared.change.Change.TheVariants as change;
 ghost use Rattle.bike_book.specs.declared.row_change.RowChange.TheVariants as row;
-ghost use Rattle.bike_book.specs.Writes.{write_of};
+ghost use Rattle.bike_book.specs.Writes.{record_write, write_of};
 ghost use Rattle.bike_schema.specs.Calls.{Writes};
 
 use bike_fixed::Cents;
@@ -9,28 +10,24 @@ use bike_rows::write::run;
 use bike_schema::{Staged, StatementFault};
 use sqlite::{Alter, params};
 
-/// Adds the row, with balance 0.
-pub(crate) fn add_rider<S: Alter>(
-    tx: &mut Staged<'_, S>,
-    rider: u32,
-    is_blocked: bool,
-) -> Result<(), StatementFault>
-    ensures { Writes S.Store tx.old.conn tx.new.conn result (write_of (row.AddRider rider is_blocked)) }
+/// Adds the row, not blocked and with balance 0.
+pub(crate) fn add_rider<S: Alter>(tx: &mut Staged<'_, S>, rider: u32) -> Result<(), StatementFault>
+    ensures { Writes S.Store tx.old.conn tx.new.conn result (record_write (change.AddRider rider)) }
 {
     run(
         tx,
         "INSERT INTO riders VALUES (?1, ?2, ?3)",
-        params![rider, is_blocked, 0_i64],
+        params![rider, false, 0_i64],
     )
 }
 
 /// Sets whether the rider is blocked.
-pub(crate) fn set_blocked<S: Alter>(
+pub(crate) fn set_rider<S: Alter>(
     tx: &mut Staged<'_, S>,
     rider: u32,
     is_blocked: bool,
 ) -> Result<(), StatementFault>
-    ensures { Writes S.Store tx.old.conn tx.new.conn result (write_of (row.SetBlocked rider is_blocked)) }
+    ensures { Writes S.Store tx.old.conn tx.new.conn result (record_write (change.SetRider rider is_blocked)) }
 {
     run(
         tx,

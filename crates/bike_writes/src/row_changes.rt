@@ -1,24 +1,101 @@
 //! Row changes.
 
-ghost use Rattle.bike_book.specs.Writes.{write_of};
+ghost use Rattle.bike_book.specs.Writes.{record_write, write_of};
 ghost use Rattle.bike_schema.specs.Calls.{Writes};
 
 use crate::catalogue::{
-    add_plan, add_region, add_segment, add_system, add_type, set_default_plan, set_settings,
+    add_plan, add_region, add_segment, add_type, change_system, set_plan, set_system,
 };
 use crate::fleet::{add_bike, add_truck, set_bike};
 use crate::ledger::{add_entry, add_kept, set_meta};
 use crate::names::{add_name, remove_name, set_further_name, set_own_name};
 use crate::orders::{add_order, set_order};
 use crate::rentals::{add_rental, close_rental, set_refunded};
-use crate::riders::{add_rider, set_balance, set_blocked};
+use crate::riders::{add_rider, set_balance, set_rider};
 use crate::stations::{
-    add_count, add_dock, add_station, set_count, set_dock, set_dock_count, set_docks_reported,
-    set_flags, set_position, set_region,
+    add_count, add_dock, add_station, move_station, set_count, set_dock, set_dock_count,
+    set_docks_reported, set_region, set_station,
 };
+use bike_accepted::Change;
 use bike_book::RowChange;
 use bike_schema::{Staged, StatementFault};
 use sqlite::Alter;
+
+/// Puts, adds or removes the row of one record.
+fn put_record<S: Alter>(tx: &mut Staged<'_, S>, change: &Change<'_>) -> Result<(), StatementFault>
+    ensures { Writes S.Store tx.old.conn tx.new.conn result (record_write change.now) }
+{
+    match *change {
+        Change::SetSystem(system) => set_system(tx, system),
+        Change::AddPlan(plan) => add_plan(tx, plan),
+        Change::AddType(vehicle_type) => add_type(tx, vehicle_type),
+        Change::SetPlan { type_id, plan } => set_plan(tx, type_id, plan),
+        Change::AddStation { station, reported } => add_station(tx, station, reported),
+        Change::SetStation {
+            station,
+            is_installed,
+            is_renting,
+            is_returning,
+            reported,
+        } => set_station(
+            tx,
+            station,
+            is_installed,
+            is_renting,
+            is_returning,
+            reported,
+        ),
+        Change::AddRegion(region) => add_region(tx, region),
+        Change::SetRegion { station, region } => set_region(tx, station, region),
+        Change::AddName {
+            kind,
+            id,
+            language,
+            name,
+        } => add_name(tx, kind, id, language, name),
+        Change::SetOwnName { kind, id, name } => set_own_name(tx, kind, id, name),
+        Change::SetFurtherName {
+            kind,
+            id,
+            language,
+            name,
+        } => set_further_name(tx, kind, id, language, name),
+        Change::RemoveName { kind, id, language } => remove_name(tx, kind, id, language),
+        Change::ChangeSystem(settings) => change_system(tx, settings),
+        Change::MoveStation { station, position } => move_station(tx, station, position),
+        Change::AddBike { bike, type_id } => add_bike(tx, bike, type_id),
+        Change::AddTruck { truck, capacity } => add_truck(tx, truck, capacity),
+        Change::AddRider { rider } => add_rider(tx, rider),
+        Change::SetRider { rider, is_blocked } => set_rider(tx, rider, is_blocked),
+        Change::AddRental {
+            rental,
+            rider,
+            bike,
+            plan,
+            from_station,
+            start,
+        } => add_rental(tx, rental, rider, bike, plan, from_station, start),
+        Change::CloseRental {
+            rental,
+            to_station,
+            finish,
+            fare,
+        } => close_rental(tx, rental, to_station, finish, fare),
+        Change::AddOrder {
+            order,
+            truck,
+            from_end,
+            to_end,
+            type_id,
+            count,
+        } => add_order(tx, order, truck, from_end, to_end, type_id, count),
+        Change::SetOrder {
+            order,
+            delivered,
+            is_open,
+        } => set_order(tx, order, delivered, is_open),
+    }
+}
 
 /// Makes one row change, inside the transaction. The key of a row that is added has to be free; columns that are set
 /// in a row that isn't there change nothing, nor does the removal of such a row. `NoMemory` comes where the database
@@ -28,41 +105,19 @@ pub fn put<S: Alter>(tx: &mut Staged<'_, S>, change: &RowChange<'_>) -> Result<(
     ensures { Writes S.Store tx.old.conn tx.new.conn result (write_of change.now) }
 {
     match *change {
-        RowChange::AddSystem(system) => add_system(tx, system),
-        RowChange::SetSettings(settings) => set_settings(tx, settings),
-        RowChange::AddPlan(plan) => add_plan(tx, plan),
+        RowChange::Record(change) => put_record(tx, change),
         RowChange::AddSegment { plan, seq, segment } => add_segment(tx, plan, seq, segment),
-        RowChange::AddType(vehicle_type) => add_type(tx, vehicle_type),
-        RowChange::SetDefaultPlan { type_id, plan } => set_default_plan(tx, type_id, plan),
-        RowChange::AddRegion(region) => add_region(tx, region),
-        RowChange::AddStation { station, reported } => add_station(tx, station, reported),
-        RowChange::SetFlags {
+        RowChange::SetDockCount {
             station,
-            is_installed,
-            is_renting,
-            is_returning,
-            reported,
-        } => set_flags(
-            tx,
-            station,
-            is_installed,
-            is_renting,
-            is_returning,
-            reported,
-        ),
+            docks,
+            free,
+        } => set_dock_count(tx, station, docks, free),
         RowChange::SetDocksReported {
             station,
             free,
             broken,
             reported,
         } => set_docks_reported(tx, station, free, broken, reported),
-        RowChange::SetPosition { station, position } => set_position(tx, station, position),
-        RowChange::SetDockCount {
-            station,
-            docks,
-            free,
-        } => set_dock_count(tx, station, docks, free),
-        RowChange::SetRegion { station, region } => set_region(tx, station, region),
         RowChange::AddDock {
             station,
             dock,
@@ -73,40 +128,9 @@ pub fn put<S: Alter>(tx: &mut Staged<'_, S>, change: &RowChange<'_>) -> Result<(
             dock,
             is_broken,
         } => set_dock(tx, station, dock, is_broken),
-        RowChange::AddBike { bike, type_id } => add_bike(tx, bike, type_id),
         RowChange::SetBike { bike, state, place } => set_bike(tx, bike, state, &place),
-        RowChange::AddTruck { truck, capacity } => add_truck(tx, truck, capacity),
-        RowChange::AddRider { rider, is_blocked } => add_rider(tx, rider, is_blocked),
-        RowChange::SetBlocked { rider, is_blocked } => set_blocked(tx, rider, is_blocked),
         RowChange::SetBalance { rider, balance } => set_balance(tx, rider, balance),
-        RowChange::AddRental {
-            rental,
-            rider,
-            bike,
-            plan,
-            from_station,
-            start,
-        } => add_rental(tx, rental, rider, bike, plan, from_station, start),
-        RowChange::CloseRental {
-            rental,
-            to_station,
-            finish,
-            fare,
-        } => close_rental(tx, rental, to_station, finish, fare),
         RowChange::SetRefunded { rental, refunded } => set_refunded(tx, rental, refunded),
-        RowChange::AddOrder {
-            order,
-            truck,
-            from_end,
-            to_end,
-            type_id,
-            count,
-        } => add_order(tx, order, truck, from_end, to_end, type_id, count),
-        RowChange::SetOrder {
-            order,
-            delivered,
-            is_open,
-        } => set_order(tx, order, delivered, is_open),
         RowChange::AddEntry(entry) => add_entry(tx, entry),
         RowChange::AddKept {
             caller,
@@ -127,19 +151,5 @@ pub fn put<S: Alter>(tx: &mut Staged<'_, S>, change: &RowChange<'_>) -> Result<(
             disabled,
         } => set_count(tx, station, type_id, available, disabled),
         RowChange::SetMeta { now, cash, revenue } => set_meta(tx, now, cash, revenue),
-        RowChange::AddName {
-            kind,
-            id,
-            language,
-            name,
-        } => add_name(tx, kind, id, language, name),
-        RowChange::SetOwnName { kind, id, name } => set_own_name(tx, kind, id, name),
-        RowChange::SetFurtherName {
-            kind,
-            id,
-            language,
-            name,
-        } => set_further_name(tx, kind, id, language, name),
-        RowChange::RemoveName { kind, id, language } => remove_name(tx, kind, id, language),
     }
 }

@@ -1,7 +1,8 @@
 //! The statements on `stations_3`, `docks` and `counts`.
 
+ghost use Rattle.bike_accepted.specs.declared.change.Change.TheVariants as change;
 ghost use Rattle.bike_book.specs.declared.row_change.RowChange.TheVariants as row;
-ghost use Rattle.bike_book.specs.Writes.{write_of};
+ghost use Rattle.bike_book.specs.Writes.{record_write, write_of};
 ghost use Rattle.bike_schema.specs.Calls.{Writes};
 
 use crate::columns::{seconds_of, text_in};
@@ -19,7 +20,8 @@ pub(crate) fn add_station<S: Alter>(
     station: &Station,
     reported: Moment,
 ) -> Result<(), StatementFault>
-    ensures { Writes S.Store tx.old.conn tx.new.conn result (write_of (row.AddStation station.entry reported)) }
+    ensures { Writes S.Store tx.old.conn tx.new.conn result
+        (record_write (change.AddStation station.entry reported)) }
 {
     run(
         tx,
@@ -42,7 +44,7 @@ pub(crate) fn add_station<S: Alter>(
 }
 
 /// Sets a station's flags and its report.
-pub(crate) fn set_flags<S: Alter>(
+pub(crate) fn set_station<S: Alter>(
     tx: &mut Staged<'_, S>,
     station: &Ident,
     is_installed: bool,
@@ -51,7 +53,7 @@ pub(crate) fn set_flags<S: Alter>(
     reported: Moment,
 ) -> Result<(), StatementFault>
     ensures { Writes S.Store tx.old.conn tx.new.conn result
-        (write_of (row.SetFlags station.entry is_installed is_renting is_returning reported)) }
+        (record_write (change.SetStation station.entry is_installed is_renting is_returning reported)) }
 {
     run(
         tx,
@@ -85,12 +87,13 @@ pub(crate) fn set_docks_reported<S: Alter>(
 }
 
 /// Sets the position of a station, in microdegrees.
-pub(crate) fn set_position<S: Alter>(
+pub(crate) fn move_station<S: Alter>(
     tx: &mut Staged<'_, S>,
     station: &Ident,
     position: &Position,
 ) -> Result<(), StatementFault>
-    ensures { Writes S.Store tx.old.conn tx.new.conn result (write_of (row.SetPosition station.entry position.entry)) }
+    ensures { Writes S.Store tx.old.conn tx.new.conn result
+        (record_write (change.MoveStation station.entry position.entry)) }
 {
     run(
         tx,
@@ -125,7 +128,8 @@ pub(crate) fn set_region<S: Alter>(
     station: &Ident,
     region: Option<&Ident>,
 ) -> Result<(), StatementFault>
-    ensures { Writes S.Store tx.old.conn tx.new.conn result (write_of (row.SetRegion station.entry region.entry)) }
+    ensures { Writes S.Store tx.old.conn tx.new.conn result
+        (record_write (change.SetRegion station.entry region.entry)) }
 {
     run(
         tx,

@@ -24,10 +24,10 @@ returns c =
       | in-Some w ↦ where_moved r0 r1 now n a.moved w.in-Some.moved w.in-Some.is (ap items w.rows-is ∙ w.push_moved.ensures.rows)
       | in_default w ↦ not_moved r0 r1 now n a.moved w.in_default.is (ap items w.rows-is)
     ] in
-    let changed : AreAdded (where_changed_writes now a.change) r1 r2 = elim c.match-accepted-2.branch [
-      | in-Some-change w ↦ where_changed r1 r2 now a.change w.in-Some-change.change w.in-Some-change.is
+    let changed : AreAdded (where_changed_writes a.change) r1 r2 = elim c.match-accepted-2.branch [
+      | in-Some-change w ↦ where_changed r1 r2 a.change w.in-Some-change.change w.in-Some-change.is
           (ap writes_of (ap items w.rows-is) ∙ w.push_change.ensures.added)
-      | in_default-change w ↦ not_changed r1 r2 now a.change w.in_default-change.is (ap items w.rows-is)
+      | in_default-change w ↦ not_changed r1 r2 a.change w.in_default-change.is (ap items w.rows-is)
     ] in
     let booked : AreAdded (where_booked_writes a.entry) r2 r3 = elim c.match-accepted-3.branch [
       | in-Some-entry w ↦ where_booked r2 r3 a.entry w.in-Some-entry.booked w.in-Some-entry.is
@@ -37,7 +37,7 @@ returns c =
     let close = close_rows now n.sums c.args.texts.now in
     let closed : AreAdded (writes_of close) r3 c.push_close.new.rows.items = added_rows r3 close c.push_close.new.rows.items c.push_close.ensures in
     let ms = where_moved_writes now n a.moved in
-    let cs = where_changed_writes now a.change in
+    let cs = where_changed_writes a.change in
     let es = where_booked_writes a.entry in
     let all : AreAdded (ms ++ cs ++ es ++ writes_of close) r0 c.push_close.new.rows.items =
     added_then (ms ++ cs ++ es) (writes_of close) r0 r3 c.push_close.new.rows.items (added_then (ms ++ cs) es r0 r2 r3 (added_then ms cs r0 r1 r2 moved changed) booked) closed in

@@ -14,7 +14,7 @@ returns-clause-decides c = λ s now e.
     let put = rw (c.end_at-end.ensures, c.get-2.ensures.value) at c.put_at_end-moved.ensures in
     let delivery : IsDelivery c.args.side c.args.order c.in-Ok.unloading.order.now c.match-side.delivery = elim c.match-side.branch [
       | in-From w ↦ rw w.in-From.is w.delivery-is
-      | in-To w ↦ rw w.in-To.is (c.in-Ok.unloading.order, refl, w.delivery-is ∙ ap₂ (λ (n k : ℕ). Some (change.Deliver n c.in-Ok.unloading.order k)) w.get.ensures.value w.delivered_with.ensures)
+      | in-To w ↦ rw w.in-To.is (w.delivery-is ∙ ap₂ (λ (n k : ℕ). Some (change.SetOrder n k c.in-Ok.unloading.order.now.is_open)) w.get.ensures.value w.delivered_with.ensures)
     ] in
     unload_decided c.args.view.now now c.args.truck c.args.order c.args.bike c.args.side c.args.dock c.in-Ok.unloading.bike.now c.in-Ok.unloading.order.now _ c.standing_of-was.result c.put_at_end-moved.result c.match-side.delivery
     (record { type_is = refl; state_is = c.standing_of-was.ensures.state; place_is = c.standing_of-was.ensures.place }) (c.in-Ok.ensures.tests c.args.bike) c.in-Ok.ensures.bike c.in-Ok.ensures.order put delivery s e
@@ -24,7 +24,7 @@ returns-clause-found c = λ s now sound e.
     let put = rw (c.end_at-end.ensures, c.get-2.ensures.value) at c.put_at_end-moved.ensures in
     let delivery : IsDelivery c.args.side c.args.order c.in-Ok.unloading.order.now c.match-side.delivery = elim c.match-side.branch [
       | in-From w ↦ rw w.in-From.is w.delivery-is
-      | in-To w ↦ rw w.in-To.is (c.in-Ok.unloading.order, refl, w.delivery-is ∙ ap₂ (λ (n k : ℕ). Some (change.Deliver n c.in-Ok.unloading.order k)) w.get.ensures.value w.delivered_with.ensures)
+      | in-To w ↦ rw w.in-To.is (w.delivery-is ∙ ap₂ (λ (n k : ℕ). Some (change.SetOrder n k c.in-Ok.unloading.order.now.is_open)) w.get.ensures.value w.delivered_with.ensures)
     ] in
     unload_found c.args.view.now now c.args.truck c.args.order c.args.bike c.args.side c.args.dock c.in-Ok.unloading.bike.now c.in-Ok.unloading.order.now _ c.standing_of-was.result c.put_at_end-moved.result c.match-side.delivery
     (record { type_is = refl; state_is = c.standing_of-was.ensures.state; place_is = c.standing_of-was.ensures.place }) (c.in-Ok.ensures.tests c.args.bike) c.in-Ok.ensures.bike c.in-Ok.ensures.order put delivery s e sound

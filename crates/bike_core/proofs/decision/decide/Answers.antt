@@ -25,18 +25,6 @@ returns-in-SetPlan-clause-decides c = rw c.in-SetPlan.is (λ s e. c.decide_set_p
 pub returns-in-SetPlan-clause-found : goal.returns-in-SetPlan-clause-found
 returns-in-SetPlan-clause-found c = finds_at c.args.view.now c.args.now c.args.command.now c.decide_set_plan.result (rw c.in-SetPlan.is c.decide_set_plan.ensures.found)
 
-pub returns-in-AddStation-clause-decides : goal.returns-in-AddStation-clause-decides
-returns-in-AddStation-clause-decides c = rw c.in-AddStation.is (λ s e. c.decide_add_station.ensures.decides s c.args.now e)
-
-pub returns-in-AddStation-clause-found : goal.returns-in-AddStation-clause-found
-returns-in-AddStation-clause-found c = finds_at c.args.view.now c.args.now c.args.command.now c.decide_add_station.result (rw c.in-AddStation.is c.decide_add_station.ensures.found)
-
-pub returns-in-SetStation-clause-decides : goal.returns-in-SetStation-clause-decides
-returns-in-SetStation-clause-decides c = rw c.in-SetStation.is (λ s e. c.decide_set_station.ensures.decides s c.args.now e)
-
-pub returns-in-SetStation-clause-found : goal.returns-in-SetStation-clause-found
-returns-in-SetStation-clause-found c = finds_at c.args.view.now c.args.now c.args.command.now c.decide_set_station.result (rw c.in-SetStation.is c.decide_set_station.ensures.found)
-
 pub returns-in-MarkDock-clause-decides : goal.returns-in-MarkDock-clause-decides
 returns-in-MarkDock-clause-decides c = rw c.in-MarkDock.is (λ s e. c.decide_mark_dock.ensures.decides s c.args.now e)
 

@@ -20,6 +20,6 @@ pub returns-in_ok-counts-in-Marked-clause-stored : goal.returns-in_ok-counts-in-
 returns-in_ok-counts-in-Marked-clause-stored g c = open_as (open_then c.in_ok-dock-in-Marked.ensures c.in_ok-counts-in-Marked.ensures) (λ s m it sight.
     subst (IsMovedStored s m (record { dock = c.in_ok-dock-in-Marked.dock; counts = c.in_ok-counts-in-Marked.counts; sums = c.args.sums })) (sym c.in-Marked.is) ((it.0 sight).0, (it.0 sight).1, it.1))
 
-pub returns-in_ok-dock-in-Grown-clause-stored : goal.returns-in_ok-dock-in-Grown-clause-stored
-returns-in_ok-dock-in-Grown-clause-stored g c = open_as (open_of c.in_ok-dock-in-Grown.ensures) (λ s m it sight.
-    subst (IsMovedStored s m (record { dock = c.in_ok-dock-in-Grown.dock; counts = None; sums = c.args.sums })) (sym c.in-Grown.is) it)
+pub returns-in_ok-dock-in-AddDocks-clause-stored : goal.returns-in_ok-dock-in-AddDocks-clause-stored
+returns-in_ok-dock-in-AddDocks-clause-stored g c = open_as (open_of c.in_ok-dock-in-AddDocks.ensures) (λ s m it sight.
+    subst (IsMovedStored s m (record { dock = c.in_ok-dock-in-AddDocks.dock; counts = None; sums = c.args.sums })) (sym c.in-AddDocks.is) it)

@@ -4,4 +4,4 @@ use Rattle.bike_writes.proofs.RiderTexts.{adds_rider}
 use Rattle.bike_writes.proofs.riders.add_rider.Goals as goal
 
 pub returns : goal.returns
-returns g c = writes_told (adds_rider c.args.rider c.args.is_blocked) c.run.ensures (search bindings)
+returns g c = writes_told (adds_rider c.args.rider) c.run.ensures (search bindings)

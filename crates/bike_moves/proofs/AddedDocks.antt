@@ -16,7 +16,7 @@ use Rattle.bike_book.proofs.MapRows.{changed_entries}
 use Rattle.bike_book.proofs.Keys.{texts}
 use Rattle.bike_book.proofs.ListingLemmas.{listing_same}
 use Rattle.bike_book.proofs.CatalogueBooks.{names_station}
-use Rattle.bike_moves.specs.PutLaws.{GrownLaw}
+use Rattle.bike_moves.specs.PutLaws.{AddDocksLaw}
 
 -- where no dock past the last is broken, there are no more broken ones with the docks past it
 broken_up_to : (s : Operator) (station : List ℕ) (docks : ℕ) → ((n : ℕ) → docks < n → is_broken s station n ≡ false) → (count : ℕ) → docks_broken s station (count + docks) ≡ docks_broken s station docks
@@ -46,8 +46,8 @@ works_past s sound station row found n past = go (is_broken s station n) refl wh
       let high = b.has.high in
       absurd (omega (arith, past, dock, docks, high))
 
-pub grown : Everywhere GrownLaw
-grown s m now listing station row count d sound found free =
+pub add_docks : Everywhere AddDocksLaw
+add_docks s m listing station row count d sound found free =
     let stations =
     changed_entries texts (counted_station s) (counted_station s) (λ e. refl) (λ e. refl) s.stations station.now tt (with_values ((4, number_value (row.row.docks + count)) ∷ (9, number_value (d.free + count)) ∷ [])) f
     (λ v there. set v (let both : ◌≡◌ {A = Option Station} (Some row) (Some v) = sym found ∙ there in cc)) (λ q y there. (tt, λ apart. refl)) in

@@ -1,7 +1,0 @@
-use Rattle.bike_schema.proofs.MakesLemmas.{writes_told}
-use Rattle.bike_writes.proofs.TextLemmas.{bindings}
-use Rattle.bike_writes.proofs.CatalogueTexts.{adds_system}
-use Rattle.bike_writes.proofs.catalogue.add_system.Goals as goal
-
-pub returns : goal.returns
-returns g c = writes_told (adds_system c.args.system) c.run.ensures (search bindings)

@@ -1,7 +1,0 @@
-use Rattle.bike_schema.proofs.MakesLemmas.{writes_told}
-use Rattle.bike_writes.proofs.TextLemmas.{bindings}
-use Rattle.bike_writes.proofs.CatalogueTexts.{sets_default_plan}
-use Rattle.bike_writes.proofs.catalogue.set_default_plan.Goals as goal
-
-pub returns : goal.returns
-returns g c = writes_told (sets_default_plan c.args.type_id c.args.plan) c.run.ensures (search bindings)

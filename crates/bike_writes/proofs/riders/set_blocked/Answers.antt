@@ -1,7 +1,0 @@
-use Rattle.bike_schema.proofs.MakesLemmas.{writes_told}
-use Rattle.bike_writes.proofs.TextLemmas.{bindings}
-use Rattle.bike_writes.proofs.RiderTexts.{sets_blocked}
-use Rattle.bike_writes.proofs.riders.set_blocked.Goals as goal
-
-pub returns : goal.returns
-returns g c = writes_told (sets_blocked c.args.rider c.args.is_blocked) c.run.ensures (search bindings)
