@@ -8,8 +8,9 @@ ghost use Rattle.bike_exchange.specs.Awaiting.{Awaits};
 use crate::connection::Step;
 use crate::limits::{MOST_CALLS, PIECE};
 use crate::settled::{Awaited, still_awaited};
+use crate::socket::Socket;
 use std::alloc::{AllocError, Global};
-use std::io::{ErrorKind, Read};
+use std::io::ErrorKind;
 
 /// How many bytes are gathered at most: those of the longest head and of the longest body.
 const MOST_BYTES: usize = 24_576;
@@ -53,8 +54,8 @@ impl Gathering {
         self.bytes.extend_from_slice(bytes)
     }
 
-    /// Whether the bytes are to be looked at once more, as a whole request is. Where no line end comes that is once there are twice as many,
-    /// so that not all are looked at for each that comes.
+    /// Whether the bytes are to be looked at once more, as a whole request is. Where no line end comes
+    /// that is once there are twice as many, so that not all are looked at for each that comes.
     fn may_be_settled(&self) -> bool
         ensures { IsWhole self.now.bytes.items → IsTrue result }
     {
@@ -84,13 +85,15 @@ impl Gathering {
     }
 
     /// Reads a piece of what is there; none where more may be there.
-    fn read_piece<R: Read>(&mut self, reader: &mut R) -> Option<Step>
-        ensures grew { (result ≡ Some Step.Over → ⊥) → Grew (R.remaining reader.old) (R.remaining reader.new)
+    fn read_piece<S: Socket>(&mut self, reader: &mut S) -> Option<Step>
+        ensures grew { (result ≡ Some Step.Over → ⊥) → Grew (S.remaining reader.old) (S.remaining reader.new)
             self.old.bytes.items self.new.bytes.items }
         ensures settled { result ≡ Some Step.Settled
-            → IsThere self.new.is_ended (R.remaining reader.new) self.new.bytes.items }
+            → IsThere self.new.is_ended (S.remaining reader.new) self.new.bytes.items }
         ensures waits { (IsWhole self.old.bytes.items → ⊥) → IsWhole self.new.bytes.items
             → (result ≡ Some Step.Settled) ⊎ (result ≡ Some Step.Over) }
+        ensures own { S.input reader.new ≡ S.input reader.old }
+        ensures kept { S.taken reader.new ≡ S.taken reader.old }
     {
         let mut piece = [0; PIECE];
         let room = MOST_BYTES.saturating_sub(self.bytes.len()).min(PIECE);
@@ -116,15 +119,17 @@ impl Gathering {
         }
     }
 
-    /// Reads what is there, by at most 16 reads, until no more is wanted. It is over where a read fails or memory is refused. Else all
-    /// that was read stands behind what came before, and where it is settled the input is at its end, or what it asks for is known. No more
-    /// is waited for of a whole request.
-    pub fn gather<R: Read>(&mut self, reader: &mut R) -> Step
-        ensures grew { (result ≡ Step.Over → ⊥) → Grew (R.remaining reader.old) (R.remaining reader.new)
+    /// Reads what is there, by at most 16 reads, until no more is wanted. It is over where a read fails or memory is
+    /// refused. Else all that was read stands behind what came before, and where it is settled the input is at its end,
+    /// or what it asks for is known. No more is waited for of a whole request.
+    pub fn gather<S: Socket>(&mut self, reader: &mut S) -> Step
+        ensures grew { (result ≡ Step.Over → ⊥) → Grew (S.remaining reader.old) (S.remaining reader.new)
             self.old.bytes.items self.new.bytes.items }
         ensures settled { result ≡ Step.Settled
-            → IsThere self.new.is_ended (R.remaining reader.new) self.new.bytes.items }
+            → IsThere self.new.is_ended (S.remaining reader.new) self.new.bytes.items }
         ensures waits { IsWhole self.new.bytes.items → (result ≡ Step.Settled) ⊎ (result ≡ Step.Over) }
+        ensures own { S.input reader.new ≡ S.input reader.old }
+        ensures kept { S.taken reader.new ≡ S.taken reader.old }
     {
         if self.is_settled() {
             return Step::Settled;
