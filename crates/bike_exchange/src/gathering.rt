@@ -1,9 +1,10 @@
 //! The bytes of a request, as they come.
 
-ghost use Rattle.std.specs.Prelude.{◌≡◌, ◌⊎◌, [], ◌++◌, true, false, IsTrue, Some, OnOk};
+ghost use Rattle.std.specs.Prelude.{◌≡◌, ◌⊎◌, ◌&&◌, not, [], ◌++◌, true, false, IsTrue, Some, OnOk};
 ghost use Rattle.bike_incoming.specs.Received.{Grew};
 ghost use Rattle.bike_exchange.specs.Settled.{IsSettled, IsThere, IsWhole};
-ghost use Rattle.bike_exchange.specs.Awaiting.{Awaits};
+ghost use Rattle.std.specs.List.{list_all};
+ghost use Rattle.bike_exchange.specs.Awaiting.{Awaits, is_line_byte};
 
 use crate::connection::Step;
 use crate::limits::{MOST_CALLS, PIECE};
@@ -23,10 +24,21 @@ pub struct Gathering {
     awaited: Awaited,
     /// Whether a line end came since.
     has_line_end: bool,
+    /// Whether no more than empty lines came, which stand before a head and are none (RFC 9112, section 2.2).
+    is_blank: bool,
     /// Whether nothing more comes.
     pub(crate) is_ended: bool,
 
     ghost awaits: { Awaits awaited has_line_end bytes.items },
+
+    ghost blank: { IsTrue is_blank → list_all is_line_byte bytes.items ≡ true },
+}
+
+/// Whether no byte stands here but those of line ends.
+fn are_line_ends(bytes: &[u8]) -> bool
+    ensures { result ≡ list_all is_line_byte bytes.now }
+{
+    bytes.iter().all(|b| *b == b'\n' || *b == b'\r')
 }
 
 impl Gathering {
@@ -38,6 +50,7 @@ impl Gathering {
             bytes: Vec::new(alloc),
             awaited: Awaited::LineEnd(0),
             has_line_end: false,
+            is_blank: true,
             is_ended: false,
         }
     }
@@ -47,6 +60,7 @@ impl Gathering {
         ensures { OnOk result (self.new.bytes.items ≡ self.old.bytes.items ++ bytes.now) }
     {
         self.has_line_end |= bytes.contains(&b'\n');
+        self.is_blank &= are_line_ends(bytes);
         let length = self.bytes.len();
         let most = MOST_BYTES.saturating_sub(length);
         let room = length.min(most).max(bytes.len());
@@ -54,13 +68,20 @@ impl Gathering {
         self.bytes.extend_from_slice(bytes)
     }
 
-    /// Whether the bytes are to be looked at once more, as a whole request is. Where no line end comes
-    /// that is once there are twice as many, so that not all are looked at for each that comes.
+    /// Whether a line end came since, and not only those of empty lines.
+    fn has_line(&self) -> bool
+        ensures { result ≡ (self.now.has_line_end && not self.now.is_blank) }
+    {
+        self.has_line_end && !self.is_blank
+    }
+
+    /// Whether the bytes are to be looked at once more, as a whole request is. Where no line end comes, or none but
+    /// those of empty lines, that is once there are twice as many, so that not all are looked at for each that comes.
     fn may_be_settled(&self) -> bool
         ensures { IsWhole self.now.bytes.items → IsTrue result }
     {
         match self.awaited {
-            Awaited::LineEnd(most) => self.has_line_end || self.bytes.len() > most,
+            Awaited::LineEnd(most) => self.has_line() || self.bytes.len() > most,
             Awaited::Bytes(length) => self.bytes.len() >= length,
         }
     }
