@@ -1,26 +1,26 @@
--- Connections that are handed out, one of those ahead.
-use Rattle.std.proofs.Common.{◌≡◌, ℕ, List, [], ◌∷◌, ◌++◌, Option, Some, None, is_some, true, false, subst}
-use Rattle.bike_exchange.specs.Asking.{Coming}
-use Rattle.bike_connections.specs.Ahead.{Loses}
+-- Clients who are handed out, one of those that were there.
+use Rattle.std.proofs.Common.{◌≡◌, ℕ, List, ◌∷◌, Option, Some, None, is_some, Bool, true, false, subst}
 use Rattle.bike_exchange.specs.declared.exchange.Exchange.{Exchange}
-use Rattle.bike_exchange.specs.Asking.{coming_from}
+use Rattle.bike_exchange.specs.Connected.{Connected, handed_as}
+use Rattle.bike_connections.specs.Ahead.{Loses}
 use Rattle.bike_connections.specs.Handed.{Gives}
 use Rattle.bike_connections.proofs.Losing.{loses_via}
 
--- one that was taken out, by itself
-pub gives_taken : {S : Type 0} (coming : S → List ℕ) (old new x : List Coming) (exchange : Exchange S) → Loses old (x ++ new)
-    → x ≡ coming_from coming exchange ∷ [] → Loses old (coming_from coming exchange ∷ new)
-gives_taken {S} coming old new x exchange out is = subst (λ (xs : List Coming). Loses old (xs ++ new)) is out
+module _ {S : Type 0} (known : Bool) (input coming taken : S → List ℕ) where
+  -- one that was taken out
+  pub gives_taken : (old new : List Connected) (x : Connected) (exchange : Exchange S) → Loses old (x ∷ new)
+      → x ≡ handed_as input coming taken exchange → Loses old (handed_as input coming taken exchange ∷ new)
+  gives_taken old new x exchange out is = subst (λ (y : Connected). Loses old (y ∷ new)) is out
 
--- after others were lost
-pub gives_after : {S : Type 0} (coming : S → List ℕ) (old middle seen new : List Coming) (given : Option (Exchange S × List ℕ)) → seen ≡ middle
-    → Loses old middle → Gives coming seen new given → Gives coming old new given
-gives_after {S} coming old middle seen new None is lost gives = loses_via old middle seen new is lost gives
-gives_after {S} coming old middle seen new (Some handed) is lost gives =
-    (loses_via old middle seen (coming_from coming handed.0 ∷ new) is lost gives.0, gives.1)
+  -- after others were lost
+  pub gives_after : (old middle seen new : List Connected) (given : Option (Exchange S × List ℕ)) → seen ≡ middle
+      → Loses old middle → Gives known input coming taken seen new given → Gives known input coming taken old new given
+  gives_after old middle seen new None is lost gives = loses_via old middle seen new is lost gives
+  gives_after old middle seen new (Some handed) is lost gives =
+      (loses_via old middle seen (handed_as input coming taken handed.0 ∷ new) is lost gives.0, gives.1, gives.2)
 
--- where none is
-pub gives_none : {S : Type 0} (coming : S → List ℕ) (old new : List Coming) (given : Option (Exchange S × List ℕ)) → is_some given ≡ false
-    → Gives coming old new given → Loses old new
-gives_none {S} coming old new None none gives = gives
-gives_none {S} coming old new (Some handed) none gives = absurd (let e : true ≡ false = none in cc)
+  -- where none is
+  pub gives_none : (old new : List Connected) (given : Option (Exchange S × List ℕ)) → is_some given ≡ false
+      → Gives known input coming taken old new given → Loses old new
+  gives_none old new None none gives = gives
+  gives_none old new (Some handed) none gives = absurd (let e : true ≡ false = none in cc)

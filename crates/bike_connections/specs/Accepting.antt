@@ -1,5 +1,5 @@
 -- What accepting a connection gives.
-use Rattle.std.specs.Prelude.{ℕ, ◌≤◌, List, ◌∷◌, ◌++◌, take, Option, Some, None, IfSome, Result, Ok, Err, IfOk}
+use Rattle.std.specs.Prelude.{◌≡◌, ℕ, ◌≤◌, List, [], ◌∷◌, ◌++◌, take, ⊤, Option, Some, None, IfSome, Result, Ok, Err, IfOk}
 use Rattle.bike_connections.specs.declared.network.Accepted.{Accepted}
 use Rattle.bike_connections.specs.declared.network.Accepted.TheVariants.{One, Lost, Nobody, Failed}
 use Rattle.bike_exchange.specs.Asking.{Coming}
@@ -23,9 +23,28 @@ module _ {S : Type 0} (coming : S → List ℕ) where
 
   -- the same, where the first bytes of it stand in this piece
   abbrev pub PicksAlone : List Coming → List Coming → List ℕ → Option (S × ℕ × ℕ) → Type 0
-  PicksAlone old new piece (Some one) = Loses old (record { moment = one.1; input = take one.2 piece ++ coming one.0 } ∷ new)
+  PicksAlone old new piece (Some one) =
+      Loses old (record { moment = one.1; input = take one.2 piece ++ coming one.0 } ∷ new)
   PicksAlone old new piece None = Loses old new
 
   abbrev pub AcceptsAlone : {E : Type 0} → List Coming → List Coming → List ℕ → Result (Option (S × ℕ × ℕ)) E → Type 0
   AcceptsAlone {E} old new piece (Ok accepted) = PicksAlone old new piece accepted
   AcceptsAlone {E} old new piece (Err error) = Loses old new
+
+  module _ (input taken : S → List ℕ) where
+    -- of all that it sends this came, the rest comes still, and nothing was sent to it
+    abbrev pub IsFresh : List ℕ → S → Type 0
+    IsFresh came socket = (input socket ≡ came ++ coming socket) × (taken socket ≡ [])
+
+    -- so is who is accepted
+    abbrev pub IsFreshOne : Accepted S → Type 0
+    IsFreshOne (One socket moment) = IsFresh [] socket
+    IsFreshOne Lost = ⊤
+    IsFreshOne Nobody = ⊤
+    IsFreshOne Failed = ⊤
+
+    abbrev pub AreFresh : {E : Type 0} → Result (Accepted S) E → Type 0
+    AreFresh {E} told = IfOk told IsFreshOne
+
+    abbrev pub AreFreshAlone : {E : Type 0} → List ℕ → Result (Option (S × ℕ × ℕ)) E → Type 0
+    AreFreshAlone {E} piece told = IfOk told (λ accepted. IfSome accepted (λ one. IsFresh (take one.2 piece) one.0))

@@ -1,13 +1,23 @@
 -- Connections of which it is known what comes.
 use Rattle.std.specs.Prelude.{List, [], ◌∷◌, ◌++◌, Option, Some, None, IsPermutation}
 use Rattle.bike_exchange.specs.Asking.{Coming}
+use Rattle.bike_exchange.specs.Connected.{Connected}
 
--- those that were ahead are ahead still, but for some that ended with nothing asked of the desk
-abbrev pub Loses : List Coming → List Coming → Type 0
-Loses old new = (lost : List Coming) × IsPermutation old (lost ++ new)
+-- those that were there are there still, each as it was, but for some that ended
+abbrev pub Loses : {X : Type 0} → List X → List X → Type 0
+Loses {X} old new = (lost : List X) × IsPermutation old (lost ++ new)
 
--- those ahead in slots, of which each may have some
-abbrev pub ahead_in : {X : Type 0} → (X → List Coming) → List (Option X) → List Coming
-ahead_in {X} ahead [] = []
-ahead_in {X} ahead (None ∷ slots) = ahead_in ahead slots
-ahead_in {X} ahead (Some x ∷ slots) = ahead x ++ ahead_in ahead slots
+-- those in slots
+abbrev pub open_in : {X : Type 0} → List (Option X) → List X
+open_in {X} [] = []
+open_in {X} (None ∷ slots) = open_in slots
+open_in {X} (Some x ∷ slots) = x ∷ open_in slots
+
+-- a client that isn't accepted yet: nothing was sent to it
+abbrev pub fresh : Coming → Connected
+fresh coming = record { client = coming; ahead = coming ∷ []; response = [] }
+
+-- the requests that aren't answered yet
+abbrev pub ahead_of : List Connected → List Coming
+ahead_of [] = []
+ahead_of (one ∷ others) = one.ahead ++ ahead_of others

@@ -1,16 +1,13 @@
 -- Connections that are handed out, to be answered.
-use Rattle.std.specs.Prelude.{◌≡◌, ℕ, List, [], ◌∷◌, Option, Some, None, Result, Ok, Err}
+use Rattle.std.specs.Prelude.{◌≡◌, ℕ, List, [], ◌∷◌, Bool, Option, Some, None, Result, Ok, Err, IfOk, IfSome}
 use Rattle.bike_exchange.specs.declared.exchange.Exchange.{Exchange}
-use Rattle.bike_exchange.specs.Asking.{Coming, moment_of, unread, coming_from}
+use Rattle.bike_exchange.specs.Asking.{Coming, moment_of, unread}
+use Rattle.bike_exchange.specs.Connected.{Connected, IsRequest, handed_as}
 use Rattle.bike_connections.specs.Ahead.{Loses}
 
 module _ {S : Type 0} (coming : S → List ℕ) where
-  -- one of those ahead is given, to which nothing was sent, or none; others may be lost
-  abbrev pub Gives : List Coming → List Coming → Option (Exchange S × List ℕ) → Type 0
-  Gives old new (Some handed) = Loses old (coming_from coming handed.0 ∷ new) × (handed.1 ≡ [])
-  Gives old new None = Loses old new
-
-  -- One of those ahead is handed out with all that its client sends, at the moment of its own acceptance. Nothing was sent to it.
+  -- One of those ahead is handed out with all that its client sends, at the moment of its own acceptance. Nothing was
+  -- sent to it.
   pub record HandsOut (old new : List Coming) (exchange : Exchange S) (answer : List ℕ) : Type 0 where
     pub coming_one : Coming
     pub ahead : Loses old (coming_one ∷ new)
@@ -18,8 +15,28 @@ module _ {S : Type 0} (coming : S → List ℕ) where
     pub reads : unread coming exchange ≡ coming_one.input
     pub writes : answer ≡ []
 
-  -- WHAT IS HANDED OUT: one of those ahead; or none, where none is ahead any more; an error loses no more than some of them
+  -- WHAT IS HANDED OUT: one of those ahead; or none, where none is ahead any more; an error loses no more than some of
+  -- them
   abbrev pub Hands : {E : Type 0} → List Coming → List Coming → Result (Option (Exchange S × List ℕ)) E → Type 0
   Hands {E} old new (Ok (Some handed)) = HandsOut old new handed.0 handed.1
   Hands {E} old new (Ok None) = new ≡ []
   Hands {E} old new (Err error) = Loses old new
+
+module _ {S : Type 0} (known : Bool) (input coming taken : S → List ℕ) where
+  -- a client is handed out as it was, with its whole request and an answer that is empty, or none; others may be lost
+  abbrev pub Gives : List Connected → List Connected → Option (Exchange S × List ℕ) → Type 0
+  Gives old new (Some handed) =
+      Loses old (handed_as input coming taken handed.0 ∷ new) × (handed.1 ≡ []) × IsRequest known coming handed.0
+  Gives old new None = Loses old new
+
+module _ {S : Type 0} (input coming taken : S → List ℕ) where
+  -- WHO IS HANDED OUT: one client, as it was; each other one is as it was, and so is what it takes, or it ended
+  abbrev pub HandsOver : {E : Type 0} → List Connected → List Connected
+      → Result (Option (Exchange S × List ℕ)) E → Type 0
+  HandsOver {E} old new (Ok (Some handed)) = Loses old (handed_as input coming taken handed.0 ∷ new)
+  HandsOver {E} old new (Ok None) = new ≡ []
+  HandsOver {E} old new (Err error) = Loses old new
+
+-- of its request no more is wanted
+abbrev pub AreWhole : {S E : Type 0} → Bool → (S → List ℕ) → Result (Option (Exchange S × List ℕ)) E → Type 0
+AreWhole {S} {E} known coming told = IfOk told (λ given. IfSome given (λ handed. IsRequest known coming handed.0))

@@ -1,8 +1,10 @@
 //! Accepting, waiting, and whose turn it is.
 
-ghost use Rattle.std.specs.Prelude.{◌≡◌, ◌∷◌, ◌++◌, IsTrue, IfOk};
-ghost use Rattle.bike_connections.specs.Ahead.{Loses};
-ghost use Rattle.bike_connections.specs.Handed.{Gives, Hands};
+ghost use Rattle.std.specs.Prelude.{◌≡◌, ◌<◌, ◌-◌, ◌↔◌, ◌∷◌, map, IsTrue, IfOk, Some, if◌then◌else◌};
+ghost use Rattle.bike_exchange.specs.Connected.{begun_as, answered_as};
+ghost use Rattle.bike_connections.specs.Ahead.{Loses, fresh, ahead_of};
+ghost use Rattle.bike_connections.specs.Handed.{Gives, Hands, HandsOver, AreWhole};
+ghost use Rattle.bike_connections.specs.Turns.{nanos, sooner_of};
 
 use crate::limits::{ACCEPTS_AGAIN, TURN};
 use crate::network::{Accepted, Network};
@@ -15,7 +17,7 @@ use std::io::ErrorKind;
 use std::marker::Model;
 use std::time::Duration;
 
-/// The connections of a network; seen as those that aren't answered yet.
+/// The connections of a network; seen as the clients that are connected, and those that aren't accepted yet.
 #[derive(Drop)]
 pub struct Connections<N: Network> {
     alloc: Global,
@@ -32,18 +34,47 @@ pub struct Connections<N: Network> {
 }
 
 impl<N: Network> Model for Connections<N> {
-    ghost use Rattle.std.specs.Prelude.{List, ◌++◌};
-    ghost use Rattle.bike_exchange.specs.Asking.{Coming};
+    ghost use Rattle.std.specs.Prelude.{List, ◌++◌, map};
+    ghost use Rattle.bike_exchange.specs.Connected.{Connected};
+    ghost use Rattle.bike_connections.specs.Ahead.{fresh};
 
-    ghost Value = { List Coming };
+    ghost Value = { List Connected };
 
-    ghost view = { λ c. c.connections ++ N.ahead c.network };
+    ghost view = { λ c. c.connections ++ map fresh (N.ahead c.network) };
+}
+
+/// For how long is waited: not at all where something is to be done, and else until the sooner of two moments.
+fn time_to_wait(
+    has_work: bool,
+    patience: Option<Duration>,
+    accepts_in: Option<Duration>,
+) -> Option<Duration>
+    ensures { nanos result ≡ (if has_work then Some 0 else sooner_of (nanos patience) (nanos accepts_in)) }
+{
+    if has_work {
+        return Some(Duration::ZERO);
+    }
+    match accepts_in {
+        Some(end) => sooner(patience, end),
+        None => patience,
+    }
+}
+
+/// Takes one of the turns that are left; false where none is.
+fn take_turn(left: &mut usize) -> bool
+    ensures some { IsTrue result ↔ 0 < left.old }
+    ensures left { left.new ≡ left.old - 1 }
+{
+    let some = *left > 0;
+    *left = left.saturating_sub(1);
+    some
 }
 
 impl<N: Network> Connections<N> {
     /// None is open. Takes the memory for all that may be.
     pub fn new(alloc: Global, network: N) -> io::Result<Connections<N>>
-        ensures { IfOk result (λ made. made ≡ N.ahead network) }
+        ensures ahead { IfOk result (λ made. ahead_of made ≡ N.ahead network) }
+        ensures clients { IfOk result (λ made. made ≡ map fresh (N.ahead network)) }
     {
         let connections = Open::new(alloc)?;
         Ok(Connections {
@@ -60,7 +91,8 @@ impl<N: Network> Connections<N> {
     /// Takes in a connection that was accepted at this moment, and of whose request this came.
     fn take_in(&mut self, socket: N::Socket, moment: Moment, came: &[u8])
         ensures { IsTrue N.Socket.is_known
-            → Loses (record { moment = moment; input = came.now ++ N.Socket.coming socket } ∷ self.old) self.new }
+            → Loses (begun_as N.Socket.input N.Socket.coming N.Socket.taken socket moment came.now ∷ self.old)
+            self.new }
     {
         let Ok(connection) = Connection::begin(self.alloc, socket, moment, self.now, came) else {
             return;
@@ -169,14 +201,13 @@ impl<N: Network> Connections<N> {
 
     /// For how long is waited at most.
     fn patience(&self) -> Option<Duration> {
-        if self.connections.has_work() {
-            return Some(Duration::ZERO);
-        }
+        let accepts_in = if self.has_place() {
+            Some(self.accepts_from.saturating_sub(self.now))
+        } else {
+            None
+        };
         let patience = self.connections.patience(self.now);
-        if self.has_place() {
-            return sooner(patience, self.accepts_from.saturating_sub(self.now));
-        }
-        patience
+        time_to_wait(self.connections.has_work(), patience, accepts_in)
     }
 
     /// Waits until a socket is ready or somebody's time is over.
@@ -197,6 +228,13 @@ impl<N: Network> Connections<N> {
         Ok(())
     }
 
+    /// Ends those whose time is over.
+    fn give_up(&mut self)
+        ensures { Loses self.old self.new }
+    {
+        self.connections.give_up(self.now);
+    }
+
     /// One turn where some are open: everybody goes on as far as that is possible now.
     fn turn_of_many(&mut self) -> io::Result<()>
         ensures { IsTrue N.Socket.is_known → Loses self.old self.new }
@@ -204,7 +242,7 @@ impl<N: Network> Connections<N> {
         self.step_all()?;
         self.read_clock()?;
         self.accept_some()?;
-        self.connections.give_up(self.now);
+        self.give_up();
         Ok(())
     }
 
@@ -223,18 +261,19 @@ impl<N: Network> Connections<N> {
 
     /// The next of those that ask for no feed, in this turn.
     fn next_short(&mut self) -> Option<(Exchange<N::Socket>, Answer)>
-        ensures { Gives N.Socket.coming self.old self.new result }
+        ensures { Gives N.Socket.is_known N.Socket.input N.Socket.coming N.Socket.taken
+            self.old self.new result }
     {
-        if self.answers == 0 {
+        if !take_turn(&mut self.answers) {
             return None;
         }
-        self.answers -= 1;
         self.connections.next(false)
     }
 
     /// The next of those that may ask for a feed, of which each turn has one.
     fn next_long(&mut self) -> Option<(Exchange<N::Socket>, Answer)>
-        ensures { Gives N.Socket.coming self.old self.new result }
+        ensures { Gives N.Socket.is_known N.Socket.input N.Socket.coming N.Socket.taken
+            self.old self.new result }
     {
         if !self.may_publish {
             return None;
@@ -245,7 +284,8 @@ impl<N: Network> Connections<N> {
 
     /// The next of those whose request is there in this turn.
     fn next_in_turn(&mut self) -> Option<(Exchange<N::Socket>, Answer)>
-        ensures { Gives N.Socket.coming self.old self.new result }
+        ensures { Gives N.Socket.is_known N.Socket.input N.Socket.coming N.Socket.taken
+            self.old self.new result }
     {
         let next = self.next_short();
         if next.is_some() {
@@ -254,10 +294,16 @@ impl<N: Network> Connections<N> {
         self.next_long()
     }
 
-    /// The next connection whose request is there, in the order in which they were, but that one feed a turn comes behind the others. With
-    /// it comes what takes its answer. None once all are over that were to be accepted. An error is a network that fails.
+    /// The next connection whose request is whole, in the order in which they were, but that one feed a turn comes
+    /// behind the others. With it comes what takes its answer. None once all are over that were to be accepted. An
+    /// error is a network that fails. What others took meanwhile is the next of their answers, and what they are still
+    /// to take is the rest of them.
     pub fn next(&mut self) -> io::Result<Option<(Exchange<N::Socket>, Answer)>>
-        ensures { IsTrue N.Socket.is_known → Hands N.Socket.coming self.old self.new result }
+        ensures hands { IsTrue N.Socket.is_known
+            → Hands N.Socket.coming (ahead_of self.old) (ahead_of self.new) result }
+        ensures clients { IsTrue N.Socket.is_known
+            → HandsOver N.Socket.input N.Socket.coming N.Socket.taken self.old self.new result }
+        ensures whole { AreWhole N.Socket.is_known N.Socket.coming result }
     {
         for _turn in 0..u64::MAX {
             match self.next_in_turn() {
@@ -274,28 +320,49 @@ impl<N: Network> Connections<N> {
         Err(ErrorKind::Other.into())
     }
 
-    /// Takes a connection back with its answer, which goes out as its client takes it. It may have been made before all of the request
-    /// was read (`is_early`): then what comes still is read for a moment.
+    /// Takes a connection back with its answer, which goes out to its own client as that takes it, once. It may have
+    /// been made before all of the request was read (`is_early`): then what comes still is read for a moment.
     pub fn finish(&mut self, exchange: Exchange<N::Socket>, answer: Answer, is_early: bool)
-        ensures { IsTrue N.Socket.is_known → Loses self.old self.new }
+        ensures ahead { IsTrue N.Socket.is_known → Loses (ahead_of self.old) (ahead_of self.new) }
+        ensures clients { IsTrue N.Socket.is_known
+            → Loses (answered_as N.Socket.input N.Socket.coming N.Socket.taken exchange answer ∷ self.old) self.new }
     {
         let connection = exchange.into_answered(answer, is_early);
         self.connections
             .insert(self.network.registry(), connection, self.now);
     }
 
-    /// Accepts and reads no more, and sends the answers under way for so long at most.
-    pub fn close(&mut self, patience: Duration) -> io::Result<()> {
+    /// Accepts nobody any more, and ends those that have no answer under way. The others have no longer than this.
+    fn begin_closing(&mut self, end: Duration)
+        ensures { IsTrue N.Socket.is_known → Loses self.old self.new }
+    {
         self.network.close();
-        let now = self.network.now()?;
-        self.connections.close(now.saturating_add(patience));
+        self.connections.close(end);
+    }
+
+    /// One turn of closing; whether none is open any more.
+    fn turn_of_closing(&mut self) -> io::Result<bool>
+        ensures { IsTrue N.Socket.is_known → Loses self.old self.new }
+    {
+        self.read_clock()?;
+        self.give_up();
+        if self.connections.is_empty() {
+            return Ok(true);
+        }
+        self.step_all()?;
+        Ok(false)
+    }
+
+    /// Accepts and reads no more, and sends the answers under way for so long at most.
+    pub fn close(&mut self, patience: Duration) -> io::Result<()>
+        ensures { IsTrue N.Socket.is_known → Loses self.old self.new }
+    {
+        self.read_clock()?;
+        self.begin_closing(self.now.saturating_add(patience));
         for _turn in 0..u64::MAX {
-            self.now = self.network.now()?;
-            self.connections.give_up(self.now);
-            if self.connections.is_empty() {
+            if self.turn_of_closing()? {
                 return Ok(());
             }
-            self.step_all()?;
         }
         Ok(())
     }

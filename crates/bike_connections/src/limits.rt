@@ -1,6 +1,7 @@
 //! How much the connections may take together.
 
-/// How many connections are open at once at most. Who comes then waits in the system's queue, and not at the cost of its ten seconds.
+/// How many connections are open at once at most. Who comes then waits in the system's queue, and not at the cost of
+/// its ten seconds.
 pub const MOST_OPEN: usize = 1000;
 
 /// How many events, connections and answers one turn takes at most, before it is the others' turn.

@@ -1,7 +1,8 @@
 //! Where connections come from.
 
 ghost use Rattle.std.specs.Prelude.{◌≡◌, [], length, IsTrue};
-ghost use Rattle.bike_connections.specs.Accepting.{Accepts, AcceptsAlone, IsWithin};
+ghost use Rattle.bike_connections.specs.Ahead.{Loses};
+ghost use Rattle.bike_connections.specs.Accepting.{Accepts, AcceptsAlone, IsWithin, AreFresh, AreFreshAlone};
 
 use bike_exchange::Socket;
 use bike_fixed::Moment;
@@ -43,17 +44,23 @@ pub trait Network: Drop {
 
     /// Accepts one without waiting. An error is a network that accepts nobody any more.
     fn accept(&mut self) -> io::Result<Accepted<Self::Socket>>
-        ensures { IsTrue Self.Socket.is_known → Accepts Self.Socket.coming (ahead self.old) (ahead self.new) result };
+        ensures accepts { IsTrue Self.Socket.is_known
+            → Accepts Self.Socket.coming (ahead self.old) (ahead self.new) result }
+        ensures fresh { IsTrue Self.Socket.is_known
+            → AreFresh Self.Socket.coming Self.Socket.input Self.Socket.taken result };
 
-    /// Waits for one, and a moment for its request; with it comes the moment at which it was accepted, and how many bytes were read into
-    /// the piece. None where it didn't stay, or where accepting failed, behind the moment after which it may go well.
+    /// Waits for one, and a moment for its request; with it comes the moment at which it was accepted, and how many
+    /// bytes were read into the piece. None where it didn't stay, or where accepting failed, behind the moment after
+    /// which it may go well.
     fn accept_alone(
         &mut self,
         piece: &mut [u8],
     ) -> io::Result<Option<(Self::Socket, Moment, usize)>>
         ensures bound { IsWithin (length piece.new) result }
         ensures accepts { IsTrue Self.Socket.is_known
-            → AcceptsAlone Self.Socket.coming (ahead self.old) (ahead self.new) piece.new result };
+            → AcceptsAlone Self.Socket.coming (ahead self.old) (ahead self.new) piece.new result }
+        ensures fresh { IsTrue Self.Socket.is_known
+            → AreFreshAlone Self.Socket.coming Self.Socket.input Self.Socket.taken piece.new result };
 
     /// Waits until a socket is ready, one may be accepted or so long has passed.
     fn wait(&mut self, patience: Option<Duration>) -> io::Result<()>
@@ -68,5 +75,6 @@ pub trait Network: Drop {
         ensures { ahead self.new ≡ ahead self.old };
 
     /// Accepts nobody any more.
-    fn close(&mut self);
+    fn close(&mut self)
+        ensures { IsTrue Self.Socket.is_known → Loses (ahead self.old) (ahead self.new) };
 }

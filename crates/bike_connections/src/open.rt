@@ -1,8 +1,11 @@
 //! The connections that are open.
 
-ghost use Rattle.std.specs.Prelude.{◌≡◌, [], ◌++◌, IsTrue, IfOk, IfSome, IfNone};
+ghost use Rattle.std.specs.Prelude.{◌≡◌, ◌<◌, ◌≤◌, ◌+◌, ◌-◌, ◌↔◌, [], ◌∷◌, length, IsTrue};
+ghost use Rattle.std.specs.Prelude.{IfOk, IfSome, IfNone, Some, option_map};
+ghost use Rattle.std.specs.Duration.{as_nanos};
 ghost use Rattle.bike_connections.specs.Ahead.{Loses};
 ghost use Rattle.bike_connections.specs.Handed.{Gives};
+ghost use Rattle.bike_connections.specs.Turns.{nanos, sooner_of, IsDue};
 
 use crate::limits::MOST_OPEN;
 use bike_exchange::{Answer, BLOCK, Connection, Exchange, Socket, Step};
@@ -18,11 +21,11 @@ const MOST_BLOCKS: usize = 512;
 /// For how many blocks there is room when a feed is begun: more than the longest has.
 const FEED_BLOCKS: usize = 256;
 
-/// For how many milliseconds a client is waited for in all that may still send of a request which was answered before all of it was
-/// read.
+/// For how many milliseconds a client is waited for in all that may still send of a request which was answered before
+/// all of it was read.
 const LINGER: u64 = 200;
 
-/// The connections that are open, by their keys; seen as those that aren't answered yet. A key in a queue is a hint: the connection may
+/// The connections that are open, by their keys; seen as their clients. A key in a queue is a hint: the connection may
 /// have ended, and another have its key.
 #[derive(Drop)]
 pub(crate) struct Open<S: Socket> {
@@ -42,20 +45,45 @@ pub(crate) struct Open<S: Socket> {
 
 impl<S: Socket> Model for Open<S> {
     ghost use Rattle.std.specs.Prelude.{List};
-    ghost use Rattle.bike_exchange.specs.Asking.{Coming};
-    ghost use Rattle.bike_connections.specs.Ahead.{ahead_in};
+    ghost use Rattle.bike_exchange.specs.Connected.{Connected};
+    ghost use Rattle.bike_connections.specs.Ahead.{open_in};
 
-    ghost Value = { List Coming };
+    ghost Value = { List Connected };
 
-    ghost view = { λ o. ahead_in (λ ahead. ahead) o.connections.slots };
+    ghost view = { λ o. open_in o.connections.slots };
 }
 
 /// The sooner of two moments, of which the first may be never.
-pub(crate) fn sooner(soonest: Option<Duration>, end: Duration) -> Option<Duration> {
+pub(crate) fn sooner(soonest: Option<Duration>, end: Duration) -> Option<Duration>
+    ensures { nanos result ≡ sooner_of (nanos soonest) (Some (as_nanos end)) }
+{
     match soonest {
         Some(other) if other < end => Some(other),
         _ => Some(end),
     }
+}
+
+/// How long it is until this moment, which may be never.
+fn time_until(soonest: Option<Duration>, now: Duration) -> Option<Duration>
+    ensures { nanos result ≡ option_map (λ moment. moment - as_nanos now) (nanos soonest) }
+{
+    let soonest = soonest?;
+    Some(soonest.saturating_sub(now))
+}
+
+/// Whether one goes on without waiting: of so many whose request is there, that were put off, or that may ask for a
+/// feed.
+fn is_due(ready: usize, going: usize, feeds: usize, has_feed_room: bool) -> bool
+    ensures { IsTrue result ↔ IsDue ready going feeds has_feed_room }
+{
+    ready > 0 || going > 0 || (feeds > 0 && has_feed_room)
+}
+
+/// Whether a feed may be begun where the answers under way hold so many blocks.
+fn fits_feed(held: usize) -> bool
+    ensures { IsTrue result ↔ held + FEED_BLOCKS ≤ MOST_BLOCKS }
+{
+    held <= MOST_BLOCKS - FEED_BLOCKS
 }
 
 impl<S: Socket> Open<S> {
@@ -82,26 +110,31 @@ impl<S: Socket> Open<S> {
     }
 
     /// Whether one more may be.
-    pub(crate) fn has_room(&self) -> bool {
+    pub(crate) fn has_room(&self) -> bool
+        ensures { IsTrue result ↔ length self.now < MOST_OPEN }
+    {
         self.connections.len() < MOST_OPEN
     }
 
     /// Whether a feed may be begun.
     fn has_feed_room(&self) -> bool {
-        self.held <= MOST_BLOCKS - FEED_BLOCKS
+        fits_feed(self.held)
     }
 
     /// Whether something is to be done without waiting for a socket.
     pub(crate) fn has_work(&self) -> bool {
-        !self.ready.is_empty()
-            || !self.going.is_empty()
-            || (!self.feeds.is_empty() && self.has_feed_room())
+        let has_feed_room = self.has_feed_room();
+        is_due(
+            self.ready.len(),
+            self.going.len(),
+            self.feeds.len(),
+            has_feed_room,
+        )
     }
 
     /// For how long there is nothing to do unless a socket gets ready; none where that is for ever.
     pub(crate) fn patience(&self, now: Duration) -> Option<Duration> {
-        let soonest = self.soonest?;
-        Some(soonest.saturating_sub(now))
+        time_until(self.soonest, now)
     }
 
     /// Puts a connection where it has its next turn; false where it is over, or has no room there.
@@ -151,7 +184,7 @@ impl<S: Socket> Open<S> {
         connection: Connection<S>,
         now: Duration,
     )
-        ensures { IsTrue S.is_known → Loses (connection ++ self.old) self.new }
+        ensures { IsTrue S.is_known → Loses (connection ∷ self.old) self.new }
     {
         let Some((mut connection, step)) = connection.step() else {
             return;
@@ -165,7 +198,7 @@ impl<S: Socket> Open<S> {
 
     /// Takes a connection out.
     fn remove(&mut self, key: usize) -> Option<Connection<S>>
-        ensures taken { IfSome result (λ connection. Loses self.old (connection ++ self.new)) }
+        ensures taken { IfSome result (λ connection. Loses self.old (connection ∷ self.new)) }
         ensures none { IfNone result (self.new ≡ self.old) }
     {
         let connection = self.connections.try_remove(key)?;
@@ -175,7 +208,7 @@ impl<S: Socket> Open<S> {
 
     /// Puts a connection back as it is.
     fn put_back(&mut self, connection: Connection<S>)
-        ensures { Loses (connection ++ self.old) self.new }
+        ensures { Loses (connection ∷ self.old) self.new }
     {
         let blocks = connection.blocks();
         if self.connections.insert(connection).is_ok() {
@@ -214,15 +247,15 @@ impl<S: Socket> Open<S> {
         }
     }
 
-    /// Hands a connection out, with room for so many blocks of an answer; none where its request isn't there, or asks for another kind
-    /// of answer, or where memory is refused, which ends the connection.
+    /// Hands a connection out, with room for so many blocks of an answer; none where its request isn't there, or asks
+    /// for another kind of answer, or where memory is refused, which ends the connection.
     fn hand_out(
         &mut self,
         key: usize,
         is_feed: bool,
         blocks: usize,
     ) -> Option<(Exchange<S>, Answer)>
-        ensures { Gives S.coming self.old self.new result }
+        ensures { Gives S.is_known S.input S.coming S.taken self.old self.new result }
     {
         let connection = self.remove(key)?;
         if connection.may_be_feed() != is_feed {
@@ -252,9 +285,10 @@ impl<S: Socket> Open<S> {
         }
     }
 
-    /// The next of those that may ask for a feed, or of the others. A feed is handed out where there is room for the longest.
+    /// The next of those that may ask for a feed, or of the others. A feed is handed out where there is room for the
+    /// longest.
     pub(crate) fn next(&mut self, is_feed: bool) -> Option<(Exchange<S>, Answer)>
-        ensures { Gives S.coming self.old self.new result }
+        ensures { Gives S.is_known S.input S.coming S.taken self.old self.new result }
     {
         if is_feed && !self.has_feed_room() {
             return None;
@@ -305,14 +339,28 @@ impl<S: Socket> Open<S> {
         }
     }
 
+    /// Ends a connection that has no answer under way, and gives it no longer than this where it has.
+    fn close_one(&mut self, key: usize, end: Duration)
+        ensures { Loses self.old self.new }
+    {
+        let Some(mut connection) = self.remove(key) else {
+            return;
+        };
+        connection.end_by(end);
+        if connection.is_answered() {
+            self.put_back(connection);
+        }
+    }
+
     /// Ends those that have no answer under way, and gives the others no longer than this.
-    pub(crate) fn close(&mut self, end: Duration) {
+    pub(crate) fn close(&mut self, end: Duration)
+        ensures { Loses self.old self.new }
+    {
         self.ready.clear();
         self.feeds.clear();
-        self.connections.retain(|_, connection| {
-            connection.end_by(end);
-            connection.is_answered()
-        });
+        for key in 0..MOST_OPEN {
+            self.close_one(key, end);
+        }
         self.soonest = Some(end);
     }
 }

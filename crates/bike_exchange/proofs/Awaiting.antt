@@ -1,11 +1,11 @@
 -- What a request waits for that isn't whole.
-use Rattle.std.proofs.Common.{◌≡◌, ℕ, ◌+◌, ◌-◌, ◌≤◌, List, [], ◌∷◌, ◌++◌, Bool, true, false, ◌||◌, ◌==◌, nat_le, length, take, drop, map, Result, Ok, Err, is_ok, if◌then◌else◌, refl, sym, ap, ◌∙◌, subst, inl, inr, arith, append_assoc, append-nil, length-append}
+use Rattle.std.proofs.Common.{◌≡◌, ℕ, ◌+◌, ◌-◌, ◌≤◌, List, [], ◌∷◌, ◌++◌, Bool, true, false, ◌&&◌, ◌||◌, ◌==◌, nat_le, length, take, drop, map, Result, Ok, Err, is_ok, if◌then◌else◌, refl, sym, ap, ◌∙◌, subst, inl, inr, arith, append_assoc, append-nil, length-append}
 use Rattle.std.proofs.lemmas.Bool.{cases_lt, le-leb, leb-true, or_cases, or_left, or_right}
 use Rattle.std.proofs.lemmas.List.{drop-append-le}
 use Rattle.std.proofs.Math.Seq.{take-append_seam, take-append-add, drop-append_seam}
-use Rattle.httparse.specs.Ascii.{line_feed, carriage_return}
-use Rattle.std.specs.List.{flat_map}
-use Rattle.httparse.specs.Grammar.{LineEnd, crlf, lf, print_end, print_section, print_field, RequestHead, print_request, HasNoRequest}
+use Rattle.httparse.specs.Ascii.{line_feed, carriage_return, space}
+use Rattle.std.specs.List.{flat_map, list_all}
+use Rattle.httparse.specs.Grammar.{LineEnd, crlf, lf, print_end, print_blank, print_version, print_section, print_field, RequestHead, print_request, HasNoRequest}
 use Rattle.httparse.specs.Spans.{name_and_value}
 use Rattle.httparse.proofs.GrammarLemmas.{request_unique, ReadsRequest-append}
 use Rattle.bike_heads.specs.Head.{HasHead}
@@ -15,9 +15,9 @@ use Rattle.bike_heads.specs.declared.length.BodyLength.TheVariants.{Of}
 use Rattle.bike_exchange.specs.Settled.{HasBody, IsWhole}
 use Rattle.bike_exchange.specs.declared.settled.Awaited.{Awaited}
 use Rattle.bike_exchange.specs.declared.settled.Awaited.TheVariants as awaited
-use Rattle.bike_exchange.specs.Awaiting.{has_line_end, comes, Awaits}
+use Rattle.bike_exchange.specs.Awaiting.{has_line_end, is_line_byte, comes, Awaits}
 use Rattle.std.proofs.Math.Bool.{or_assoc}
-use Rattle.std.proofs.lemmas.List.Folds.{list_any-append}
+use Rattle.std.proofs.lemmas.List.Folds.{list_any-append, list_all-append}
 
 -- ---- a head ends with a line end
 
@@ -155,3 +155,47 @@ nothing_whole head rest reads =
 
 pub none_yet : (bytes : List ℕ) (most : ℕ) → bytes ≡ [] → Awaits (awaited.LineEnd most) false bytes
 none_yet bytes most is more whole = no_line_yet bytes more (subst HasNoRequest (sym is) nothing_whole) whole
+
+-- ---- empty lines alone
+
+both_true : (x y : Bool) → (x && y) ≡ true → (x ≡ true) × (y ≡ true)
+both_true true y e = (refl, e)
+both_true false y e = absurd (let no : false ≡ true = e in cc)
+
+all_front : (xs ys : List ℕ) → list_all is_line_byte (xs ++ ys) ≡ true → list_all is_line_byte xs ≡ true
+all_front xs ys is = (both_true (list_all is_line_byte xs) (list_all is_line_byte ys) (sym (list_all-append is_line_byte xs ys) ∙ is)).0
+
+all_back : (xs ys : List ℕ) → list_all is_line_byte (xs ++ ys) ≡ true → list_all is_line_byte ys ≡ true
+all_back xs ys is = (both_true (list_all is_line_byte xs) (list_all is_line_byte ys) (sym (list_all-append is_line_byte xs ys) ∙ is)).1
+
+-- a head has a space, before its version
+head_in : (head : RequestHead) (rest : List ℕ) → list_all is_line_byte (print_request head ++ rest) ≡ true → ⊥
+unfolding print_request
+head_in h rest is =
+    let line : List ℕ = print_blank h.blank ++ h.method ++ space ∷ h.target ++ space ∷ print_version h.minor in
+    let front = all_front line (print_end h.line_end)
+    (all_front (line ++ print_end h.line_end) (print_section h.fields h.last) (all_front (print_request h) rest is)) in
+    let no : false ≡ true = all_back (print_blank h.blank ++ h.method ++ space ∷ h.target) (space ∷ print_version h.minor) front in
+    cc
+
+blank_waits : (bytes : List ℕ) → list_all is_line_byte bytes ≡ true → IsWhole bytes → ⊥
+blank_waits bytes blank (head, rest, has, body) = head_in head rest (sym (ap (list_all is_line_byte) has.reads.1) ∙ blank)
+
+pub not_blank : (blank : Bool) (bytes : List ℕ) → (blank ≡ true → list_all is_line_byte bytes ≡ true) → IsWhole bytes → blank ≡ false
+not_blank true bytes is whole = absurd (blank_waits bytes (is refl) whole)
+not_blank false bytes is whole = refl
+
+pub blank_none : (bytes : List ℕ) → bytes ≡ [] → list_all is_line_byte bytes ≡ true
+blank_none bytes is = ap (list_all is_line_byte) is
+
+pub blank_added : {E : Type 0} (told : Result (Unit {0}) E) (old new : Bool) (bytes reserved came after : List ℕ)
+    → (old ≡ true → list_all is_line_byte bytes ≡ true) → new ≡ (old && list_all is_line_byte came) → reserved ≡ bytes
+    → after ≡ (if is_ok told then reserved ++ came else reserved) → new ≡ true → list_all is_line_byte after ≡ true
+blank_added {E} (Ok x) old new bytes reserved came after blank flag same is still =
+    let both = both_true old (list_all is_line_byte came) (sym flag ∙ still) in
+    ap (list_all is_line_byte) (is ∙ ap (λ (l : List ℕ). l ++ came) same)
+    ∙ list_all-append is_line_byte bytes came
+    ∙ ap (λ (b : Bool). b && list_all is_line_byte came) (blank both.0)
+    ∙ both.1
+blank_added {E} (Err e) old new bytes reserved came after blank flag same is still =
+    ap (list_all is_line_byte) (is ∙ same) ∙ blank (both_true old (list_all is_line_byte came) (sym flag ∙ still)).0

@@ -1,14 +1,25 @@
 -- A connection that begins.
-use Rattle.std.proofs.Common.{◌≡◌, ℕ, List, [], ◌∷◌, ◌++◌, ap, ◌∙◌}
+use Rattle.std.proofs.Common.{◌≡◌, ℕ, List, [], ◌∷◌, ◌++◌, ap, ◌∙◌, append-nil}
 use Rattle.bike_exchange.specs.declared.peer.Peer.{Peer}
-use Rattle.bike_exchange.specs.Asking.{Coming, coming_of}
+use Rattle.bike_exchange.specs.declared.gathering.Gathering.{Gathering}
+use Rattle.bike_exchange.specs.declared.connection.State.TheVariants as state
+use Rattle.bike_exchange.specs.Connected.{Connected, connected_as, begun_as}
 
--- a connection of which some came
-pub one_is : {S : Type 0} (coming : S → List ℕ) (peer : Peer S) (bytes start came : List ℕ) (moment : ℕ) (socket : S) (x : List Coming)
-    → x ≡ coming_of coming peer bytes ∷ [] → peer.moment ≡ moment → peer.socket ≡ socket → bytes ≡ start ++ came → start ≡ []
-    → x ≡ record { moment = moment; input = came ++ coming socket } ∷ []
-one_is {S} coming peer bytes start came moment socket x is at of_socket grown none =
-    is
-    ∙ ap (λ (m : ℕ). record { moment = m; input = bytes ++ coming peer.socket } ∷ []) at
-    ∙ ap (λ (s : S). record { moment = moment; input = bytes ++ coming s } ∷ []) of_socket
-    ∙ ap (λ (b : List ℕ). record { moment = moment; input = b ++ coming socket } ∷ []) (grown ∙ ap (λ (xs : List ℕ). xs ++ came) none)
+module _ {S : Type 0} (input coming taken : S → List ℕ) where
+  abbrev begun : ℕ → S → List ℕ → List ℕ → Connected
+  begun moment socket bytes response = record {
+    client = record { moment = moment; input = input socket };
+    ahead = record { moment = moment; input = bytes ++ coming socket } ∷ [];
+    response = response;
+  }
+
+  -- a connection of which some came
+  pub one_is : (peer : Peer S) (gathering : Gathering) (start came : List ℕ) (moment : ℕ) (socket : S) (x : Connected)
+      → x ≡ connected_as input coming taken peer (state.Gathering gathering) → peer.moment ≡ moment → peer.socket ≡ socket
+      → gathering.bytes.items ≡ start ++ came → start ≡ [] → x ≡ begun_as input coming taken socket moment came
+  one_is peer gathering start came moment socket x is at of_socket grown none =
+      is
+      ∙ ap (λ (m : ℕ). begun m peer.socket gathering.bytes.items (taken peer.socket ++ [])) at
+      ∙ ap (λ (s : S). begun moment s gathering.bytes.items (taken s ++ [])) of_socket
+      ∙ ap (λ (b : List ℕ). begun moment socket b (taken socket ++ [])) (grown ∙ ap (λ (xs : List ℕ). xs ++ came) none)
+      ∙ ap (λ (r : List ℕ). begun moment socket came r) (append-nil (taken socket))

@@ -1,10 +1,11 @@
 //! Answers that go out as their clients take them.
 
-ghost use Rattle.std.specs.Prelude.{◌≡◌, ◌≤◌, ◌++◌, [], length, take, map, vec_items, Some, IfOk, OnErr};
+ghost use Rattle.std.specs.Prelude.{◌≡◌, ◌≤◌, ◌++◌, [], length, take, map, vec_items, Some, IfOk, OnErr, IsTrue};
 ghost use Rattle.bike_exchange.specs.Answers.{bytes_in, BeginsWith, Sends};
 
 use crate::connection::Step;
 use crate::limits::MOST_CALLS;
+use crate::socket::Socket;
 use std::alloc::{AllocError, Global};
 use std::collections::VecDeque;
 use std::io::{ErrorKind, Write};
@@ -105,10 +106,18 @@ impl Answer {
         }
     }
 
+    /// Whether all of it is sent.
+    pub(crate) fn is_sent(&self) -> bool
+        ensures { IsTrue result → self.now ≡ [] }
+    {
+        self.full.is_empty() && self.taken >= self.last.len()
+    }
+
     /// Sends some bytes, by one write; none where there may be more to do.
-    fn send_some<W: Write>(&mut self, writer: &mut W) -> Option<Step>
-        ensures sends { Sends (W.contents writer.old) (W.contents writer.new) self.old self.new }
+    fn send_some<S: Socket>(&mut self, writer: &mut S) -> Option<Step>
+        ensures sends { Sends (S.contents writer.old) (S.contents writer.new) self.old self.new }
         ensures all { result ≡ Some Step.Sent → self.new ≡ [] }
+        ensures own { S.input writer.new ≡ S.input writer.old }
     {
         self.free();
         let block = first_block(&self.full, &self.last);
@@ -131,11 +140,12 @@ impl Answer {
         }
     }
 
-    /// Sends as much as the client takes now, in at most 16 writes: what is sent and what is left is what there was. `Sent` says that
-    /// nothing is left.
-    pub fn send<W: Write>(&mut self, writer: &mut W) -> Step
-        ensures sends { Sends (W.contents writer.old) (W.contents writer.new) self.old self.new }
+    /// Sends as much as the client takes now, in at most 16 writes: what is sent and what is left is what there was.
+    /// `Sent` says that nothing is left.
+    pub fn send<S: Socket>(&mut self, writer: &mut S) -> Step
+        ensures sends { Sends (S.contents writer.old) (S.contents writer.new) self.old self.new }
         ensures all { result ≡ Step.Sent → self.new ≡ [] }
+        ensures own { S.input writer.new ≡ S.input writer.old }
     {
         for _turn in 0..MOST_CALLS {
             if let Some(step) = self.send_some(writer) {

@@ -1,7 +1,8 @@
 //! What a connection is about.
 
-ghost use Rattle.std.specs.Prelude.{◌≡◌, [], ◌∷◌, ◌++◌, IsTrue, IfSome, IfOk, IfErr};
-ghost use Rattle.bike_exchange.specs.Asking.{coming_of, ahead_as, coming_from};
+ghost use Rattle.std.specs.Prelude.{◌≡◌, [], IsTrue, IsFalse, IfSome, IfOk, IfErr};
+ghost use Rattle.bike_exchange.specs.Connected.{left_in, IsUnderWay, IsReady, IsRequest};
+ghost use Rattle.bike_exchange.specs.Connected.{connected_as, begun_as, handed_as};
 
 use crate::answer::Answer;
 use crate::exchange::Exchange;
@@ -49,7 +50,7 @@ pub(crate) enum State {
     Lingering { pieces: u32 },
 }
 
-/// A connection; seen as itself where it isn't answered yet, and else as nothing.
+/// A connection; seen as its client, of whom it is known what is still to be answered and what is taken.
 #[derive(Drop)]
 pub struct Connection<S: Socket> {
     peer: Peer<S>,
@@ -59,15 +60,18 @@ pub struct Connection<S: Socket> {
 }
 
 impl<S: Socket> Model for Connection<S> {
-    ghost use Rattle.std.specs.Prelude.{List};
-    ghost use Rattle.bike_exchange.specs.Asking.{Coming, ahead_as};
+    ghost use Rattle.bike_exchange.specs.Connected.{Connected, connected_as, IsReady};
 
-    ghost Value = { List Coming };
+    ghost Value = { Connected };
 
-    ghost view = { λ c. ahead_as S.coming c.peer c.state };
+    ghost view = { λ c. connected_as S.input S.coming S.taken c.peer c.state };
+
+    // A request that is told as there is whole.
+    ghost invariant = { λ c. IsReady S.is_known S.coming c.peer c.state };
 }
 
-/// Whether these bytes may ask for a feed: its path, which stands before the version, has this part. No other answer is long.
+/// Whether these bytes may ask for a feed: its path, which stands before the version, has this part. No other answer is
+/// long.
 fn may_be_feed(bytes: &[u8]) -> bool {
     let end = bytes
         .windows(8)
@@ -79,10 +83,24 @@ fn may_be_feed(bytes: &[u8]) -> bool {
     front.windows(6).any(|part| part == b"/gbfs/".as_slice())
 }
 
+/// Whether nothing more is to be sent.
+fn is_sent(state: &State) -> bool
+    ensures all { IsTrue result → left_in state.now ≡ [] }
+    ensures some { IsFalse result → IsUnderWay state.now }
+{
+    match state {
+        State::Sending { answer, .. } => answer.is_sent(),
+        State::Gathering(_) | State::Ready(_) | State::Lingering { .. } => true,
+    }
+}
+
 /// Reads what a client still sends, and drops it.
-fn linger<S: Socket>(socket: &mut S, pieces: &mut u32) -> Step {
+fn linger<S: Socket>(socket: &mut S, pieces: &mut u32) -> Step
+    ensures own { S.input socket.new ≡ S.input socket.old }
+    ensures kept { S.taken socket.new ≡ S.taken socket.old }
+{
     let mut piece = [0; PIECE];
-    for _ in 0..MOST_CALLS {
+    for _turn in 0..MOST_CALLS {
         if *pieces == 0 {
             return Step::Over;
         }
@@ -99,8 +117,10 @@ fn linger<S: Socket>(socket: &mut S, pieces: &mut u32) -> Step {
 
 /// Reads what there is of a request.
 fn gather<S: Socket>(peer: Peer<S>, gathering: Gathering) -> (Peer<S>, State, Step)
-    ensures { IsTrue S.is_known → (result.2 ≡ Step.Over → ⊥)
-        → ahead_as S.coming result.0 result.1 ≡ coming_of S.coming peer gathering.bytes.items ∷ [] }
+    ensures ready { IsReady S.is_known S.coming result.0 result.1 }
+    ensures same { IsTrue S.is_known → (result.2 ≡ Step.Over → ⊥)
+        → connected_as S.input S.coming S.taken result.0 result.1
+        ≡ connected_as S.input S.coming S.taken peer (State.Gathering gathering) }
 {
     let mut peer = peer;
     let mut gathering = gathering;
@@ -113,8 +133,10 @@ fn gather<S: Socket>(peer: Peer<S>, gathering: Gathering) -> (Peer<S>, State, St
 
 /// Reads or writes as far as a socket is ready.
 fn go_on<S: Socket>(peer: Peer<S>, state: State) -> (Peer<S>, State, Step)
-    ensures { IsTrue S.is_known → (result.2 ≡ Step.Over → ⊥)
-        → ahead_as S.coming result.0 result.1 ≡ ahead_as S.coming peer state }
+    ensures ready { IsReady S.is_known S.coming peer state → IsReady S.is_known S.coming result.0 result.1 }
+    ensures same { IsTrue S.is_known → (result.2 ≡ Step.Over → ⊥)
+        → connected_as S.input S.coming S.taken result.0 result.1
+        ≡ connected_as S.input S.coming S.taken peer state }
 {
     match state {
         State::Gathering(gathering) => gather(peer, gathering),
@@ -136,7 +158,8 @@ fn go_on<S: Socket>(peer: Peer<S>, state: State) -> (Peer<S>, State, Step)
 }
 
 impl<S: Socket> Connection<S> {
-    /// A connection that was accepted at this moment, which is now, and of whose request this came; an error where memory is refused.
+    /// A connection that was accepted at this moment, which is now, and of whose request this came; an error where
+    /// memory is refused.
     pub fn begin(
         alloc: Global,
         socket: S,
@@ -144,8 +167,7 @@ impl<S: Socket> Connection<S> {
         now: Duration,
         came: &[u8],
     ) -> Result<Connection<S>, AllocError>
-        ensures { IfOk result
-            (λ begun. begun ≡ record { moment = moment; input = came.now ++ S.coming socket } ∷ []) }
+        ensures { IfOk result (λ begun. begun ≡ begun_as S.input S.coming S.taken socket moment came.now) }
     {
         let peer = Peer::new(socket, moment, now);
         let mut gathering = Gathering::new(alloc);
@@ -155,7 +177,7 @@ impl<S: Socket> Connection<S> {
 
     /// A connection of whose request this came.
     fn gathering(peer: Peer<S>, gathering: Gathering) -> Connection<S>
-        ensures { result ≡ coming_of S.coming peer gathering.bytes.items ∷ [] }
+        ensures { result ≡ connected_as S.input S.coming S.taken peer (State.Gathering gathering) }
     {
         Connection {
             peer,
@@ -166,7 +188,7 @@ impl<S: Socket> Connection<S> {
 
     /// A connection that was answered. The answer may have been made before all of the request was read (`is_early`).
     pub(crate) fn sending(peer: Peer<S>, answer: Answer, is_early: bool) -> Connection<S>
-        ensures { result ≡ [] }
+        ensures { result ≡ connected_as S.input S.coming S.taken peer (State.Sending answer is_early) }
     {
         Connection {
             peer,
@@ -214,7 +236,7 @@ impl<S: Socket> Connection<S> {
 
     /// Whether its client may still send of a request which was answered before all of it was read.
     pub fn is_early(&self) -> bool
-        ensures { IsTrue result → self.now ≡ [] }
+        ensures { IsTrue result → self.now.ahead ≡ [] }
     {
         matches!(&self.state, State::Sending { is_early: true, .. })
     }
@@ -250,7 +272,8 @@ impl<S: Socket> Connection<S> {
 
     /// The connection handed out with its request; as it was where that is still to come.
     pub fn into_exchange(self) -> Result<Exchange<S>, Connection<S>>
-        ensures handed { IfOk result (λ exchange. self ≡ coming_from S.coming exchange ∷ []) }
+        ensures whole { IfOk result (λ exchange. IsRequest S.is_known S.coming exchange) }
+        ensures handed { IfOk result (λ exchange. self ≡ handed_as S.input S.coming S.taken exchange) }
         ensures kept { IfErr result (λ connection. connection ≡ self) }
     {
         let Connection {
@@ -268,11 +291,16 @@ impl<S: Socket> Connection<S> {
         }
     }
 
-    /// Tells the client that nothing more is sent, and reads what it still sends. A connection that is closed while bytes of it are
-    /// unread is reset, and with that the client may lose its answer (RFC 9112, section 9.6).
+    /// Tells the client that nothing more is sent, once its answer is, and reads what it still sends. A connection that
+    /// is closed while bytes of it are unread is reset, and with that the client may lose its answer (RFC 9112, section
+    /// 9.6).
     pub fn linger(&mut self)
-        ensures { self.new ≡ [] }
+        ensures answered { self.new.ahead ≡ [] }
+        ensures kept { self.old.ahead ≡ [] → self.new ≡ self.old }
     {
+        if !is_sent(&self.state) {
+            return;
+        }
         self.peer.socket.shut_writes();
         self.state = State::Lingering {
             pieces: MOST_PIECES,

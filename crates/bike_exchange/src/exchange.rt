@@ -1,7 +1,10 @@
 //! Connections that are handed out.
 
-ghost use Rattle.std.specs.Prelude.{◌≡◌, ◌≤◌, ◌<◌, ◌++◌, [], length, take, drop};
+ghost use Rattle.std.specs.Prelude.{◌≡◌, ◌≤◌, ◌<◌, ◌++◌, [], length, take, drop, Some, None, if◌then◌else◌};
 ghost use Rattle.bike_exchange.specs.Asking.{moment_of, unread};
+ghost use Rattle.std.specs.Io.{ReadsAtMost};
+ghost use Rattle.std.specs.Io.KnownBytes.{ReadConsumes};
+ghost use Rattle.bike_exchange.specs.Connected.{client_of, answered_as};
 
 use crate::answer::Answer;
 use crate::connection::Connection;
@@ -11,8 +14,8 @@ use bike_fixed::Moment;
 use std::io;
 use std::io::{ErrorKind, Read};
 
-/// A connection whose request is there, handed out to be answered, and a reader of its request: it gives the bytes that were gathered,
-/// and then the end of the input where that came. A read of anything else fails.
+/// A connection whose request is there, handed out to be answered, and a reader of its request: it gives the bytes that
+/// were gathered, and then the end of the input where that came. A read of anything else fails.
 #[derive(Drop)]
 pub struct Exchange<S> {
     peer: Peer<S>,
@@ -44,15 +47,17 @@ impl<S: Socket> Exchange<S> {
 
     /// The connection with its answer, which may have been made before all of the request was read (`is_early`).
     pub fn into_answered(self, answer: Answer, is_early: bool) -> Connection<S>
-        ensures { result ≡ [] }
+        ensures { result ≡ answered_as S.input S.coming S.taken self answer }
     {
         Connection::sending(self.peer, answer, is_early)
     }
 
-    /// Copies bytes that were gathered; how many. None are copied where all were read, or where there is no room for any.
+    /// Copies bytes that were gathered; how many. None are copied where all were read, or where there is no room for
+    /// any.
     fn copy(&mut self, buf: &mut [u8]) -> usize
         ensures bound { result ≤ length buf.new }
-        ensures copied { drop self.old.start self.old.bytes.items ≡ take result buf.new ++ drop self.new.start self.new.bytes.items }
+        ensures copied { drop self.old.start self.old.bytes.items
+            ≡ take result buf.new ++ drop self.new.start self.new.bytes.items }
         ensures all { result ≡ 0 → 0 < length buf.new → drop self.new.start self.new.bytes.items ≡ [] }
         ensures peer { self.new.peer ≡ self.old.peer }
     {
@@ -72,7 +77,15 @@ impl<S: Socket> Read for Exchange<S> {
 
     ghost remaining = { λ exchange. if S.is_known then Some (unread S.coming exchange) else None };
 
-    fn read(&mut self, buf: &mut [u8]) -> io::Result<usize> {
+    /// It stays that of its client, who takes nothing meanwhile.
+    fn read(&mut self, buf: &mut [u8]) -> io::Result<usize>
+        ensures bound { ReadsAtMost result buf.new }
+        ensures bytes { ReadConsumes (if S.is_known then Some (unread S.coming self.old) else None)
+            (if S.is_known then Some (unread S.coming self.new) else None) result buf.new }
+        ensures own { client_of S.input S.coming S.taken self.new.peer
+            ≡ client_of S.input S.coming S.taken self.old.peer }
+        ensures kept { S.taken self.new.peer.socket ≡ S.taken self.old.peer.socket }
+    {
         let count = self.copy(buf);
         if count > 0 || buf.is_empty() {
             return Ok(count);

@@ -1,15 +1,17 @@
 //! The bytes of a request, as they come.
 
-ghost use Rattle.std.specs.Prelude.{◌≡◌, ◌⊎◌, [], ◌++◌, true, false, IsTrue, Some, OnOk};
+ghost use Rattle.std.specs.Prelude.{◌≡◌, ◌⊎◌, ◌&&◌, not, [], ◌++◌, true, false, IsTrue, Some, OnOk};
 ghost use Rattle.bike_incoming.specs.Received.{Grew};
 ghost use Rattle.bike_exchange.specs.Settled.{IsSettled, IsThere, IsWhole};
-ghost use Rattle.bike_exchange.specs.Awaiting.{Awaits};
+ghost use Rattle.std.specs.List.{list_all};
+ghost use Rattle.bike_exchange.specs.Awaiting.{Awaits, is_line_byte};
 
 use crate::connection::Step;
 use crate::limits::{MOST_CALLS, PIECE};
 use crate::settled::{Awaited, still_awaited};
+use crate::socket::Socket;
 use std::alloc::{AllocError, Global};
-use std::io::{ErrorKind, Read};
+use std::io::ErrorKind;
 
 /// How many bytes are gathered at most: those of the longest head and of the longest body.
 const MOST_BYTES: usize = 24_576;
@@ -22,10 +24,21 @@ pub struct Gathering {
     awaited: Awaited,
     /// Whether a line end came since.
     has_line_end: bool,
+    /// Whether no more than empty lines came, which stand before a head and are none (RFC 9112, section 2.2).
+    is_blank: bool,
     /// Whether nothing more comes.
     pub(crate) is_ended: bool,
 
     ghost awaits: { Awaits awaited has_line_end bytes.items },
+
+    ghost blank: { IsTrue is_blank → list_all is_line_byte bytes.items ≡ true },
+}
+
+/// Whether no byte stands here but those of line ends.
+fn are_line_ends(bytes: &[u8]) -> bool
+    ensures { result ≡ list_all is_line_byte bytes.now }
+{
+    bytes.iter().all(|b| *b == b'\n' || *b == b'\r')
 }
 
 impl Gathering {
@@ -37,6 +50,7 @@ impl Gathering {
             bytes: Vec::new(alloc),
             awaited: Awaited::LineEnd(0),
             has_line_end: false,
+            is_blank: true,
             is_ended: false,
         }
     }
@@ -46,6 +60,7 @@ impl Gathering {
         ensures { OnOk result (self.new.bytes.items ≡ self.old.bytes.items ++ bytes.now) }
     {
         self.has_line_end |= bytes.contains(&b'\n');
+        self.is_blank &= are_line_ends(bytes);
         let length = self.bytes.len();
         let most = MOST_BYTES.saturating_sub(length);
         let room = length.min(most).max(bytes.len());
@@ -53,13 +68,20 @@ impl Gathering {
         self.bytes.extend_from_slice(bytes)
     }
 
-    /// Whether the bytes are to be looked at once more, as a whole request is. Where no line end comes that is once there are twice as many,
-    /// so that not all are looked at for each that comes.
+    /// Whether a line end came since, and not only those of empty lines.
+    fn has_line(&self) -> bool
+        ensures { result ≡ (self.now.has_line_end && not self.now.is_blank) }
+    {
+        self.has_line_end && !self.is_blank
+    }
+
+    /// Whether the bytes are to be looked at once more, as a whole request is. Where no line end comes, or none but
+    /// those of empty lines, that is once there are twice as many, so that not all are looked at for each that comes.
     fn may_be_settled(&self) -> bool
         ensures { IsWhole self.now.bytes.items → IsTrue result }
     {
         match self.awaited {
-            Awaited::LineEnd(most) => self.has_line_end || self.bytes.len() > most,
+            Awaited::LineEnd(most) => self.has_line() || self.bytes.len() > most,
             Awaited::Bytes(length) => self.bytes.len() >= length,
         }
     }
@@ -84,13 +106,15 @@ impl Gathering {
     }
 
     /// Reads a piece of what is there; none where more may be there.
-    fn read_piece<R: Read>(&mut self, reader: &mut R) -> Option<Step>
-        ensures grew { (result ≡ Some Step.Over → ⊥) → Grew (R.remaining reader.old) (R.remaining reader.new)
+    fn read_piece<S: Socket>(&mut self, reader: &mut S) -> Option<Step>
+        ensures grew { (result ≡ Some Step.Over → ⊥) → Grew (S.remaining reader.old) (S.remaining reader.new)
             self.old.bytes.items self.new.bytes.items }
         ensures settled { result ≡ Some Step.Settled
-            → IsThere self.new.is_ended (R.remaining reader.new) self.new.bytes.items }
+            → IsThere self.new.is_ended (S.remaining reader.new) self.new.bytes.items }
         ensures waits { (IsWhole self.old.bytes.items → ⊥) → IsWhole self.new.bytes.items
             → (result ≡ Some Step.Settled) ⊎ (result ≡ Some Step.Over) }
+        ensures own { S.input reader.new ≡ S.input reader.old }
+        ensures kept { S.taken reader.new ≡ S.taken reader.old }
     {
         let mut piece = [0; PIECE];
         let room = MOST_BYTES.saturating_sub(self.bytes.len()).min(PIECE);
@@ -116,15 +140,17 @@ impl Gathering {
         }
     }
 
-    /// Reads what is there, by at most 16 reads, until no more is wanted. It is over where a read fails or memory is refused. Else all
-    /// that was read stands behind what came before, and where it is settled the input is at its end, or what it asks for is known. No more
-    /// is waited for of a whole request.
-    pub fn gather<R: Read>(&mut self, reader: &mut R) -> Step
-        ensures grew { (result ≡ Step.Over → ⊥) → Grew (R.remaining reader.old) (R.remaining reader.new)
+    /// Reads what is there, by at most 16 reads, until no more is wanted. It is over where a read fails or memory is
+    /// refused. Else all that was read stands behind what came before, and where it is settled the input is at its end,
+    /// or what it asks for is known. No more is waited for of a whole request.
+    pub fn gather<S: Socket>(&mut self, reader: &mut S) -> Step
+        ensures grew { (result ≡ Step.Over → ⊥) → Grew (S.remaining reader.old) (S.remaining reader.new)
             self.old.bytes.items self.new.bytes.items }
         ensures settled { result ≡ Step.Settled
-            → IsThere self.new.is_ended (R.remaining reader.new) self.new.bytes.items }
+            → IsThere self.new.is_ended (S.remaining reader.new) self.new.bytes.items }
         ensures waits { IsWhole self.new.bytes.items → (result ≡ Step.Settled) ⊎ (result ≡ Step.Over) }
+        ensures own { S.input reader.new ≡ S.input reader.old }
+        ensures kept { S.taken reader.new ≡ S.taken reader.old }
     {
         if self.is_settled() {
             return Step::Settled;

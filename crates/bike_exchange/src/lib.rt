@@ -1,7 +1,8 @@
 //! One connection of a client, which is read and written as far as its socket is ready.
 //!
-//! What comes is gathered until a request is whole. Then the connection is handed out as an `Exchange`, and taken back with its `Answer`,
-//! which goes out as the client takes it. Where it is known what comes, the contracts say what is read.
+//! What comes is gathered until a request is whole. Then the connection is handed out as an `Exchange`, and taken back
+//! with its `Answer`, which goes out as the client takes it. Where it is known what comes, the contracts say what is
+//! read.
 #![tactic(auto)]
 
 mod answer;

@@ -1,6 +1,7 @@
 //! How much one connection may take.
 
-/// How many seconds an exchange takes at most, from its acceptance to the last byte of its answer, whatever its client does.
+/// How many seconds an exchange takes at most, from its acceptance to the last byte of its answer, whatever its client
+/// does.
 pub(crate) const PATIENCE: u64 = 10;
 
 /// How many bytes are read at once.

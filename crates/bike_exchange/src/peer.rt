@@ -63,6 +63,8 @@ impl<S: Socket> Peer<S> {
     ) -> io::Result<()>
         ensures kept { S.coming self.new.socket ≡ S.coming self.old.socket }
         ensures moment { self.new.moment ≡ self.old.moment }
+        ensures own { S.input self.new.socket ≡ S.input self.old.socket }
+        ensures taken { S.taken self.new.socket ≡ S.taken self.old.socket }
     {
         let before = self.watched;
         if before == wanted {
@@ -77,6 +79,8 @@ impl<S: Socket> Peer<S> {
     pub(crate) fn watch_reads(&mut self, registry: &S::Registry, key: usize) -> io::Result<()>
         ensures kept { S.coming self.new.socket ≡ S.coming self.old.socket }
         ensures moment { self.new.moment ≡ self.old.moment }
+        ensures own { S.input self.new.socket ≡ S.input self.old.socket }
+        ensures taken { S.taken self.new.socket ≡ S.taken self.old.socket }
     {
         self.watch(registry, key, Watched::Reads(key), Wants::Reads)
     }
@@ -85,6 +89,8 @@ impl<S: Socket> Peer<S> {
     pub(crate) fn watch_writes(&mut self, registry: &S::Registry, key: usize) -> io::Result<()>
         ensures kept { S.coming self.new.socket ≡ S.coming self.old.socket }
         ensures moment { self.new.moment ≡ self.old.moment }
+        ensures own { S.input self.new.socket ≡ S.input self.old.socket }
+        ensures taken { S.taken self.new.socket ≡ S.taken self.old.socket }
     {
         self.watch(registry, key, Watched::Writes(key), Wants::Writes)
     }

@@ -15,8 +15,8 @@ pub(crate) enum Awaited {
     Bytes(usize),
 }
 
-/// What is waited for of a request that begins with these bytes. None where what the input asks for is settled by them, whatever follows:
-/// its head and its body are there, or no head can come.
+/// What is waited for of a request that begins with these bytes. None where what the input asks for is settled by them,
+/// whatever follows: its head and its body are there, or no head can come.
 pub(crate) fn still_awaited(bytes: &[u8]) -> Option<Awaited>
     ensures settled { result ≡ None → IsSettled bytes.now }
     ensures whole { IsWhole bytes.now → result ≡ None }

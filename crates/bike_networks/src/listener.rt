@@ -1,6 +1,8 @@
 //! The listener on a port.
 
-ghost use Rattle.std.specs.Prelude.{◌≡◌, ◌<◌, ◌-◌, IsTrue, IfOk, OnErr};
+ghost use Rattle.std.specs.Prelude.{◌≡◌, ◌<◌, ◌-◌, ◌↔◌, IsTrue, IfOk, OnErr};
+ghost use Rattle.std.specs.IoError.{raw_os_error};
+ghost use Rattle.bike_networks.specs.Limits.{IsGone};
 
 use crate::loopback::LISTENER;
 use mio::net::{TcpListener, TcpStream};
@@ -13,8 +15,11 @@ use std::{io, net};
 /// The number of the error that a socket is of another kind than a call is made for (EOPNOTSUPP).
 const NOT_SUPPORTED: i32 = 95;
 
-/// Whether the listener is gone, so that nobody can be accepted any more. Any other failure of accepting may be over a moment later.
-pub(crate) fn is_gone(error: &Error) -> bool {
+/// Whether the listener is gone, so that nobody can be accepted any more. Any other failure of accepting may be over a
+/// moment later.
+pub(crate) fn is_gone(error: &Error) -> bool
+    ensures { IsTrue result ↔ IsGone (raw_os_error error.now) }
+{
     matches!(
         error.raw_os_error(),
         Some(libc::EBADF | libc::EINVAL | libc::ENOTSOCK | NOT_SUPPORTED)

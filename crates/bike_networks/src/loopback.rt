@@ -27,30 +27,30 @@ pub struct LoopbackSocket {
     stream: TcpStream,
 }
 
-impl Read for LoopbackSocket {
-    fn read(&mut self, buf: &mut [u8]) -> io::Result<usize> {
-        self.stream.read(buf)
-    }
-}
-
-impl Write for LoopbackSocket {
-    fn write(&mut self, buf: &[u8]) -> io::Result<usize> {
-        self.stream.write(buf)
-    }
-
-    fn flush(&mut self) -> io::Result<()> {
-        Ok(())
-    }
-}
-
 impl Socket for LoopbackSocket {
-    ghost use Rattle.std.specs.Prelude.{◌≡◌, [], true, false};
+    ghost use Rattle.std.specs.Prelude.{◌≡◌, [], None, true, false};
 
     type Registry = Registry;
 
     ghost is_known = { false };
 
+    ghost remaining = { λ _. None };
+
+    ghost contents = { λ _. None };
+
+    ghost input = { λ _. [] };
+
     ghost coming = { λ _. [] };
+
+    ghost taken = { λ _. [] };
+
+    fn read(&mut self, buf: &mut [u8]) -> io::Result<usize> {
+        self.stream.read(buf)
+    }
+
+    fn write(&mut self, buf: &[u8]) -> io::Result<usize> {
+        self.stream.write(buf)
+    }
 
     fn watch(
         &mut self,
@@ -75,6 +75,8 @@ impl Socket for LoopbackSocket {
     }
 
     ghost told = { λ _ known. absurd (let none : false ≡ true = known in cc) };
+
+    ghost told_taken = { λ _ known. absurd (let none : false ≡ true = known in cc) };
 }
 
 /// A port of the loopback address, its clock, and what tells which sockets are ready.

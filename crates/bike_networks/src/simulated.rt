@@ -1,14 +1,14 @@
-//! A network in memory, whose clients send and take their bytes in pieces: for tests of every interleaving, and for what contracts say where
-//! all is known that comes.
+//! A network in memory, whose clients send and take their bytes in pieces: for tests of every interleaving, and for
+//! what contracts say where all is known that comes.
 
-ghost use Rattle.std.specs.Prelude.{◌≡◌, ◌<◌, IfOk};
+ghost use Rattle.std.specs.Prelude.{◌≡◌, ◌<◌, [], IfOk};
 
 use bike_connections::{ACCEPTS_AGAIN, Accepted, Network};
 use bike_exchange::{Socket, Wants};
 use bike_fixed::Moment;
 use std::collections::VecDeque;
 use std::io;
-use std::io::{ErrorKind, Read, Write};
+use std::io::ErrorKind;
 use std::time::Duration;
 
 /// A step of a client at which nothing of it comes, or nothing is taken.
@@ -17,9 +17,10 @@ pub const PAUSE: u8 = 0;
 /// A step at which its connection fails.
 pub const FAILURE: u8 = 255;
 
-/// A client: how many turns it waits before it connects, at which moment it is accepted, all that it sends, by which steps it does, and by
-/// which it takes its answer into `taken`. A step is a pause, a failure or a number of bytes at most. Behind the last step all the rest
-/// comes or is taken at once, or nothing more where it is silent.
+/// A client: how many turns it waits before it connects, at which moment it is accepted, all that it sends, by which
+/// steps it does, and by which it takes its answer into `taken`, which is emptied as it is accepted. A step is a pause,
+/// a failure or a number of bytes at most. Behind the last step all the rest comes or is taken at once, or nothing more
+/// where it is silent.
 #[derive(Drop)]
 pub struct Client<'a> {
     pub wait: u64,
@@ -56,12 +57,39 @@ fn next_step(steps: &mut &[u8], is_silent: bool) -> io::Result<usize>
 #[derive(Drop)]
 pub struct SimulatedSocket<'a> {
     client: Client<'a>,
+    /// All that the client sends.
+    input: &'a [u8],
 }
 
-impl<'a> Read for SimulatedSocket<'a> {
-    ghost use Rattle.std.specs.Prelude.{Some};
+impl<'a> SimulatedSocket<'a> {
+    /// The socket of a client that is accepted: nothing was read of it or sent to it.
+    fn of(client: Client<'a>) -> SimulatedSocket<'a>
+        ensures input { result.input.now ≡ client.entry.input.now }
+        ensures coming { result.client.input.now ≡ client.entry.input.now }
+        ensures taken { result.client.taken.now.items ≡ [] }
+    {
+        client.taken.clear();
+        let input = client.input;
+        SimulatedSocket { client, input }
+    }
+}
+
+impl<'a> Socket for SimulatedSocket<'a> {
+    ghost use Rattle.std.specs.Prelude.{Some, true, refl};
+
+    type Registry = ();
+
+    ghost is_known = { true };
 
     ghost remaining = { λ socket. Some socket.client.input.now };
+
+    ghost contents = { λ socket. Some socket.client.taken.now.items };
+
+    ghost input = { λ socket. socket.input.now };
+
+    ghost coming = { λ socket. socket.client.input.now };
+
+    ghost taken = { λ socket. socket.client.taken.now.items };
 
     fn read(&mut self, buf: &mut [u8]) -> io::Result<usize> {
         let is_silent = self.client.is_silent;
@@ -72,9 +100,7 @@ impl<'a> Read for SimulatedSocket<'a> {
         self.client.input = rest;
         Ok(count)
     }
-}
 
-impl<'a> Write for SimulatedSocket<'a> {
     fn write(&mut self, buf: &[u8]) -> io::Result<usize> {
         let is_silent = self.client.is_silent;
         let count = next_step(&mut self.client.takes, is_silent)?;
@@ -82,20 +108,6 @@ impl<'a> Write for SimulatedSocket<'a> {
         self.client.taken.extend_from_slice(&buf[..count])?;
         Ok(count)
     }
-
-    fn flush(&mut self) -> io::Result<()> {
-        Ok(())
-    }
-}
-
-impl<'a> Socket for SimulatedSocket<'a> {
-    ghost use Rattle.std.specs.Prelude.{true, refl};
-
-    type Registry = ();
-
-    ghost is_known = { true };
-
-    ghost coming = { λ socket. socket.client.input.now };
 
     fn watch(
         &mut self,
@@ -110,6 +122,8 @@ impl<'a> Socket for SimulatedSocket<'a> {
     fn shut_writes(&mut self) {}
 
     ghost told = { λ _ _. refl };
+
+    ghost told_taken = { λ _ _. refl };
 }
 
 /// How many milliseconds a turn takes: a connection has a thousand turns.
@@ -190,7 +204,7 @@ impl<'a> Network for SimulatedNetwork<'a> {
         match self.clients.pop_front() {
             Some(client) => {
                 let moment = client.moment;
-                Ok(Accepted::One(SimulatedSocket { client }, moment))
+                Ok(Accepted::One(SimulatedSocket::of(client), moment))
             }
             None => Ok(Accepted::Nobody),
         }
@@ -208,7 +222,7 @@ impl<'a> Network for SimulatedNetwork<'a> {
             Some(client) => {
                 self.turn = self.turn.max(client.wait);
                 let moment = client.moment;
-                Ok(Some((SimulatedSocket { client }, moment, 0)))
+                Ok(Some((SimulatedSocket::of(client), moment, 0)))
             }
             None => Ok(None),
         }

@@ -64,8 +64,8 @@ impl Steps {
     }
 }
 
-/// The steps of three clients who send a piece in each of nine turns, a turn belonging to the client that a digit of the order names. None
-/// where not each has three turns.
+/// The steps of three clients who send a piece in each of nine turns, a turn belonging to the client that a digit of
+/// the order names. None where not each has three turns.
 fn steps_of_pieces(order: u32) -> Option<[Steps; 3]> {
     let mut steps = [Steps::new(), Steps::new(), Steps::new()];
     let mut own: [u32; 3] = [0; 3];
@@ -158,8 +158,8 @@ fn answer_all(connections: &mut Connections<SimulatedNetwork<'_>>) -> Option<u32
     None
 }
 
-/// Two or three exchanges, each sent and taken by its steps, where accepting fails so many times first; whether each is answered with its
-/// own request.
+/// Two or three exchanges, each sent and taken by its steps, where accepting fails so many times first; whether each is
+/// answered with its own request.
 fn are_answered(alloc: Global, steps: &[Steps; 3], most: u32, failures: u64) -> Option<bool> {
     let mut first = Vec::new(alloc);
     let mut second = Vec::new(alloc);

@@ -7,7 +7,7 @@ use Rattle.bike_http.specs.declared.exchange.Served.{Served}
 use Rattle.bike_http.specs.declared.exchange.ServeFault.{ServeFault}
 use Rattle.bike_exchange.specs.Asking.{Coming}
 use Rattle.bike_connections.specs.Ahead.{Loses}
-use Rattle.bike_connections.proofs.Losing.{loses_none, loses_then, loses_front, loses_behind}
+use Rattle.bike_connections.proofs.Losing.{loses_none, loses_then, loses_behind, loses_all}
 use Rattle.bike_server.specs.declared.arrivals.AcceptFault.{AcceptFault}
 use Rattle.bike_server.specs.declared.arrivals.Arrival.{Arrival}
 use Rattle.bike_server.specs.Visits.{Leaving, Kept, Visits, IsOpen, LetsGo}
@@ -55,10 +55,6 @@ Adds-push (Some before) (Some kept) (Some between) new gone leaving adds accepts
 -- behind those that were answered some of the others are lost
 ahead_still : (all order old new : List Coming) → Loses all (order ++ old) → Loses old new → Loses all (order ++ new)
 ahead_still all order old new before now = loses_then all (order ++ old) (order ++ new) before (loses_behind order old new now)
-
--- .. or all of them
-loses_all : (xs : List Coming) → Loses xs []
-loses_all xs = subst (λ (ys : List Coming). Loses ys []) (append-nil xs) (loses_front xs [])
 
 -- what holds of a value that is there
 at_some : {X : Type 0} (o : Option X) (x : X) (P : X → Type 0) → o ≡ Some x → IfSome o P → P x

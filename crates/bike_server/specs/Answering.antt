@@ -27,14 +27,16 @@ abbrev pub IsResponse : Operator → Coming → Response → Operator → Type 0
 IsResponse s coming response next =
     Answers (Some coming.input) s coming.moment response next ⊎ ((response ≡ unavailable) × (next ≡ s))
 
--- What is sent as an exchange ends in that way, and the operator after it. That a read or a write failed is what the exchange says: no
--- contract of a reader tells a read that failed from one that wasn't made.
+-- What is sent as an exchange ends in that way, and the operator after it. That a read or a write failed is what the
+-- exchange says: no contract of a reader tells a read that failed from one that wasn't made.
 abbrev pub IsAnsweredBy : Operator → Coming → Result Served ServeFault → List ℕ → Operator → Type 0
 IsAnsweredBy s coming (Ok Empty) sent next = (coming.input ≡ []) × (sent ≡ []) × (next ≡ s)
 IsAnsweredBy s coming (Ok (Status status)) sent next =
-    (response : Response) × IsResponse s coming response next × (status ≡ response_status response) × (sent ≡ bytes_of response)
+    (response : Response) × IsResponse s coming response next
+    × (status ≡ response_status response) × (sent ≡ bytes_of response)
 IsAnsweredBy s coming (Err Read) sent next = (sent ≡ []) × (next ≡ s)
-IsAnsweredBy s coming (Err Write) sent next = (response : Response) × IsResponse s coming response next × BeginsWith (bytes_of response) sent
+IsAnsweredBy s coming (Err Write) sent next =
+    (response : Response) × IsResponse s coming response next × BeginsWith (bytes_of response) sent
 IsAnsweredBy s coming (Err Cut) sent next = ⊥
 
 -- ONE CONNECTION IS ANSWERED, by an operator at its moment; the operator after it
@@ -46,7 +48,8 @@ abbrev pub AreAnswered : Operator → List Coming → List Leaving → Operator 
 AreAnswered s [] [] next = next ≡ s
 AreAnswered s [] (leaving ∷ gone) next = ⊥
 AreAnswered s (coming ∷ came) [] next = ⊥
-AreAnswered s (coming ∷ came) (leaving ∷ gone) next = (later : Operator) × IsAnswered s coming leaving later × AreAnswered later came gone next
+AreAnswered s (coming ∷ came) (leaving ∷ gone) next =
+    (later : Operator) × IsAnswered s coming leaving later × AreAnswered later came gone next
 
 -- these were let go behind those before
 abbrev pub Adds : Option Kept → Option Kept → List Leaving → Type 0
@@ -72,12 +75,14 @@ module _ {S : Type 0} (g : Ghosts S) (desk : DeskValue S) where
 
   -- how one exchange ends
   abbrev pub Exchanges : Operator → Coming → Leaving → Type 0
-  Exchanges s coming leaving = ((next : Operator) × IsAnswered s coming leaving next × IsAt g desk next) ⊎ StopsAt s coming leaving
+  Exchanges s coming leaving =
+      ((next : Operator) × IsAnswered s coming leaving next × IsAt g desk next) ⊎ StopsAt s coming leaving
 
   -- the same, of a connection that is let go
   abbrev pub ExchangesOne : Operator → Coming → Option Visits → Option Visits → Type 0
   ExchangesOne s coming before new =
-      IfSome before (λ visits. (leaving : Leaving) × (after : Visits) × (new ≡ Some after) × LetsGo visits leaving after × Exchanges s coming leaving)
+      IfSome before (λ visits. (leaving : Leaving) × (after : Visits) × (new ≡ Some after)
+      × LetsGo visits leaving after × Exchanges s coming leaving)
 
   -- ---- all connections
 

@@ -33,8 +33,8 @@ IsOfServing told = (fault : ServerFault) × (told ≡ server_fault fault)
 
 -- the connection before and after, and what was written before and after
 module _ {S : Type 0} (g : Ghosts S) (first last : Held S) (old new : Option (List ℕ)) where
-  -- The connection couldn't be adopted, for memory or storage alone where it stands for an operator: that is told, the connection
-  -- is handed back as it was then, and nothing was written.
+  -- The connection couldn't be adopted, for memory or storage alone where it stands for an operator: that is told, the
+  -- connection is handed back as it was then, and nothing was written.
   pub record Refuses (told : Fault) : Type 0 where
     pub fault : AdoptFault S
     pub is : told ≡ adopt_fault fault

@@ -8,8 +8,8 @@ use Rattle.sqlite_trees.specs.Tree.{Trees}
 use Rattle.bike_schema.specs.Stands.{AllLeft, TreesStandFor}
 use Rattle.bike_http.specs.Desk.{DeskValue, desk_state, IsAt, TreesStandForEither}
 
--- Some good requests were served. A desk that goes on is at the operator after them; all that a crash may leave stands for that operator, or for
--- the one after at most one request more.
+-- Some good requests were served. A desk that goes on is at the operator after them; all that a crash may leave stands
+-- for that operator, or for the one after at most one request more.
 pub record ServesRequests {S : Type 0} (g : Ghosts S) (desk : DeskValue S) (s : Operator) : Type 0 where
   pub calls : List Call
   pub more : List Call

@@ -27,4 +27,5 @@ IsOpen known = IfSome known (λ visits. IfSome visits.kept (λ kept. 0 < kept.pe
 -- One of those is let go; some that were ahead may be lost meanwhile.
 pub record LetsGo (old : Visits) (leaving : Leaving) (new : Visits) : Type 0 where
   pub ahead : Loses old.ahead new.ahead
-  pub kept : IfSome old.kept (λ kept. new.kept ≡ Some (record { gone = kept.gone ++ leaving ∷ []; pending = kept.pending - 1 }))
+  pub kept : IfSome old.kept
+      (λ kept. new.kept ≡ Some (record { gone = kept.gone ++ leaving ∷ []; pending = kept.pending - 1 }))

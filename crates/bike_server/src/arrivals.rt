@@ -39,9 +39,11 @@ pub trait Arrivals {
     // The connections ahead and those that were let go, where they are known.
     ghost known: { Self → Option Visits };
 
-    /// The next connection; none where there are no more. Where it fails, none was accepted, and those that come still may be fewer.
+    /// The next connection; none where there are no more. Where it fails, none was accepted, and those that come still
+    /// may be fewer.
     fn accept(&mut self) -> Result<Option<Arrival<Self::Reader, Self::Writer>>, AcceptFault>
-        ensures { Accepts may_fail Self.Reader.remaining Self.Writer.contents (known self.old) (known self.new) result };
+        ensures { Accepts may_fail Self.Reader.remaining Self.Writer.contents
+            (known self.old) (known self.new) result };
 
     /// Lets a connection go that was accepted, by its two ends, and is told how its exchange ended.
     fn finish(
@@ -52,5 +54,6 @@ pub trait Arrivals {
     )
         requires { IsOpen (known self.old) }
         ensures { IfSome (known self.old) (λ visits. IfSome (Self.Writer.contents writer)
-            (λ sent. IsSomeAnd (known self.new) (λ after. LetsGo visits (record { served = served; sent = sent }) after))) };
+            (λ sent. IsSomeAnd (known self.new)
+            (λ after. LetsGo visits (record { served = served; sent = sent }) after))) };
 }

@@ -15,9 +15,10 @@ use bike_console::{Fault, NewLog, Wanted, open_file, prepare_file};
 use sqlite::{Connection, FileFrom, FileStore, Start};
 use std::io::Write;
 
-/// Listens over the database file at a path, as `listen` does over a connection to the database that the file's bytes hold; the file is
-/// made where there is none. Gives the connection back, none where the file couldn't be opened: then nothing was written or listened
-/// to, and the fault is that of the opening. A log that may hold commits stays beside the file.
+/// Listens over the database file at a path, as `listen` does over a connection to the database that the file's bytes
+/// hold; the file is made where there is none. Gives the connection back, none where the file couldn't be opened: then
+/// nothing was written or listened to, and the fault is that of the opening. A log that may hold commits stays beside
+/// the file.
 pub fn listen_on_file<F: Start, W: Write>(
     rt: &HostRuntime,
     port: u16,

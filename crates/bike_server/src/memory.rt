@@ -23,8 +23,8 @@ pub struct Parting {
     pub sent: Vec<u8>,
 }
 
-/// Connections that are played from a list and collected with what was sent to them. Reads never fail; a write fails for want of
-/// memory alone.
+/// Connections that are played from a list and collected with what was sent to them. Reads never fail; a write fails
+/// for want of memory alone.
 #[derive(Drop)]
 pub struct Played<'a> {
     alloc: Global,
@@ -46,7 +46,8 @@ impl<'a> Model for Played<'a> {
     } };
 
     // There is room for each.
-    ghost invariant = { λ p. (vec_len p.gone ≤ p.next) × (p.next ≤ length p.visits.now) × (length p.visits.now ≤ vec_capacity p.gone) };
+    ghost invariant = { λ p. (vec_len p.gone ≤ p.next) × (p.next ≤ length p.visits.now)
+        × (length p.visits.now ≤ vec_capacity p.gone) };
 }
 
 impl<'a> Played<'a> {

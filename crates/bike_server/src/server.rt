@@ -26,8 +26,8 @@ use std::alloc::Global;
 use std::io::{ErrorKind, Write};
 use std::net::SocketAddr;
 
-/// Serves the one request of a connection, and lets it go. What fails of the connection alone is told to nobody: the client
-/// sees it end. What was accepted of it stands, and is answered as before when it is sent again.
+/// Serves the one request of a connection, and lets it go. What fails of the connection alone is told to nobody: the
+/// client sees it end. What was accepted of it stands, and is answered as before when it is sent again.
 fn serve_arrival<S: Alter, A: Arrivals>(
     alloc: Global,
     desk: &mut Desk<S>,
@@ -52,15 +52,15 @@ fn serve_arrival<S: Alter, A: Arrivals>(
     arrivals.finish(reader, writer, served);
 }
 
-/// Accepts so many connections, or all where there are fewer, and serves one request of each, at the moment of its acceptance. It
-/// ends early where accepting fails (`AcceptFailed`) and where the desk is stopped (`StoreFailed`); a connection that fails ends
-/// nothing.
+/// Accepts so many connections, or all where there are fewer, and serves one request of each, at the moment of its
+/// acceptance. It ends early where accepting fails (`AcceptFailed`) and where the desk is stopped (`StoreFailed`); a
+/// connection that fails ends nothing.
 ///
-/// Whatever clients send and whatever becomes of the connections, a desk at an operator is at it after some list of good requests; or it
-/// is stopped, and all that a crash may leave stands for the operator after such a list or after one request more. Where it is known
-/// what comes, each connection that is accepted is answered once, in the order in which they are accepted, as the operator after those
-/// before it answers; the others are ahead still, or were lost with nothing asked. What wasn't sent whole is told to `finish` as a
-/// failure.
+/// Whatever clients send and whatever becomes of the connections, a desk at an operator is at it after some list of
+/// good requests; or it is stopped, and all that a crash may leave stands for the operator after such a list or after
+/// one request more. Where it is known what comes, each connection that is accepted is answered once, in the order in
+/// which they are accepted, as the operator after those before it answers; the others are ahead still, or were lost
+/// with nothing asked. What wasn't sent whole is told to `finish` as a failure.
 pub fn serve_count<S: Alter, A: Arrivals>(
     alloc: Global,
     desk: &mut Desk<S>,
@@ -90,8 +90,8 @@ pub fn serve_count<S: Alter, A: Arrivals>(
     Ok(())
 }
 
-/// Listens for so many connections on this port of 127.0.0.1; `BindFailed` where it can't be listened on, and `AcceptFailed` where the
-/// process may not have the descriptors that they take.
+/// Listens for so many connections on this port of 127.0.0.1; `BindFailed` where it can't be listened on, and
+/// `AcceptFailed` where the process may not have the descriptors that they take.
 fn bind<'a>(rt: &'a HostRuntime, port: u16, count: u64) -> Result<Loopback<'a>, ServerFault> {
     if !has_descriptors(rt) {
         return Err(ServerFault::AcceptFailed);
@@ -134,7 +134,8 @@ fn begin<'a, W: Write>(
     Ok(connections)
 }
 
-/// Listens on this port of 127.0.0.1 and tells it, and serves so many connections, or without end; then it sends the answers under way.
+/// Listens on this port of 127.0.0.1 and tells it, and serves so many connections, or without end; then it sends the
+/// answers under way.
 fn listen_at<S: Alter, W: Write>(
     rt: &HostRuntime,
     desk: &mut Desk<S>,
@@ -186,12 +187,13 @@ fn ended(served: Result<(), ServerFault>) -> Result<u64, Fault>
     }
 }
 
-/// Takes the connection, which is outside a transaction, into service, listens on this port of 127.0.0.1 (0: a free one), tells that by
-/// the line `listening 127.0.0.1:PORT`, and serves so many connections, or without end. Gives the connection back, with the fault where
-/// one ended that: a port that can't be bound is `BindFailed`. Where the connection can't be taken into service, the fault tells why,
-/// and nothing is written or listened to.
+/// Takes the connection, which is outside a transaction, into service, listens on this port of 127.0.0.1 (0: a free
+/// one), tells that by the line `listening 127.0.0.1:PORT`, and serves so many connections, or without end. Gives the
+/// connection back, with the fault where one ended that: a port that can't be bound is `BindFailed`. Where the
+/// connection can't be taken into service, the fault tells why, and nothing is written or listened to.
 ///
-/// Where the database stood for an operator, all that a crash may then leave stands for it after some list of good requests.
+/// Where the database stood for an operator, all that a crash may then leave stands for it after some list of good
+/// requests.
 pub fn listen<S: Alter, W: Write>(
     rt: &HostRuntime,
     port: u16,

@@ -42,6 +42,7 @@ impl<N: Network> Sockets<N> {
 
 impl<N: Network> Arrivals for Sockets<N> {
     ghost use Rattle.std.specs.Prelude.{true, Some, None, if◌then◌else◌};
+    ghost use Rattle.bike_connections.specs.Ahead.{ahead_of};
 
     type Reader = Exchange<N::Socket>;
 
@@ -51,7 +52,7 @@ impl<N: Network> Arrivals for Sockets<N> {
 
     // What is let go isn't kept.
     ghost known = { λ sockets. if N.Socket.is_known
-        then Some (record { ahead = sockets.connections; kept = None }) else None };
+        then Some (record { ahead = ahead_of sockets.connections; kept = None }) else None };
 
     fn accept(&mut self) -> Result<Option<Arrival<Exchange<N::Socket>, Answer>>, AcceptFault> {
         match self.connections.next() {

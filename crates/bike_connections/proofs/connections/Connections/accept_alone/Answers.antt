@@ -1,6 +1,6 @@
-use Rattle.std.proofs.Common.{subst, sym}
+use Rattle.std.proofs.Common.{take, IfSome, subst, sym}
 use Rattle.bike_connections.specs.Ahead.{Loses}
-use Rattle.bike_connections.specs.Accepting.{PicksAlone}
+use Rattle.bike_connections.specs.Accepting.{PicksAlone, IsFresh}
 use Rattle.bike_connections.proofs.Opening.{loses_coming, accepted_in, into_seen, lost_anyway}
 use Rattle.bike_connections.proofs.connections.Connections.accept_alone.Goals as goal
 
@@ -22,8 +22,10 @@ returns-in_default g c known =
 
 pub returns : goal.returns
 returns g c known =
-    accepted_in c.args.self.now c.take_in.new.self c.self.inside.connections (g.N.Network.ahead c.self.inside.network) (g.N.Network.ahead c.accept_alone.new.self) _
-    c.self.view_is
+    accepted_in g.N.Socket.Socket.input g.N.Socket.Socket.coming g.N.Socket.Socket.taken c.args.self.now c.take_in.new.self c.self.inside.connections
+    (g.N.Network.ahead c.self.inside.network) (g.N.Network.ahead c.accept_alone.new.self) _ _ _ c.self.view_is
     (subst (λ (told : _). PicksAlone g.N.Socket.Socket.coming (g.N.Network.ahead c.self.inside.network) (g.N.Network.ahead c.accept_alone.new.self) c.accept_alone.new.piece told)
     c.in-Some.is (c.in_ok-accepted.ensures.accepts known))
+    (subst (λ (told : _). IfSome told (λ one. IsFresh g.N.Socket.Socket.coming g.N.Socket.Socket.input g.N.Socket.Socket.taken (take one.2 c.accept_alone.new.piece) one.0))
+    c.in-Some.is (c.in_ok-accepted.ensures.fresh known))
     (into_seen _ _ c.take_in.new.self c.read_clock.ensures (c.take_in.ensures known))

@@ -1,9 +1,18 @@
-use Rattle.std.proofs.Common.{subst, ◌++◌}
-use Rattle.bike_connections.specs.Ahead.{Loses}
-use Rattle.bike_connections.proofs.Opening.{loses_open}
+use Rattle.std.proofs.Common.{◌∷◌, map}
+use Rattle.bike_exchange.specs.Connected.{answered_as}
+use Rattle.bike_connections.specs.Ahead.{fresh}
+use Rattle.bike_connections.proofs.Opening.{taken_in}
+use Rattle.bike_connections.proofs.Requests.{loses_requests}
 use Rattle.bike_connections.proofs.connections.Connections.finish.Goals as goal
 
-pub returns : goal.returns
-returns g c known =
-    loses_open c.args.self.now c.self.inside.connections c.insert.new.self _ c.self.view_is
-    (subst (λ (xs : _). Loses (xs ++ c.self.inside.connections) c.insert.new.self) c.into_answered-connection.ensures (c.insert.ensures known))
+pub returns-clause-clients : goal.returns-clause-clients
+returns-clause-clients g c known =
+    taken_in c.args.self.now c.self.inside.connections c.insert.new.self (map fresh (g.N.Network.ahead c.self.inside.network)) c.into_answered-connection.result _
+    c.self.view_is c.into_answered-connection.ensures (c.insert.ensures known)
+
+pub returns-clause-ahead : goal.returns-clause-ahead
+returns-clause-ahead g c known =
+    let answered = answered_as g.N.Socket.Socket.input g.N.Socket.Socket.coming g.N.Socket.Socket.taken c.args.exchange c.args.answer in
+    loses_requests (answered ∷ c.args.self.now) _
+    (taken_in c.args.self.now c.self.inside.connections c.insert.new.self (map fresh (g.N.Network.ahead c.self.inside.network)) c.into_answered-connection.result answered
+    c.self.view_is c.into_answered-connection.ensures (c.insert.ensures known))

@@ -1,7 +1,6 @@
 use Rattle.std.proofs.Common.{subst}
 use Rattle.bike_connections.specs.Ahead.{Loses}
 use Rattle.bike_connections.proofs.Losing.{loses_then}
-use Rattle.bike_connections.proofs.Opening.{loses_open}
 use Rattle.bike_connections.proofs.connections.Connections.turn_of_many.Goals as goal
 
 pub returns-in_err-accept_some : goal.returns-in_err-accept_some
@@ -14,4 +13,4 @@ returns g c known =
     loses_then c.args.self.now c.step_all.new.self _ (c.step_all.ensures known)
     (loses_then c.step_all.new.self c.accept_some.new.self _
     (subst (λ (seen : _). Loses seen c.accept_some.new.self) c.read_clock.ensures (c.accept_some.ensures known))
-    (loses_open c.accept_some.new.self c.self.inside.connections c.give_up.new.self _ c.self.view_is c.give_up.ensures))
+    c.give_up.ensures)

@@ -12,12 +12,13 @@ returns-then-may_be_feed-is_feed g c =
 
 pub returns-after-new : goal.returns-after-new
 returns-after-new g c = elim c.match-new.branch [
-  | in-Ok-new w ↦ subst (λ (given : _). Gives g.S.Socket.coming c.args.self.now c.remove.new.self given) (sym w.result-is) (
-    gives_taken g.S.Socket.coming c.args.self.now c.remove.new.self c.in_ok-connection.connection c.in-Ok.exchange
+  | in-Ok-new w ↦ subst (λ (given : _). Gives g.S.Socket.is_known g.S.Socket.input g.S.Socket.coming g.S.Socket.taken c.args.self.now c.remove.new.self given) (sym w.result-is) (
+    gives_taken g.S.Socket.is_known g.S.Socket.input g.S.Socket.coming g.S.Socket.taken c.args.self.now c.remove.new.self c.in_ok-connection.connection c.in-Ok.exchange
         c.in_ok-connection.ensures.taken c.in-Ok.ensures.handed,
     w.in-Ok-new.ensures,
+    c.in-Ok.ensures.whole,
   )
-  | in-Err-new w ↦ subst (λ (given : _). Gives g.S.Socket.coming c.args.self.now c.remove.new.self given) (sym w.result-is)
+  | in-Err-new w ↦ subst (λ (given : _). Gives g.S.Socket.is_known g.S.Socket.input g.S.Socket.coming g.S.Socket.taken c.args.self.now c.remove.new.self given) (sym w.result-is)
       (ends_there c.args.self.now c.remove.new.self c.in_ok-connection.connection c.in_ok-connection.ensures.taken)
 ]
 

@@ -1,5 +1,5 @@
-use Rattle.std.proofs.Common.{ap, Bool, ◌||◌}
-use Rattle.bike_exchange.proofs.Awaiting.{awaits_added}
+use Rattle.std.proofs.Common.{ap, Bool, ◌||◌, ◌&&◌}
+use Rattle.bike_exchange.proofs.Awaiting.{awaits_added, blank_added}
 use Rattle.bike_exchange.proofs.gathering.Gathering.add.Goals as goal
 
 pub invariant_of-self-2 : goal.invariant_of-self-2
@@ -8,5 +8,8 @@ invariant_of-self-2 c =
     record {
       awaits = awaits_added c.extend_from_slice.result it.awaited it.has_line_end _ it.bytes.items c.reserve_exact.new.self.items c.args.bytes.now
           c.extend_from_slice.new.self.items it.awaits (ap (λ (b : Bool). it.has_line_end || b) c.contains.ensures.value) c.reserve_exact.ensures.items
+          c.extend_from_slice.ensures.items;
+      blank = blank_added c.extend_from_slice.result it.is_blank _ it.bytes.items c.reserve_exact.new.self.items c.args.bytes.now
+          c.extend_from_slice.new.self.items it.blank (ap (λ (b : Bool). it.is_blank && b) c.are_line_ends.ensures) c.reserve_exact.ensures.items
           c.extend_from_slice.ensures.items;
     }

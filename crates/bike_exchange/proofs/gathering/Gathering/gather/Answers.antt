@@ -1,11 +1,13 @@
-use Rattle.std.proofs.Common.{◌≡◌, true, false, inl, inr, sym, ◌∙◌}
+use Rattle.std.proofs.Common.{◌≡◌, true, false, inl, inr, refl, sym, ◌∙◌}
 use Rattle.bike_incoming.proofs.Receiving.{grew_nothing, grew_then}
 use Rattle.bike_exchange.proofs.gathering.Gathering.gather.Goals as goal
 
 pub loop-turn-init : goal.loop-turn-init
 loop-turn-init g c = (
-  rw c.is_settled.ensures.kept (grew_nothing (g.R.Read.remaining c.args.reader.now) c.args.self.now.bytes.items),
+  rw c.is_settled.ensures.kept (grew_nothing (g.S.Socket.remaining c.args.reader.now) c.args.self.now.bytes.items),
   λ whole. let both : true ≡ false = sym (c.is_settled.ensures.whole whole) ∙ c.if-is_settled.false in cc,
+  refl,
+  refl,
 )
 
 pub returns-in-Some-clause-grew : goal.returns-in-Some-clause-grew
@@ -24,6 +26,8 @@ loop-turn-preserved g c = (
     | inl e ↦ absurd cc
     | inr e ↦ absurd cc
   ],
+  c.in_default.ensures.own ∙ c.loop-turn.invariant.2,
+  c.in_default.ensures.kept ∙ c.loop-turn.invariant.3,
 )
 
 pub returns-then-is_settled-clause-settled : goal.returns-then-is_settled-clause-settled

@@ -10,4 +10,4 @@ pub returns-in-Some-clause-whole : goal.returns-in-Some-clause-whole
 returns-in-Some-clause-whole c whole = absurd (let none = c.in-Some.ensures.whole (subst IsWhole (sym c.as_slice.ensures.value) whole) in cc)
 
 pub invariant_of-self : goal.invariant_of-self
-invariant_of-self c = record { awaits = subst (λ (l : List ℕ). Awaits c.in-Some.awaited false l) c.as_slice.ensures.value c.in-Some.ensures.awaits }
+invariant_of-self c = record { awaits = subst (λ (l : List ℕ). Awaits c.in-Some.awaited false l) c.as_slice.ensures.value c.in-Some.ensures.awaits; blank = c.args.self.now.blank }

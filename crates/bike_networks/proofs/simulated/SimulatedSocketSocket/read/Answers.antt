@@ -1,6 +1,6 @@
 use Rattle.std.proofs.Common.{◌∙◌, ap, min, length}
 use Rattle.bike_networks.proofs.Pieces.{split_read}
-use Rattle.bike_networks.proofs.simulated.SimulatedSocketRead.read.Goals as goal
+use Rattle.bike_networks.proofs.simulated.SimulatedSocketSocket.read.Goals as goal
 
 pub returns-clause-bytes : goal.returns-clause-bytes
 returns-clause-bytes c =

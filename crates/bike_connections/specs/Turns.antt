@@ -1,0 +1,18 @@
+-- For how long is waited, and what is to be done without waiting.
+use Rattle.std.specs.Prelude.{ℕ, min, ◌<◌, ◌⊎◌, Bool, IsTrue, Option, Some, None, option_map}
+use Rattle.std.specs.Duration.{as_nanos}
+use Rattle.std.specs.declared.time.Duration.{Duration}
+
+-- a time in nanoseconds; none where that is for ever
+abbrev pub nanos : Option Duration → Option ℕ
+nanos time = option_map as_nanos time
+
+-- the sooner of two moments, either of which may be never
+abbrev pub sooner_of : Option ℕ → Option ℕ → Option ℕ
+sooner_of None other = other
+sooner_of (Some moment) None = Some moment
+sooner_of (Some moment) (Some other) = Some (min moment other)
+
+-- one goes on at once: its request is there, it was put off, or it may ask for a feed, and there is room for one
+abbrev pub IsDue : ℕ → ℕ → ℕ → Bool → Type 0
+IsDue ready going feeds has_feed_room = (0 < ready) ⊎ ((0 < going) ⊎ ((0 < feeds) × IsTrue has_feed_room))
