@@ -1,127 +1,174 @@
 -- Commands are read exactly, both ways, in a whole text.
-use Rattle.std.proofs.Common.{◌≡◌, ℕ, List, [], ◌∷◌, Option, Some, None, Result, Ok, Err, refl, sym, ap, ◌∙◌, subst}
-use Rattle.std.specs.Prelude.{IfSome, IfOk, IfErr, IsSome}
+use Rattle.std.proofs.Common.{◌≡◌, ℕ, List, [], ◌∷◌, ◌&&◌, ◌==◌, Bool, true, false, not, cond, Option, Some, None, Result, Ok, Err, refl, sym, ap, ◌∙◌, subst, arith, codes}
+use Rattle.std.specs.Prelude.{IfSome, IfOk, IfErr, IsErr, IsErrAnd, IsSome, option_map, nat_le, int_le, length, pos, neg_ℤ, ℤ, ◌≤ℤ◌}
 use Rattle.std.specs.declared.alloc.AllocError.{AllocError}
-use Rattle.std.specs.List.{slice_split, join_with_byte}
-use Rattle.std.proofs.lemmas.Option.{option_and_then_some}
+use Rattle.std.specs.List.{slice_split, join_with_byte, list_all}
+use Rattle.std.proofs.lemmas.Bool.{le-leb}
+use Rattle.std.proofs.lemmas.Int.{ints}
+use Rattle.std.proofs.lemmas.Option.{option_and_then_some, same_Some}
 use Rattle.std.proofs.lemmas.List.Splits.{join_with_byte-slice_split}
+use Rattle.bike_attributes.specs.Values.{IsRange, is_range, IsLatitude, is_latitude, position_of_fields, position_within}
+use Rattle.bike_catalogue.specs.Rows.{plan_of_fields, plan_within, type_of_fields, type_within, station_of_fields, station_within}
+use Rattle.bike_attributes.specs.declared.vehicle.Propulsion.{Propulsion}
+use Rattle.bike_attributes.specs.declared.vehicle.Propulsion.TheVariants.{Human, ElectricAssist}
 use Rattle.bike_fields.specs.Reads.{IsReadAs}
+use Rattle.bike_fields.proofs.Lengths.{both_hold}
 use Rattle.bike_texts.specs.Parts.{Parts}
-use Rattle.bike_texts.specs.Fields.{Field, HasNoTab}
-use Rattle.bike_texts.specs.Reading.{part_at}
+use Rattle.bike_texts.specs.Fields.{Field, HasNoTab, AreGood}
+use Rattle.bike_texts.specs.Reading.{◌>>=◌, part_at}
 use Rattle.bike_texts.proofs.Splitting.{is_tab}
 use Rattle.bike_texts.proofs.TabFree.{AreRead, split_join, parts_no_tab, part_is}
 use Rattle.bike_texts.proofs.Chains.{pick}
 use Rattle.bike_commands.specs.declared.command.Command.{Command}
-use Rattle.bike_commands.specs.declared.command.Command.TheVariants.{SetSystem, AddPlan, AddType, SetPlan, AddStation, SetStation, MarkDock, AddBike, MarkBike, RetireBike, AddTruck, AddRider, SetRider, TopUp, Start, End, Recover, Refund, OpenOrder, Load, Unload, CloseOrder, AddRegion, SetRegion, AddName, SetName, RemoveName, ChangeSystem, MoveStation, AddDocks}
+use Rattle.bike_commands.specs.declared.command.Command.TheVariants as command
 use Rattle.bike_commands.specs.Commands.{word_of, fields_of, IsCommand, IsSpelling}
+use Rattle.bike_requests.specs.declared.unread.Unread.{Unread}
+use Rattle.bike_requests.specs.declared.unread.Unread.TheVariants.{BadField, NoMemory}
+use Rattle.bike_requests.specs.Unread.{IsReading}
 use Rattle.bike_requests.specs.Spelling.{SpellsCommand}
-use Rattle.bike_requests.specs.Readers.{command_by, command_at}
-use Rattle.bike_requests.proofs.KindLaws.{Left, set_plan_sound, set_plan_full, set_station_sound, set_station_full, mark_dock_sound, mark_dock_full, add_bike_sound, add_bike_full, mark_bike_sound, mark_bike_full, retire_bike_sound, retire_bike_full, add_truck_sound, add_truck_full, add_rider_sound, add_rider_full, set_rider_sound, set_rider_full, top_up_sound, top_up_full, start_sound, start_full, end_sound, end_full, recover_sound, recover_full, refund_sound, refund_full, open_order_sound, open_order_full, load_sound, load_full, unload_sound, unload_full, close_order_sound, close_order_full, set_region_sound, set_region_full, add_docks_sound, add_docks_full}
-use Rattle.bike_requests.proofs.RecordLaws.{set_system_sound, set_system_full, add_plan_sound, add_plan_full, add_type_sound, add_type_full, add_station_sound, add_station_full, add_region_sound, add_region_full, add_name_sound, add_name_full, set_name_sound, set_name_full, remove_name_sound, remove_name_full, change_system_sound, change_system_full, move_station_sound, move_station_full}
+use Rattle.bike_requests.specs.Kinds.{Kind, Value, reads, fields_with, all_at}
+use Rattle.bike_requests.specs.Readers.{Row, rows, row_by, made_at, plan_kind, type_kind, station_kind, position_kind, command_by, command_at}
+use Rattle.bike_requests.proofs.KindLaws.{is_fit, exact, all_sound, all_full}
 
-as_word : {word w : List ℕ} {c : Command} {ps : Parts} → word ≡ w → Left w c [] ps → Left word c [] ps
-as_word {c = c} {ps = ps} same left = subst (λ (v : List ℕ). Left v c [] ps) (sym same) left
+-- ---- the rows
 
-by_word_sound : (word : List ℕ) (ps : Parts) (c : Command) → command_by word ps ≡ Some c → Left word c [] ps
+-- what a row makes has its word and its fields
+abbrev IsRow : Row → Type 0
+IsRow r = (v : Value r.kind) (c : Command) → r.made v ≡ Some c → (r.word ≡ word_of c) × (fields_of c ≡ fields_with r.kind v)
+
+infixr 5 ◌⊕◌
+data AreRows : List Row → Type 0 where
+  none : AreRows []
+  ◌⊕◌ : {r : Row} {rs : List Row} → IsRow r → AreRows rs → AreRows (r ∷ rs)
+
+-- a row without a test, and one with a test across its fields
+plain : {word : List ℕ} {fields : List Field} {d c : Command} → Some d ≡ Some c → word ≡ word_of d → fields_of d ≡ fields → (word ≡ word_of c) × (fields_of c ≡ fields)
+plain {word = word} {fields = fields} {d = d} {c = c} e w f = subst (λ (x : Command). (word ≡ word_of x) × (fields_of x ≡ fields)) (same_Some d c e) (w, f)
+
+kept : {A : Type 0} {word : List ℕ} {fields : List Field} {c : Command} (wrap : A → Command) (test : Bool) (a : A) → option_map wrap (cond test (Some a) None) ≡ Some c
+    → word ≡ word_of (wrap a) → fields_of (wrap a) ≡ fields → (word ≡ word_of c) × (fields_of c ≡ fields)
+kept wrap true a e w f = plain e w f
+kept wrap false a e w f = absurd cc
+
+are_rows : AreRows rows
+are_rows =
+    (λ v c e. plain e refl refl) ⊕ (λ v c e. kept command.AddPlan _ _ e refl refl) ⊕ (λ v c e. kept command.AddType _ _ e refl refl) ⊕ (λ v c e. plain e refl refl)
+    ⊕ (λ v c e. kept command.AddStation _ _ e refl refl) ⊕ (λ v c e. plain e refl refl) ⊕ (λ v c e. plain e refl refl) ⊕ (λ v c e. plain e refl refl) ⊕ (λ v c e. plain e refl refl)
+    ⊕ (λ v c e. plain e refl refl) ⊕ (λ v c e. plain e refl refl) ⊕ (λ v c e. plain e refl refl) ⊕ (λ v c e. plain e refl refl) ⊕ (λ v c e. plain e refl refl) ⊕ (λ v c e. plain e refl refl)
+    ⊕ (λ v c e. plain e refl refl) ⊕ (λ v c e. plain e refl refl) ⊕ (λ v c e. plain e refl refl) ⊕ (λ v c e. plain e refl refl) ⊕ (λ v c e. plain e refl refl) ⊕ (λ v c e. plain e refl refl)
+    ⊕ (λ v c e. plain e refl refl) ⊕ (λ v c e. plain e refl refl) ⊕ (λ v c e. plain e refl refl) ⊕ (λ v c e. plain e refl refl) ⊕ (λ v c e. plain e refl refl) ⊕ (λ v c e. plain e refl refl)
+    ⊕ (λ v c e. plain e refl refl) ⊕ (λ v c e. kept (command.MoveStation v.0) _ _ e refl refl) ⊕ (λ v c e. plain e refl refl) ⊕ none
+
+abbrev has_no_tab : Row → Bool
+has_no_tab r = list_all (λ b. not (b == 9)) r.word
+
+are_fit : list_all (λ r. has_no_tab r && is_fit r.kind) rows ≡ true
+are_fit = refl
+
+-- the row of a word
+record IsRowOf (word : List ℕ) (r : Row) : Type 0 where
+  same : word ≡ r.word
+  free : has_no_tab r ≡ true
+  fit : is_fit r.kind ≡ true
+  law : IsRow r
+
+row_is : (rs : List Row) → AreRows rs → list_all (λ r. has_no_tab r && is_fit r.kind) rs ≡ true → (word : List ℕ) (r : Row) → row_by rs word ≡ Some r → IsRowOf word r
+row_is [] none fit word r e = absurd cc
+row_is (s ∷ rs) (law ⊕ laws) fit word r e =
+    let all = both_hold (has_no_tab s && is_fit s.kind) (list_all (λ q. has_no_tab q && is_fit q.kind) rs) fit in
+    let here = both_hold (has_no_tab s) (is_fit s.kind) all.0 in
+    pick e (λ same e. subst (IsRowOf word) (same_Some s r e) (record { same = same; free = here.0; fit = here.1; law = law })) (λ e.
+    row_is rs laws all.1 word r e)
+
+-- ---- each command is made by the row of its word
+
+record IsMade (c : Command) : Type 0 where
+  row : Row
+  found : row_by rows (word_of c) ≡ Some row
+  values : Value row.kind
+  made : AreGood (fields_of c) → row.made values ≡ Some c
+
+by_row : {c : Command} {r : Row} → row_by rows (word_of c) ≡ Some r → (v : Value r.kind) → (AreGood (fields_of c) → r.made v ≡ Some c) → IsMade c
+by_row {r = r} found v made = record { row = r; found = found; values = v; made = made }
+
+range_holds : (propulsion : Propulsion) (n : ℕ) → IsRange propulsion n → is_range propulsion n ≡ true
+range_holds Human n h = rw h refl
+range_holds ElectricAssist n h = rw (le-leb _ _ h.0, le-leb _ _ h.1) refl
+
+le_tested : (a b : ℤ) → a ≤ℤ b → int_le a b ≡ true
+le_tested a b h = grind (arith, ints)
+
+latitude_holds : (z : ℤ) → IsLatitude z → is_latitude z ≡ true
+latitude_holds z h = rw (le_tested (neg_ℤ (pos 90000000)) z h.0, le_tested z (pos 90000000) h.1) refl
+
+is_made : (c : Command) → IsMade c
+is_made (command.SetSystem s) = by_row refl (s.system_id, (s.language, (s.name, (s.opening_hours, (s.feed_contact_email, (s.timezone, (s.currency, (s.base_url, s.ttl)))))))) (λ g. refl)
+is_made (command.AddPlan p) = by_row refl (p.plan_id, (p.name, (p.price, (p.taxable, (p.description, p.segments))))) (λ g. rw (le-leb (length p.segments) 8 g.1.1.1.1.1.0.1) refl)
+is_made (command.AddType t) = by_row refl (t.type_id, (t.name, (t.form, ((t.propulsion, t.max_range), t.plan_id)))) (λ g. rw (range_holds t.propulsion t.max_range g.1.1.1.1.0) refl)
+is_made (command.SetPlan type_id plan) = by_row refl (type_id, plan) (λ g. refl)
+is_made (command.AddStation s) = by_row refl (s.station_id, (s.name, (s.lat, (s.lon, s.docks)))) (λ g. rw (latitude_holds s.lat (g.1.1.0.0, g.1.1.0.1)) refl)
+is_made (command.SetStation station installed renting returning) = by_row refl (station, (installed, (renting, returning))) (λ g. refl)
+is_made (command.MarkDock station dock broken) = by_row refl (station, (dock, broken)) (λ g. refl)
+is_made (command.AddBike bike type_id) = by_row refl (bike, type_id) (λ g. refl)
+is_made (command.MarkBike bike disabled) = by_row refl (bike, disabled) (λ g. refl)
+is_made (command.RetireBike bike) = by_row refl bike (λ g. refl)
+is_made (command.AddTruck truck capacity) = by_row refl (truck, capacity) (λ g. refl)
+is_made (command.AddRider rider) = by_row refl rider (λ g. refl)
+is_made (command.SetRider rider blocked) = by_row refl (rider, blocked) (λ g. refl)
+is_made (command.TopUp rider amount) = by_row refl (rider, amount) (λ g. refl)
+is_made (command.Start rider station dock) = by_row refl (rider, (station, dock)) (λ g. refl)
+is_made (command.End bike station dock) = by_row refl (bike, (station, dock)) (λ g. refl)
+is_made (command.Recover rental) = by_row refl rental (λ g. refl)
+is_made (command.Refund rental amount) = by_row refl (rental, amount) (λ g. refl)
+is_made (command.OpenOrder truck from_end to_end type_id count) = by_row refl (truck, (from_end, (to_end, (type_id, count)))) (λ g. refl)
+is_made (command.Load truck order bike) = by_row refl (truck, (order, bike)) (λ g. refl)
+is_made (command.Unload truck order bike side dock) = by_row refl (truck, (order, (bike, (side, dock)))) (λ g. refl)
+is_made (command.CloseOrder order) = by_row refl order (λ g. refl)
+is_made (command.AddRegion r) = by_row refl (r.region_id, r.name) (λ g. refl)
+is_made (command.SetRegion station region) = by_row refl (station, region) (λ g. refl)
+is_made (command.AddName kind id language name) = by_row refl (kind, (id, (language, name))) (λ g. refl)
+is_made (command.SetName kind id language name) = by_row refl (kind, (id, (language, name))) (λ g. refl)
+is_made (command.RemoveName kind id language) = by_row refl (kind, (id, language)) (λ g. refl)
+is_made (command.ChangeSystem x) = by_row refl (x.name, (x.opening_hours, (x.feed_contact_email, (x.timezone, (x.base_url, x.ttl))))) (λ g. refl)
+is_made (command.MoveStation station p) = by_row refl (station, (p.lat, p.lon)) (λ g. rw (latitude_holds p.lat (g.1.0.0, g.1.0.1)) refl)
+is_made (command.AddDocks station count) = by_row refl (station, count) (λ g. refl)
+
+-- A test across a row's fields holds of fields that are read: so nothing is read of the row where nothing is read of its fields, and memory is asked for only by a command.
+not_made : (k : Kind) → is_fit k ≡ true → (made : Value k → Option Command) → ((v : Value k) → AreGood (fields_with k v) → IsSome (made v)) → (ps : Parts) (e : Unread) (s : Result Command Unread)
+    → IsReading {A = Value k} (all_at (reads k) ps) (Err e) → IsErr s × IsErrAnd s (λ x. x ≡ e) → IsReading (all_at (reads k) ps >>= made) s
+not_made k fit made holds ps e (Ok c) read passed = absurd cc
+not_made k fit made holds ps e (Err x) read passed = subst (λ (y : Unread). IsReading {A = Command} (all_at (reads k) ps >>= made) (Err y)) (sym passed.1) (by e read) where
+  some : (o : Option (Value k)) → all_at (reads k) ps ≡ o → IsSome o → IsSome (o >>= made)
+  some None e is = absurd cc
+  some (Some v) e is = holds v (all_sound (exact k fit) ps v e).good
+
+  by : (e : Unread) → IsReading {A = Value k} (all_at (reads k) ps) (Err e) → IsReading {A = Command} (all_at (reads k) ps >>= made) (Err e)
+  by BadField none = rw none refl
+  by NoMemory is = some (all_at (reads k) ps) refl is
+
+pub plan_not_made : (ps : Parts) (e : Unread) (s : Result Command Unread) → IsReading {A = Value plan_kind} (all_at (reads plan_kind) ps) (Err e) → IsErr s × IsErrAnd s (λ x. x ≡ e) → IsReading (command_by (codes "add-plan") ps) s
 unfolding command_by
-by_word_sound word ps c e =
-    pick e (λ w e. as_word w (set_system_sound ps c e)) (λ e.
-    pick e (λ w e. as_word w (add_plan_sound ps c e)) (λ e.
-    pick e (λ w e. as_word w (add_type_sound ps c e)) (λ e.
-    pick e (λ w e. as_word w (set_plan_sound ps c e)) (λ e.
-    pick e (λ w e. as_word w (add_station_sound ps c e)) (λ e.
-    pick e (λ w e. as_word w (set_station_sound ps c e)) (λ e.
-    pick e (λ w e. as_word w (mark_dock_sound ps c e)) (λ e.
-    pick e (λ w e. as_word w (add_bike_sound ps c e)) (λ e.
-    pick e (λ w e. as_word w (mark_bike_sound ps c e)) (λ e.
-    pick e (λ w e. as_word w (retire_bike_sound ps c e)) (λ e.
-    pick e (λ w e. as_word w (add_truck_sound ps c e)) (λ e.
-    pick e (λ w e. as_word w (add_rider_sound ps c e)) (λ e.
-    pick e (λ w e. as_word w (set_rider_sound ps c e)) (λ e.
-    pick e (λ w e. as_word w (top_up_sound ps c e)) (λ e.
-    pick e (λ w e. as_word w (start_sound ps c e)) (λ e.
-    pick e (λ w e. as_word w (end_sound ps c e)) (λ e.
-    pick e (λ w e. as_word w (recover_sound ps c e)) (λ e.
-    pick e (λ w e. as_word w (refund_sound ps c e)) (λ e.
-    pick e (λ w e. as_word w (open_order_sound ps c e)) (λ e.
-    pick e (λ w e. as_word w (load_sound ps c e)) (λ e.
-    pick e (λ w e. as_word w (unload_sound ps c e)) (λ e.
-    pick e (λ w e. as_word w (close_order_sound ps c e)) (λ e.
-    pick e (λ w e. as_word w (add_region_sound ps c e)) (λ e.
-    pick e (λ w e. as_word w (set_region_sound ps c e)) (λ e.
-    pick e (λ w e. as_word w (add_name_sound ps c e)) (λ e.
-    pick e (λ w e. as_word w (set_name_sound ps c e)) (λ e.
-    pick e (λ w e. as_word w (remove_name_sound ps c e)) (λ e.
-    pick e (λ w e. as_word w (change_system_sound ps c e)) (λ e.
-    pick e (λ w e. as_word w (move_station_sound ps c e)) (λ e.
-    pick e (λ w e. as_word w (add_docks_sound ps c e)) (λ e.
-    absurd cc))))))))))))))))))))))))))))))
+plan_not_made = not_made plan_kind refl (λ v. option_map command.AddPlan (plan_within (plan_of_fields v.0 v.1.0 v.1.1.0 v.1.1.1.0 v.1.1.1.1.0 v.1.1.1.1.1))) (λ v g. rw (le-leb (length v.1.1.1.1.1) 8 g.1.1.1.1.1.0.1) refl)
 
-by_word_full : (c : Command) (ps : Parts) → AreRead (fields_of c) ps → command_by (word_of c) ps ≡ Some c
+pub type_not_made : (ps : Parts) (e : Unread) (s : Result Command Unread) → IsReading {A = Value type_kind} (all_at (reads type_kind) ps) (Err e) → IsErr s × IsErrAnd s (λ x. x ≡ e) → IsReading (command_by (codes "add-type") ps) s
 unfolding command_by
-by_word_full (SetSystem row) ps read = set_system_full row ps read
-by_word_full (AddPlan row) ps read = add_plan_full row ps read
-by_word_full (AddType row) ps read = add_type_full row ps read
-by_word_full (SetPlan type_id plan) ps read = set_plan_full type_id plan ps read
-by_word_full (AddStation row) ps read = add_station_full row ps read
-by_word_full (SetStation station installed renting returning) ps read = set_station_full station installed renting returning ps read
-by_word_full (MarkDock station dock broken) ps read = mark_dock_full station dock broken ps read
-by_word_full (AddBike bike type_id) ps read = add_bike_full bike type_id ps read
-by_word_full (MarkBike bike disabled) ps read = mark_bike_full bike disabled ps read
-by_word_full (RetireBike bike) ps read = retire_bike_full bike ps read
-by_word_full (AddTruck truck capacity) ps read = add_truck_full truck capacity ps read
-by_word_full (AddRider rider) ps read = add_rider_full rider ps read
-by_word_full (SetRider rider blocked) ps read = set_rider_full rider blocked ps read
-by_word_full (TopUp rider amount) ps read = top_up_full rider amount ps read
-by_word_full (Start rider station dock) ps read = start_full rider station dock ps read
-by_word_full (End bike station dock) ps read = end_full bike station dock ps read
-by_word_full (Recover rental) ps read = recover_full rental ps read
-by_word_full (Refund rental amount) ps read = refund_full rental amount ps read
-by_word_full (OpenOrder truck from_end to_end type_id count) ps read = open_order_full truck from_end to_end type_id count ps read
-by_word_full (Load truck order bike) ps read = load_full truck order bike ps read
-by_word_full (Unload truck order bike side dock) ps read = unload_full truck order bike side dock ps read
-by_word_full (CloseOrder order) ps read = close_order_full order ps read
-by_word_full (AddRegion row) ps read = add_region_full row ps read
-by_word_full (SetRegion station region) ps read = set_region_full station region ps read
-by_word_full (AddName kind id language name) ps read = add_name_full kind id language name ps read
-by_word_full (SetName kind id language name) ps read = set_name_full kind id language name ps read
-by_word_full (RemoveName kind id language) ps read = remove_name_full kind id language ps read
-by_word_full (ChangeSystem row) ps read = change_system_full row ps read
-by_word_full (MoveStation station p) ps read = move_station_full station p ps read
-by_word_full (AddDocks station count) ps read = add_docks_full station count ps read
+type_not_made = not_made type_kind refl (λ v. option_map command.AddType (type_within (type_of_fields v.0 v.1.0 v.1.1.0 v.1.1.1.0.0 v.1.1.1.0.1 v.1.1.1.1))) (λ v g. rw (range_holds v.1.1.1.0.0 v.1.1.1.0.1 g.1.1.1.1.0) refl)
+
+pub station_not_made : (ps : Parts) (e : Unread) (s : Result Command Unread) → IsReading {A = Value station_kind} (all_at (reads station_kind) ps) (Err e) → IsErr s × IsErrAnd s (λ x. x ≡ e) → IsReading (command_by (codes "add-station") ps) s
+unfolding command_by
+station_not_made = not_made station_kind refl (λ v. option_map command.AddStation (station_within (station_of_fields v.0 v.1.0 v.1.1.0 v.1.1.1.0 v.1.1.1.1))) (λ v g. rw (latitude_holds v.1.1.0 (g.1.1.0.0, g.1.1.0.1)) refl)
+
+pub position_not_made : (ps : Parts) (e : Unread) (s : Result Command Unread) → IsReading {A = Value position_kind} (all_at (reads position_kind) ps) (Err e) → IsErr s × IsErrAnd s (λ x. x ≡ e) → IsReading (command_by (codes "move-station") ps) s
+unfolding command_by
+position_not_made = not_made position_kind refl (λ v. option_map (command.MoveStation v.0) (position_within (position_of_fields v.1.0 v.1.1))) (λ v g. rw (latitude_holds v.1.0 (g.1.0.0, g.1.0.1)) refl)
 
 pub word_no_tab : (c : Command) → HasNoTab (word_of c)
-word_no_tab (SetSystem row) = refl
-word_no_tab (AddPlan row) = refl
-word_no_tab (AddType row) = refl
-word_no_tab (SetPlan type_id plan) = refl
-word_no_tab (AddStation row) = refl
-word_no_tab (SetStation station installed renting returning) = refl
-word_no_tab (MarkDock station dock broken) = refl
-word_no_tab (AddBike bike type_id) = refl
-word_no_tab (MarkBike bike disabled) = refl
-word_no_tab (RetireBike bike) = refl
-word_no_tab (AddTruck truck capacity) = refl
-word_no_tab (AddRider rider) = refl
-word_no_tab (SetRider rider blocked) = refl
-word_no_tab (TopUp rider amount) = refl
-word_no_tab (Start rider station dock) = refl
-word_no_tab (End bike station dock) = refl
-word_no_tab (Recover rental) = refl
-word_no_tab (Refund rental amount) = refl
-word_no_tab (OpenOrder truck from_end to_end type_id count) = refl
-word_no_tab (Load truck order bike) = refl
-word_no_tab (Unload truck order bike side dock) = refl
-word_no_tab (CloseOrder order) = refl
-word_no_tab (AddRegion row) = refl
-word_no_tab (SetRegion station region) = refl
-word_no_tab (AddName kind id language name) = refl
-word_no_tab (SetName kind id language name) = refl
-word_no_tab (RemoveName kind id language) = refl
-word_no_tab (ChangeSystem row) = refl
-word_no_tab (MoveStation station p) = refl
-word_no_tab (AddDocks station count) = refl
+word_no_tab c =
+    let m = is_made c in
+    let r = row_is rows are_rows are_fit (word_of c) m.row m.found in
+    subst HasNoTab (sym r.same) r.free
+
+-- ---- all parts
 
 -- the parts are the command's word and fields
 pub record IsReadOf (ps : Parts) (c : Command) : Type 0 where
@@ -130,19 +177,28 @@ pub record IsReadOf (ps : Parts) (c : Command) : Type 0 where
   pub read : AreRead (fields_of c) parts
 
 pub parts_sound : (ps : Parts) (c : Command) → command_at ps ≡ Some c → IsReadOf ps c
-unfolding command_at
+unfolding command_at command_by
 parts_sound ps c e =
-    option_and_then_some (λ x. command_by x.0 x.1) (part_at ps) c e (λ x p s.
-    let r = by_word_sound x.0 x.1 c s in
+    option_and_then_some (λ x. row_by rows x.0 >>= λ r. made_at r x.1) (part_at ps) c e (λ x p e.
+    option_and_then_some (λ r. made_at r x.1) (row_by rows x.0) c e (λ r found e.
+    option_and_then_some r.made (all_at (reads r.kind) x.1) c e (λ v read made.
+    let row = row_is rows are_rows are_fit x.0 r found in
+    let is = row.law v c made in
     record {
       parts = x.1;
-      split = part_is ps x p ∙ ap (λ (w : List ℕ). w ∷ x.1) r.word_is;
-      read = subst (λ (fs : List Field). AreRead fs x.1) (sym r.whole) r.read;
-    })
+      split = part_is ps x p ∙ ap (λ (w : List ℕ). w ∷ x.1) (row.same ∙ is.0);
+      read = subst (λ (fs : List Field). AreRead fs x.1) (sym is.1) (all_sound (exact r.kind row.fit) x.1 v read);
+    })))
 
 pub parts_full : (ps : Parts) (c : Command) → IsReadOf ps c → command_at ps ≡ Some c
-unfolding command_at
-parts_full ps c h = rw h.split (by_word_full c h.parts h.read)
+unfolding command_at command_by
+parts_full ps c h =
+    let m = is_made c in
+    let row = row_is rows are_rows are_fit (word_of c) m.row m.found in
+    let made = m.made h.read.good in
+    let is = row.law m.values c made in
+    let read : all_at (reads m.row.kind) h.parts ≡ Some m.values = all_full (exact m.row.kind row.fit) h.parts m.values (subst (λ (fs : List Field). AreRead fs h.parts) is.1 h.read) in
+    rw (h.split, m.found, read) made
 
 -- the text spells the command, whose fields keep their bounds
 pub record IsRead (text : List ℕ) (c : Command) : Type 0 where

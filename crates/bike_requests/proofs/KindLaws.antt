@@ -1,323 +1,169 @@
--- Commands are read exactly, kind by kind: what is read is spelled by the parts, and what the parts spell is read.
-use Rattle.std.proofs.Common.{◌≡◌, ℕ, List, [], Bool, Option, Some, refl, lit<, codes}
-use Rattle.bike_fields.specs.declared.numbers.TheConstants.{MOST_DOCKS}
-use Rattle.bike_texts.specs.declared.ends.OrderEnd.{OrderEnd}
-use Rattle.bike_texts.specs.declared.ends.Side.{Side}
+-- Fields are read exactly: what is read is spelled by the parts, and what the parts spell is read.
+use Rattle.std.proofs.Common.{◌≡◌, ℕ, List, [], ◌∷◌, ◌++◌, ◌&&◌, Bool, true, false, not, ◌==◌, Option, Some, None, Result, Ok, Err, OnOk, refl, sym, ap, ◌∙◌, subst, arith, append_assoc, codes}
+use Rattle.std.specs.Prelude.{nat_le, ◌≤◌}
+use Rattle.std.specs.List.{list_all}
+use Rattle.std.specs.Str.{bytes_eq}
+use Rattle.std.proofs.lemmas.Bool.Decides.{nat_tests}
+use Rattle.std.proofs.lemmas.List.{append-nil}
+use Rattle.std.proofs.lemmas.Option.{option_and_then_some, same_Some}
+use Rattle.bike_fields.proofs.Lengths.{both_hold}
+use Rattle.bike_attributes.specs.Vehicle.{propulsion_text}
+use Rattle.bike_attributes.specs.declared.vehicle.Propulsion.{Propulsion}
 use Rattle.bike_texts.specs.Parts.{Parts}
-use Rattle.bike_texts.specs.Fields.{Field, Number, Choice}
-use Rattle.bike_texts.specs.Reading.{choice_of}
+use Rattle.bike_texts.specs.Fields.{Field, fields_text, field_text}
+use Rattle.bike_texts.specs.Reading.{◌>>=◌, field_at, no_more, metres_of}
 use Rattle.bike_texts.proofs.TabFree.{AreRead}
-use Rattle.bike_texts.proofs.Chains.{IsReader, Rest, number_reader, choice_reader, ident_reader, side_reader, end_reader, ident_or_none_reader, takes, ends, gives, given_all}
-use Rattle.bike_commands.specs.declared.command.Command.{Command}
-use Rattle.bike_commands.specs.declared.command.Command.TheVariants.{SetPlan, SetStation, MarkDock, AddBike, MarkBike, RetireBike, AddTruck, AddRider, SetRider, TopUp, Start, End, Recover, Refund, OpenOrder, Load, Unload, CloseOrder, SetRegion, AddDocks}
-use Rattle.bike_commands.specs.Commands.{word_of, fields_of}
-use Rattle.bike_requests.specs.Readers.{numbered_of, dock_of, unload_dock_of, serial_of, payment_of, few_of, flag_of, set_plan_at, set_station_at, mark_dock_at, add_bike_at, mark_bike_at, retire_bike_at, add_truck_at, add_rider_at, set_rider_at, top_up_at, start_at, end_at, recover_at, refund_at, open_order_at, load_at, unload_at, close_order_at, set_region_at, add_docks_at}
+use Rattle.bike_texts.proofs.Chains.{IsReader, number_reader, choice_reader, ident_reader, language_reader, currency_reader, name_reader, ascii_reader, degrees_reader, form_reader, propulsion_reader, metres_reader, segments_reader, end_reader, ident_or_none_reader, side_reader, kind_reader}
+use Rattle.bike_requests.specs.Kinds.{Kind, Numbers, Idents, Languages, Currencies, Names, Asciis, Choices, Coordinates, Forms, Ranges, SegmentLists, Ends, IdentsOrNone, Sides, NameKinds, ◌&◌, Value, then_at, reads, fields_with, all_at}
 
-abbrev pub Left : List ℕ → Command → List Field → Parts → Type 0
-Left = Rest word_of fields_of
+-- the fields stand first in the parts
+pub record IsFirst (fields : List Field) (ps rest : Parts) : Type 0 where
+  pub front : Parts
+  pub split : ps ≡ front ++ rest
+  pub read : AreRead fields front
 
-numbered_reader : IsReader numbered_of (Number 1 999999)
-numbered_reader = number_reader 1 999999 (lit< tt)
+-- the reader gives exactly the values whose fields stand first
+pub record IsExact {A : Type 0} (read : Parts → Option (A × Parts)) (fields : A → List Field) : Type 0 where
+  pub sound : (ps : Parts) (x : A × Parts) → read ps ≡ Some x → IsFirst (fields x.0) ps x.1
+  pub full : (ps rest : Parts) (a : A) → IsFirst (fields a) ps rest → read ps ≡ Some (a, rest)
 
-pub dock_reader : IsReader dock_of (Number 1 MOST_DOCKS)
-dock_reader = number_reader 1 MOST_DOCKS (lit< tt)
+-- ---- one field
 
-unload_dock_reader : IsReader unload_dock_of (Number 0 MOST_DOCKS)
-unload_dock_reader = number_reader 0 MOST_DOCKS (lit< tt)
+one_exact : {A : Type 0} {read : List ℕ → Option A} {field : A → Field} → IsReader read field → IsExact (field_at read) (λ a. field a ∷ [])
+one_exact {A = A} {read = read} {field = field} reader = record { sound = sound; full = λ ps rest a h. rw h.split (full h.front rest a h.read) } where
+  sound : (ps : Parts) (x : A × Parts) → field_at read ps ≡ Some x → IsFirst (field x.0 ∷ []) ps x.1
+  sound [] x e = absurd cc
+  sound (p ∷ ps) x e =
+      option_and_then_some (λ a. Some (a, ps)) (read p) x e (λ a r s.
+      let got = reader.sound p a r in
+      let first : IsFirst (field a ∷ []) (p ∷ ps) ps = record { front = p ∷ []; split = refl; read = record { each = (got.0, tt); good = (got.1, tt) } } in
+      subst (λ (y : A × Parts). IsFirst (field y.0 ∷ []) (p ∷ ps) y.1) (same_Some (a, ps) x s) first)
 
-serial_reader : IsReader serial_of (Number 1 100000000)
-serial_reader = number_reader 1 100000000 (lit< tt)
+  full : (front rest : Parts) (a : A) → AreRead (field a ∷ []) front → field_at read (front ++ rest) ≡ Some (a, rest)
+  full [] rest a h = absurd h.each
+  full (p ∷ []) rest a h = rw (reader.full p a h.each.0 h.good.0) refl
+  full (p ∷ q ∷ qs) rest a h = absurd h.each.1
 
-payment_reader : IsReader payment_of (Number 1 1000000)
-payment_reader = number_reader 1 1000000 (lit< tt)
+-- ---- one behind another
 
-few_reader : IsReader few_of (Number 1 60)
-few_reader = number_reader 1 60 (lit< tt)
+both_read : (fs gs : List Field) (ps qs : Parts) → AreRead fs ps → AreRead gs qs → AreRead (fs ++ gs) (ps ++ qs)
+both_read [] gs [] qs a b = b
+both_read [] gs (p ∷ ps) qs a b = absurd a.each
+both_read (f ∷ fs) gs [] qs a b = absurd a.each
+both_read (f ∷ fs) gs (p ∷ ps) qs a b =
+    let others = both_read fs gs ps qs (record { each = a.each.1; good = a.good.1 }) b in
+    record { each = (a.each.0, others.each); good = (a.good.0, others.good) }
 
-pub flag_reader : IsReader flag_of (Choice (codes "true") (codes "false"))
-flag_reader = choice_reader (codes "true") (codes "false") refl refl refl
+-- the parts of all fields are those of the first ones and those of the others
+record AreParted (fs gs : List Field) (ps : Parts) : Type 0 where
+  front : Parts
+  back : Parts
+  split : ps ≡ front ++ back
+  first : AreRead fs front
+  others : AreRead gs back
 
-broken_reader : IsReader (choice_of (codes "broken") (codes "working")) (Choice (codes "broken") (codes "working"))
-broken_reader = choice_reader (codes "broken") (codes "working") refl refl refl
+parted : (fs gs : List Field) (ps : Parts) → AreRead (fs ++ gs) ps → AreParted fs gs ps
+parted [] gs ps h = record { front = []; back = ps; split = refl; first = record { each = tt; good = tt }; others = h }
+parted (f ∷ fs) gs [] h = absurd h.each
+parted (f ∷ fs) gs (p ∷ ps) h =
+    let more = parted fs gs ps (record { each = h.each.1; good = h.good.1 }) in
+    record {
+      front = p ∷ more.front;
+      back = more.back;
+      split = ap (λ (qs : Parts). p ∷ qs) more.split;
+      first = record { each = (h.each.0, more.first.each); good = (h.good.0, more.first.good) };
+      others = more.others;
+    }
 
-disabled_reader : IsReader (choice_of (codes "disabled") (codes "fit")) (Choice (codes "disabled") (codes "fit"))
-disabled_reader = choice_reader (codes "disabled") (codes "fit") refl refl refl
+then_exact : {A B : Type 0} {first : Parts → Option (A × Parts)} {second : A → Parts → Option (B × Parts)} {f : A → List Field} {g : A → B → List Field}
+    → IsExact first f → ((a : A) → IsExact (second a) (g a)) → IsExact (then_at first second) (λ v. f v.0 ++ g v.0 v.1)
+then_exact {A = A} {B = B} {first = first} {second = second} {f = f} {g = g} one other = record { sound = sound; full = full } where
+  sound : (ps : Parts) (x : (A × B) × Parts) → then_at first second ps ≡ Some x → IsFirst (f x.0.0 ++ g x.0.0 x.0.1) ps x.1
+  sound ps x e =
+      option_and_then_some (λ a. second a.0 a.1 >>= λ b. Some ((a.0, b.0), b.1)) (first ps) x e (λ a ea e.
+      option_and_then_some (λ b. Some ((a.0, b.0), b.1)) (second a.0 a.1) x e (λ b eb e.
+      let s = one.sound ps a ea in
+      let t = (other a.0).sound a.1 b eb in
+      let both : IsFirst (f a.0 ++ g a.0 b.0) ps b.1 = record {
+        front = s.front ++ t.front;
+        split = s.split ∙ ap (λ (qs : Parts). s.front ++ qs) t.split ∙ sym (append_assoc s.front t.front b.1);
+        read = both_read (f a.0) (g a.0 b.0) s.front t.front s.read t.read;
+      } in
+      subst (λ (y : (A × B) × Parts). IsFirst (f y.0.0 ++ g y.0.0 y.0.1) ps y.1) (same_Some ((a.0, b.0), b.1) x e) both))
 
-blocked_reader : IsReader (choice_of (codes "blocked") (codes "open")) (Choice (codes "blocked") (codes "open"))
-blocked_reader = choice_reader (codes "blocked") (codes "open") refl refl refl
+  full : (ps rest : Parts) (v : A × B) → IsFirst (f v.0 ++ g v.0 v.1) ps rest → then_at first second ps ≡ Some (v, rest)
+  full ps rest v h =
+      let p = parted (f v.0) (g v.0 v.1) h.front h.read in
+      let split : ps ≡ p.front ++ (p.back ++ rest) = h.split ∙ ap (λ (qs : Parts). qs ++ rest) p.split ∙ append_assoc p.front p.back rest in
+      let got : first ps ≡ Some (v.0, p.back ++ rest) = one.full ps (p.back ++ rest) v.0 (record { front = p.front; split = split; read = p.first }) in
+      let more : second v.0 (p.back ++ rest) ≡ Some (v.1, rest) = (other v.0).full (p.back ++ rest) rest v.1 (record { front = p.back; split = refl; read = p.others }) in
+      rw (got, more) refl
 
-pub set_plan_sound : (ps : Parts) (c : Command) → set_plan_at ps ≡ Some c → Left (codes "set-plan") c [] ps
-unfolding set_plan_at
-set_plan_sound ps c e =
-    takes _ ps ident_reader e (λ type_id ps e.
-    takes _ ps ident_reader e (λ plan ps e.
-    ends (SetPlan type_id plan) ps refl refl e))
+-- ---- every kind
 
-pub set_plan_full : (type_id : List ℕ) (plan : List ℕ) (ps : Parts) → AreRead (fields_of (SetPlan type_id plan)) ps → set_plan_at ps ≡ Some (SetPlan type_id plan)
-unfolding set_plan_at
-set_plan_full type_id plan ps whole =
-    gives _ type_id ps ident_reader whole (λ ps read.
-    gives _ plan ps ident_reader read given_all)
+-- its bounds fit, and its words have no TAB and differ
+abbrev pub is_fit : Kind → Bool
+is_fit (Numbers least greatest) = nat_le greatest 4294967295
+is_fit (Choices word other) = list_all (λ b. not (b == 9)) word && list_all (λ b. not (b == 9)) other && not (bytes_eq other word)
+is_fit (Coordinates greatest) = nat_le greatest 180000000
+is_fit (k & l) = is_fit k && is_fit l
+is_fit _ = true
 
-pub set_station_sound : (ps : Parts) (c : Command) → set_station_at ps ≡ Some c → Left (codes "set-station") c [] ps
-unfolding set_station_at
-set_station_sound ps c e =
-    takes _ ps ident_reader e (λ station ps e.
-    takes _ ps flag_reader e (λ installed ps e.
-    takes _ ps flag_reader e (λ renting ps e.
-    takes _ ps flag_reader e (λ returning ps e.
-    ends (SetStation station installed renting returning) ps refl refl e))))
+is_false : (b : Bool) → not b ≡ true → b ≡ false
+is_false true h = absurd cc
+is_false false h = refl
 
-pub set_station_full : (station : List ℕ) (installed : Bool) (renting : Bool) (returning : Bool) (ps : Parts) → AreRead (fields_of (SetStation station installed renting returning)) ps → set_station_at ps ≡ Some (SetStation station installed renting returning)
-unfolding set_station_at
-set_station_full station installed renting returning ps whole =
-    gives _ station ps ident_reader whole (λ ps read.
-    gives _ installed ps flag_reader read (λ ps read.
-    gives _ renting ps flag_reader read (λ ps read.
-    gives _ returning ps flag_reader read given_all)))
+pub exact : (k : Kind) → is_fit k ≡ true → IsExact (reads k) (fields_with k)
+exact (Numbers least greatest) fit = let small : greatest ≤ 4294967295 = grind (arith, nat_tests, fit) in one_exact (number_reader least greatest (omega (arith, small)))
+exact Idents fit = one_exact ident_reader
+exact Languages fit = one_exact language_reader
+exact Currencies fit = one_exact currency_reader
+exact Names fit = one_exact name_reader
+exact Asciis fit = one_exact ascii_reader
+exact (Choices word other) fit =
+    let apart = both_hold (list_all (λ b. not (b == 9)) word && list_all (λ b. not (b == 9)) other) (not (bytes_eq other word)) fit in
+    let free = both_hold (list_all (λ b. not (b == 9)) word) (list_all (λ b. not (b == 9)) other) apart.0 in
+    one_exact (choice_reader word other free.0 free.1 (is_false (bytes_eq other word) apart.1))
+exact (Coordinates greatest) fit = let small : greatest ≤ 180000000 = grind (arith, nat_tests, fit) in one_exact (degrees_reader greatest small)
+exact Forms fit = one_exact form_reader
+exact Ranges fit = then_exact (one_exact propulsion_reader) (λ propulsion. one_exact (metres_reader propulsion))
+exact SegmentLists fit = one_exact segments_reader
+exact Ends fit = one_exact end_reader
+exact IdentsOrNone fit = one_exact ident_or_none_reader
+exact Sides fit = one_exact side_reader
+exact NameKinds fit = one_exact kind_reader
+exact (k & l) fit = let both = both_hold (is_fit k) (is_fit l) fit in then_exact (exact k both.0) (λ _. exact l both.1)
 
-pub mark_dock_sound : (ps : Parts) (c : Command) → mark_dock_at ps ≡ Some c → Left (codes "mark-dock") c [] ps
-unfolding mark_dock_at
-mark_dock_sound ps c e =
-    takes _ ps ident_reader e (λ station ps e.
-    takes _ ps dock_reader e (λ dock ps e.
-    takes _ ps broken_reader e (λ broken ps e.
-    ends (MarkDock station dock broken) ps refl refl e)))
+-- ---- all fields
 
-pub mark_dock_full : (station : List ℕ) (dock : ℕ) (broken : Bool) (ps : Parts) → AreRead (fields_of (MarkDock station dock broken)) ps → mark_dock_at ps ≡ Some (MarkDock station dock broken)
-unfolding mark_dock_at
-mark_dock_full station dock broken ps whole =
-    gives _ station ps ident_reader whole (λ ps read.
-    gives _ dock ps dock_reader read (λ ps read.
-    gives _ broken ps broken_reader read given_all))
+nothing_left : {A : Type 0} (a b : A) (rest : Parts) → (no_more rest >>= λ u. Some a) ≡ Some b → (rest ≡ []) × (a ≡ b)
+nothing_left a b [] e = (refl, same_Some a b e)
+nothing_left a b (p ∷ ps) e = absurd cc
 
-pub add_bike_sound : (ps : Parts) (c : Command) → add_bike_at ps ≡ Some c → Left (codes "add-bike") c [] ps
-unfolding add_bike_at
-add_bike_sound ps c e =
-    takes _ ps numbered_reader e (λ bike ps e.
-    takes _ ps ident_reader e (λ type_id ps e.
-    ends (AddBike bike type_id) ps refl refl e))
+pub all_sound : {A : Type 0} {read : Parts → Option (A × Parts)} {fields : A → List Field} → IsExact read fields → (ps : Parts) (a : A) → all_at read ps ≡ Some a → AreRead (fields a) ps
+all_sound {A = A} {read = read} {fields = fields} reader ps a e =
+    option_and_then_some (λ x. no_more x.1 >>= λ u. Some x.0) (read ps) a e (λ x first e.
+    let s = reader.sound ps x first in
+    let end = nothing_left x.0 a x.1 e in
+    let split : s.front ≡ ps = sym (s.split ∙ ap (λ (qs : Parts). s.front ++ qs) end.0 ∙ append-nil s.front) in
+    subst (λ (b : A). AreRead (fields b) ps) end.1 (subst (λ (qs : Parts). AreRead (fields x.0) qs) split s.read))
 
-pub add_bike_full : (bike : ℕ) (type_id : List ℕ) (ps : Parts) → AreRead (fields_of (AddBike bike type_id)) ps → add_bike_at ps ≡ Some (AddBike bike type_id)
-unfolding add_bike_at
-add_bike_full bike type_id ps whole =
-    gives _ bike ps numbered_reader whole (λ ps read.
-    gives _ type_id ps ident_reader read given_all)
+pub all_full : {A : Type 0} {read : Parts → Option (A × Parts)} {fields : A → List Field} → IsExact read fields → (ps : Parts) (a : A) → AreRead (fields a) ps → all_at read ps ≡ Some a
+all_full reader ps a h = rw (reader.full ps [] a (record { front = ps; split = sym (append-nil ps); read = h })) refl
 
-pub mark_bike_sound : (ps : Parts) (c : Command) → mark_bike_at ps ≡ Some c → Left (codes "mark-bike") c [] ps
-unfolding mark_bike_at
-mark_bike_sound ps c e =
-    takes _ ps numbered_reader e (λ bike ps e.
-    takes _ ps disabled_reader e (λ disabled ps e.
-    ends (MarkBike bike disabled) ps refl refl e))
+-- ---- writing
 
-pub mark_bike_full : (bike : ℕ) (disabled : Bool) (ps : Parts) → AreRead (fields_of (MarkBike bike disabled)) ps → mark_bike_at ps ≡ Some (MarkBike bike disabled)
-unfolding mark_bike_at
-mark_bike_full bike disabled ps whole =
-    gives _ bike ps numbered_reader whole (λ ps read.
-    gives _ disabled ps disabled_reader read given_all)
+fields_text_append : (fs gs : List Field) → fields_text (fs ++ gs) ≡ fields_text fs ++ fields_text gs
+unfolding fields_text
+fields_text_append [] gs = refl
+fields_text_append (f ∷ fs) gs =
+    ap (λ (text : List ℕ). 9 ∷ field_text f ++ text) (fields_text_append fs gs) ∙ sym (append_assoc (9 ∷ field_text f) (fields_text fs) (fields_text gs))
 
-pub retire_bike_sound : (ps : Parts) (c : Command) → retire_bike_at ps ≡ Some c → Left (codes "retire-bike") c [] ps
-unfolding retire_bike_at
-retire_bike_sound ps c e =
-    takes _ ps numbered_reader e (λ bike ps e.
-    ends (RetireBike bike) ps refl refl e)
-
-pub retire_bike_full : (bike : ℕ) (ps : Parts) → AreRead (fields_of (RetireBike bike)) ps → retire_bike_at ps ≡ Some (RetireBike bike)
-unfolding retire_bike_at
-retire_bike_full bike ps whole =
-    gives _ bike ps numbered_reader whole given_all
-
-pub add_truck_sound : (ps : Parts) (c : Command) → add_truck_at ps ≡ Some c → Left (codes "add-truck") c [] ps
-unfolding add_truck_at
-add_truck_sound ps c e =
-    takes _ ps numbered_reader e (λ truck ps e.
-    takes _ ps few_reader e (λ capacity ps e.
-    ends (AddTruck truck capacity) ps refl refl e))
-
-pub add_truck_full : (truck : ℕ) (capacity : ℕ) (ps : Parts) → AreRead (fields_of (AddTruck truck capacity)) ps → add_truck_at ps ≡ Some (AddTruck truck capacity)
-unfolding add_truck_at
-add_truck_full truck capacity ps whole =
-    gives _ truck ps numbered_reader whole (λ ps read.
-    gives _ capacity ps few_reader read given_all)
-
-pub add_rider_sound : (ps : Parts) (c : Command) → add_rider_at ps ≡ Some c → Left (codes "add-rider") c [] ps
-unfolding add_rider_at
-add_rider_sound ps c e =
-    takes _ ps numbered_reader e (λ rider ps e.
-    ends (AddRider rider) ps refl refl e)
-
-pub add_rider_full : (rider : ℕ) (ps : Parts) → AreRead (fields_of (AddRider rider)) ps → add_rider_at ps ≡ Some (AddRider rider)
-unfolding add_rider_at
-add_rider_full rider ps whole =
-    gives _ rider ps numbered_reader whole given_all
-
-pub set_rider_sound : (ps : Parts) (c : Command) → set_rider_at ps ≡ Some c → Left (codes "set-rider") c [] ps
-unfolding set_rider_at
-set_rider_sound ps c e =
-    takes _ ps numbered_reader e (λ rider ps e.
-    takes _ ps blocked_reader e (λ blocked ps e.
-    ends (SetRider rider blocked) ps refl refl e))
-
-pub set_rider_full : (rider : ℕ) (blocked : Bool) (ps : Parts) → AreRead (fields_of (SetRider rider blocked)) ps → set_rider_at ps ≡ Some (SetRider rider blocked)
-unfolding set_rider_at
-set_rider_full rider blocked ps whole =
-    gives _ rider ps numbered_reader whole (λ ps read.
-    gives _ blocked ps blocked_reader read given_all)
-
-pub top_up_sound : (ps : Parts) (c : Command) → top_up_at ps ≡ Some c → Left (codes "top-up") c [] ps
-unfolding top_up_at
-top_up_sound ps c e =
-    takes _ ps numbered_reader e (λ rider ps e.
-    takes _ ps payment_reader e (λ amount ps e.
-    ends (TopUp rider amount) ps refl refl e))
-
-pub top_up_full : (rider : ℕ) (amount : ℕ) (ps : Parts) → AreRead (fields_of (TopUp rider amount)) ps → top_up_at ps ≡ Some (TopUp rider amount)
-unfolding top_up_at
-top_up_full rider amount ps whole =
-    gives _ rider ps numbered_reader whole (λ ps read.
-    gives _ amount ps payment_reader read given_all)
-
-pub start_sound : (ps : Parts) (c : Command) → start_at ps ≡ Some c → Left (codes "start") c [] ps
-unfolding start_at
-start_sound ps c e =
-    takes _ ps numbered_reader e (λ rider ps e.
-    takes _ ps ident_reader e (λ station ps e.
-    takes _ ps dock_reader e (λ dock ps e.
-    ends (Start rider station dock) ps refl refl e)))
-
-pub start_full : (rider : ℕ) (station : List ℕ) (dock : ℕ) (ps : Parts) → AreRead (fields_of (Start rider station dock)) ps → start_at ps ≡ Some (Start rider station dock)
-unfolding start_at
-start_full rider station dock ps whole =
-    gives _ rider ps numbered_reader whole (λ ps read.
-    gives _ station ps ident_reader read (λ ps read.
-    gives _ dock ps dock_reader read given_all))
-
-pub end_sound : (ps : Parts) (c : Command) → end_at ps ≡ Some c → Left (codes "end") c [] ps
-unfolding end_at
-end_sound ps c e =
-    takes _ ps numbered_reader e (λ bike ps e.
-    takes _ ps ident_reader e (λ station ps e.
-    takes _ ps dock_reader e (λ dock ps e.
-    ends (End bike station dock) ps refl refl e)))
-
-pub end_full : (bike : ℕ) (station : List ℕ) (dock : ℕ) (ps : Parts) → AreRead (fields_of (End bike station dock)) ps → end_at ps ≡ Some (End bike station dock)
-unfolding end_at
-end_full bike station dock ps whole =
-    gives _ bike ps numbered_reader whole (λ ps read.
-    gives _ station ps ident_reader read (λ ps read.
-    gives _ dock ps dock_reader read given_all))
-
-pub recover_sound : (ps : Parts) (c : Command) → recover_at ps ≡ Some c → Left (codes "recover") c [] ps
-unfolding recover_at
-recover_sound ps c e =
-    takes _ ps serial_reader e (λ rental ps e.
-    ends (Recover rental) ps refl refl e)
-
-pub recover_full : (rental : ℕ) (ps : Parts) → AreRead (fields_of (Recover rental)) ps → recover_at ps ≡ Some (Recover rental)
-unfolding recover_at
-recover_full rental ps whole =
-    gives _ rental ps serial_reader whole given_all
-
-pub refund_sound : (ps : Parts) (c : Command) → refund_at ps ≡ Some c → Left (codes "refund") c [] ps
-unfolding refund_at
-refund_sound ps c e =
-    takes _ ps serial_reader e (λ rental ps e.
-    takes _ ps payment_reader e (λ amount ps e.
-    ends (Refund rental amount) ps refl refl e))
-
-pub refund_full : (rental : ℕ) (amount : ℕ) (ps : Parts) → AreRead (fields_of (Refund rental amount)) ps → refund_at ps ≡ Some (Refund rental amount)
-unfolding refund_at
-refund_full rental amount ps whole =
-    gives _ rental ps serial_reader whole (λ ps read.
-    gives _ amount ps payment_reader read given_all)
-
-pub open_order_sound : (ps : Parts) (c : Command) → open_order_at ps ≡ Some c → Left (codes "open-order") c [] ps
-unfolding open_order_at
-open_order_sound ps c e =
-    takes _ ps numbered_reader e (λ truck ps e.
-    takes _ ps end_reader e (λ from_end ps e.
-    takes _ ps end_reader e (λ to_end ps e.
-    takes _ ps ident_reader e (λ type_id ps e.
-    takes _ ps few_reader e (λ count ps e.
-    ends (OpenOrder truck from_end to_end type_id count) ps refl refl e)))))
-
-pub open_order_full : (truck : ℕ) (from_end : OrderEnd) (to_end : OrderEnd) (type_id : List ℕ) (count : ℕ) (ps : Parts) → AreRead (fields_of (OpenOrder truck from_end to_end type_id count)) ps → open_order_at ps ≡ Some (OpenOrder truck from_end to_end type_id count)
-unfolding open_order_at
-open_order_full truck from_end to_end type_id count ps whole =
-    gives _ truck ps numbered_reader whole (λ ps read.
-    gives _ from_end ps end_reader read (λ ps read.
-    gives _ to_end ps end_reader read (λ ps read.
-    gives _ type_id ps ident_reader read (λ ps read.
-    gives _ count ps few_reader read given_all))))
-
-pub load_sound : (ps : Parts) (c : Command) → load_at ps ≡ Some c → Left (codes "load") c [] ps
-unfolding load_at
-load_sound ps c e =
-    takes _ ps numbered_reader e (λ truck ps e.
-    takes _ ps serial_reader e (λ order ps e.
-    takes _ ps numbered_reader e (λ bike ps e.
-    ends (Load truck order bike) ps refl refl e)))
-
-pub load_full : (truck : ℕ) (order : ℕ) (bike : ℕ) (ps : Parts) → AreRead (fields_of (Load truck order bike)) ps → load_at ps ≡ Some (Load truck order bike)
-unfolding load_at
-load_full truck order bike ps whole =
-    gives _ truck ps numbered_reader whole (λ ps read.
-    gives _ order ps serial_reader read (λ ps read.
-    gives _ bike ps numbered_reader read given_all))
-
-pub unload_sound : (ps : Parts) (c : Command) → unload_at ps ≡ Some c → Left (codes "unload") c [] ps
-unfolding unload_at
-unload_sound ps c e =
-    takes _ ps numbered_reader e (λ truck ps e.
-    takes _ ps serial_reader e (λ order ps e.
-    takes _ ps numbered_reader e (λ bike ps e.
-    takes _ ps side_reader e (λ side ps e.
-    takes _ ps unload_dock_reader e (λ dock ps e.
-    ends (Unload truck order bike side dock) ps refl refl e)))))
-
-pub unload_full : (truck : ℕ) (order : ℕ) (bike : ℕ) (side : Side) (dock : ℕ) (ps : Parts) → AreRead (fields_of (Unload truck order bike side dock)) ps → unload_at ps ≡ Some (Unload truck order bike side dock)
-unfolding unload_at
-unload_full truck order bike side dock ps whole =
-    gives _ truck ps numbered_reader whole (λ ps read.
-    gives _ order ps serial_reader read (λ ps read.
-    gives _ bike ps numbered_reader read (λ ps read.
-    gives _ side ps side_reader read (λ ps read.
-    gives _ dock ps unload_dock_reader read given_all))))
-
-pub close_order_sound : (ps : Parts) (c : Command) → close_order_at ps ≡ Some c → Left (codes "close-order") c [] ps
-unfolding close_order_at
-close_order_sound ps c e =
-    takes _ ps serial_reader e (λ order ps e.
-    ends (CloseOrder order) ps refl refl e)
-
-pub close_order_full : (order : ℕ) (ps : Parts) → AreRead (fields_of (CloseOrder order)) ps → close_order_at ps ≡ Some (CloseOrder order)
-unfolding close_order_at
-close_order_full order ps whole =
-    gives _ order ps serial_reader whole given_all
-
-pub set_region_sound : (ps : Parts) (c : Command) → set_region_at ps ≡ Some c → Left (codes "set-region") c [] ps
-unfolding set_region_at
-set_region_sound ps c e =
-    takes _ ps ident_reader e (λ station ps e.
-    takes _ ps ident_or_none_reader e (λ region ps e.
-    ends (SetRegion station region) ps refl refl e))
-
-pub set_region_full : (station : List ℕ) (region : Option (List ℕ)) (ps : Parts) → AreRead (fields_of (SetRegion station region)) ps → set_region_at ps ≡ Some (SetRegion station region)
-unfolding set_region_at
-set_region_full station region ps whole =
-    gives _ station ps ident_reader whole (λ ps read.
-    gives _ region ps ident_or_none_reader read given_all)
-
-pub add_docks_sound : (ps : Parts) (c : Command) → add_docks_at ps ≡ Some c → Left (codes "add-docks") c [] ps
-unfolding add_docks_at
-add_docks_sound ps c e =
-    takes _ ps ident_reader e (λ station ps e.
-    takes _ ps dock_reader e (λ count ps e.
-    ends (AddDocks station count) ps refl refl e))
-
-pub add_docks_full : (station : List ℕ) (count : ℕ) (ps : Parts) → AreRead (fields_of (AddDocks station count)) ps → add_docks_at ps ≡ Some (AddDocks station count)
-unfolding add_docks_at
-add_docks_full station count ps whole =
-    gives _ station ps ident_reader whole (λ ps read.
-    gives _ count ps dock_reader read given_all)
+-- the one was written, and the other behind it
+pub both_written : {E : Type 0} (r : Result (Unit {0}) E) (fs gs : List Field) (start middle end : List ℕ) → middle ≡ start ++ fields_text fs → OnOk r (end ≡ middle ++ fields_text gs) → OnOk r (end ≡ start ++ fields_text (fs ++ gs))
+both_written (Ok u) fs gs start middle end first other =
+    other
+    ∙ (ap (λ (text : List ℕ). text ++ fields_text gs) first
+    ∙ (append_assoc start (fields_text fs) (fields_text gs)
+    ∙ ap (λ (text : List ℕ). start ++ text) (sym (fields_text_append fs gs))))
+both_written (Err e) fs gs start middle end first other = tt

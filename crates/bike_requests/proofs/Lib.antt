@@ -1,7 +1,6 @@
 pub mod Escaping
 pub mod SegmentTexts
 pub mod KindLaws
-pub mod RecordLaws
 pub mod CommandLaws
 pub mod OneText
 pub mod RequestLaws

@@ -1,6 +1,6 @@
 pub mod Unread
 pub mod Writing
-pub mod RecordReaders
+pub mod Kinds
 pub mod Readers
 pub mod RequestReaders
 pub mod Spelling

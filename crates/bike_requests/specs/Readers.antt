@@ -1,219 +1,126 @@
--- What is read of a command, a block for each kind.
-use Rattle.std.specs.Prelude.{ℕ, List, Bool, Option, Some, None, if◌then◌else◌, codes}
+-- What is read of a command: a row of its word, the kinds of its fields, and the command that their values make.
+use Rattle.std.specs.Prelude.{ℕ, List, [], ◌∷◌, Option, Some, None, option_map, if◌then◌else◌, codes}
 use Rattle.std.specs.Str.{bytes_eq}
-use Rattle.bike_fixed.specs.Whole.{number_of}
-use Rattle.bike_fields.specs.declared.numbers.TheConstants.{GREATEST_NUMBER, GREATEST_PAYMENT, GREATEST_SERIAL, MOST_CARRIED, MOST_DOCKS}
-use Rattle.bike_fields.specs.Bytes.{ident_of}
+use Rattle.bike_fixed.specs.declared.micro.TheConstants.{GREATEST_COORDINATE}
+use Rattle.bike_attributes.specs.declared.limits.TheConstants.{GREATEST_LATITUDE}
+use Rattle.bike_fields.specs.declared.numbers.TheConstants.{GREATEST_NUMBER, GREATEST_PAYMENT, GREATEST_PRICE, GREATEST_SERIAL, LONGEST_TIME_TO_LIVE, MOST_CARRIED, MOST_DOCKS}
+use Rattle.bike_attributes.specs.Values.{position_of_fields, position_within}
+use Rattle.bike_catalogue.specs.Rows.{system_of_fields, plan_of_fields, plan_within, type_of_fields, type_within, station_of_fields, station_within, region_of_fields, settings_of_fields}
 use Rattle.bike_texts.specs.Parts.{Parts}
-use Rattle.bike_texts.specs.Reading.{◌>>=◌, part_at, field_at, no_more, choice_of, side_of, end_of, ident_or_none_of}
+use Rattle.bike_texts.specs.Reading.{◌>>=◌, part_at}
 use Rattle.bike_commands.specs.declared.command.Command.{Command}
-use Rattle.bike_commands.specs.declared.command.Command.TheVariants.{SetPlan, SetStation, MarkDock, AddBike, MarkBike, RetireBike, AddTruck, AddRider, SetRider, TopUp, Start, End, Recover, Refund, OpenOrder, Load, Unload, CloseOrder, SetRegion, AddDocks}
-use Rattle.bike_requests.specs.RecordReaders.{set_system_at, add_plan_at, add_type_at, add_station_at, add_region_at, add_name_at, set_name_at, remove_name_at, change_system_at, move_station_at}
+use Rattle.bike_commands.specs.declared.command.Command.TheVariants as command
+use Rattle.bike_requests.specs.Kinds.{Kind, Numbers, Idents, Languages, Currencies, Names, Asciis, Choices, Coordinates, Forms, Ranges, SegmentLists, Ends, IdentsOrNone, Sides, NameKinds, ◌&◌, Value, From, at_values, reads, all_at}
 
--- riders, bicycles and trucks; docks, and 0 at the depot; rentals and orders; payments in hundredths; bicycles on a truck
-abbrev pub numbered_of : List ℕ → Option ℕ
-numbered_of = number_of 1 GREATEST_NUMBER
+-- truth values; riders, bicycles, trucks; docks, and 0 at the depot; rentals, orders; payments; bicycles on a truck
+abbrev pub Flags : Kind
+Flags = Choices (codes "true") (codes "false")
 
-abbrev pub dock_of : List ℕ → Option ℕ
-dock_of = number_of 1 MOST_DOCKS
+abbrev pub Numbereds : Kind
+Numbereds = Numbers 1 GREATEST_NUMBER
 
-abbrev pub unload_dock_of : List ℕ → Option ℕ
-unload_dock_of = number_of 0 MOST_DOCKS
+abbrev pub Docks : Kind
+Docks = Numbers 1 MOST_DOCKS
 
-abbrev pub serial_of : List ℕ → Option ℕ
-serial_of = number_of 1 GREATEST_SERIAL
+abbrev pub DocksOrDepot : Kind
+DocksOrDepot = Numbers 0 MOST_DOCKS
 
-abbrev pub payment_of : List ℕ → Option ℕ
-payment_of = number_of 1 GREATEST_PAYMENT
+abbrev pub Serials : Kind
+Serials = Numbers 1 GREATEST_SERIAL
 
-abbrev pub few_of : List ℕ → Option ℕ
-few_of = number_of 1 MOST_CARRIED
+abbrev pub Payments : Kind
+Payments = Numbers 1 GREATEST_PAYMENT
 
--- a truth value
-abbrev pub flag_of : List ℕ → Option Bool
-flag_of = choice_of (codes "true") (codes "false")
+abbrev pub Few : Kind
+Few = Numbers 1 MOST_CARRIED
 
-unfoldable pub set_plan_at : Parts → Option Command
-set_plan_at ps = do
-  type_id ← field_at ident_of ps
-  plan ← field_at ident_of type_id.1
-  end ← no_more plan.1
-  Some (SetPlan type_id.0 plan.0)
+abbrev pub Latitudes : Kind
+Latitudes = Coordinates GREATEST_LATITUDE
 
-unfoldable pub set_station_at : Parts → Option Command
-set_station_at ps = do
-  station ← field_at ident_of ps
-  installed ← field_at flag_of station.1
-  renting ← field_at flag_of installed.1
-  returning ← field_at flag_of renting.1
-  end ← no_more returning.1
-  Some (SetStation station.0 installed.0 renting.0 returning.0)
+abbrev pub Longitudes : Kind
+Longitudes = Coordinates GREATEST_COORDINATE
 
-unfoldable pub mark_dock_at : Parts → Option Command
-mark_dock_at ps = do
-  station ← field_at ident_of ps
-  dock ← field_at dock_of station.1
-  broken ← field_at (choice_of (codes "broken") (codes "working")) dock.1
-  end ← no_more broken.1
-  Some (MarkDock station.0 dock.0 broken.0)
+-- the kinds of the longest row, and of those with a test across their fields
+abbrev pub system_kind : Kind
+system_kind = Idents & Languages & Names & Asciis & Asciis & Asciis & Currencies & Asciis & Numbers 0 LONGEST_TIME_TO_LIVE
 
-unfoldable pub add_bike_at : Parts → Option Command
-add_bike_at ps = do
-  bike ← field_at numbered_of ps
-  type_id ← field_at ident_of bike.1
-  end ← no_more type_id.1
-  Some (AddBike bike.0 type_id.0)
+abbrev pub plan_kind : Kind
+plan_kind = Idents & Names & Numbers 0 GREATEST_PRICE & Flags & Names & SegmentLists
 
-unfoldable pub mark_bike_at : Parts → Option Command
-mark_bike_at ps = do
-  bike ← field_at numbered_of ps
-  disabled ← field_at (choice_of (codes "disabled") (codes "fit")) bike.1
-  end ← no_more disabled.1
-  Some (MarkBike bike.0 disabled.0)
+abbrev pub type_kind : Kind
+type_kind = Idents & Names & Forms & Ranges & Idents
 
-unfoldable pub retire_bike_at : Parts → Option Command
-retire_bike_at ps = do
-  bike ← field_at numbered_of ps
-  end ← no_more bike.1
-  Some (RetireBike bike.0)
+abbrev pub station_kind : Kind
+station_kind = Idents & Names & Latitudes & Longitudes & Docks
 
-unfoldable pub add_truck_at : Parts → Option Command
-add_truck_at ps = do
-  truck ← field_at numbered_of ps
-  capacity ← field_at few_of truck.1
-  end ← no_more capacity.1
-  Some (AddTruck truck.0 capacity.0)
+abbrev pub position_kind : Kind
+position_kind = Idents & Latitudes & Longitudes
 
-unfoldable pub add_rider_at : Parts → Option Command
-add_rider_at ps = do
-  rider ← field_at numbered_of ps
-  end ← no_more rider.1
-  Some (AddRider rider.0)
+pub record Row : Type 0 where
+  pub word : List ℕ
+  pub kind : Kind
+  pub made : Value kind → Option Command
 
-unfoldable pub set_rider_at : Parts → Option Command
-set_rider_at ps = do
-  rider ← field_at numbered_of ps
-  blocked ← field_at (choice_of (codes "blocked") (codes "open")) rider.1
-  end ← no_more blocked.1
-  Some (SetRider rider.0 blocked.0)
+-- a row whose fields make a command at all values, and one whose fields make one at some
+abbrev pub row : List ℕ → (kind : Kind) → From kind Command → Row
+row word kind make = record { word = word; kind = kind; made = λ v. Some (at_values kind make v) }
 
-unfoldable pub top_up_at : Parts → Option Command
-top_up_at ps = do
-  rider ← field_at numbered_of ps
-  amount ← field_at payment_of rider.1
-  end ← no_more amount.1
-  Some (TopUp rider.0 amount.0)
+abbrev pub row_if : List ℕ → (kind : Kind) → From kind (Option Command) → Row
+row_if word kind make = record { word = word; kind = kind; made = at_values kind make }
 
-unfoldable pub start_at : Parts → Option Command
-start_at ps = do
-  rider ← field_at numbered_of ps
-  station ← field_at ident_of rider.1
-  dock ← field_at dock_of station.1
-  end ← no_more dock.1
-  Some (Start rider.0 station.0 dock.0)
+abbrev pub rows : List Row
+rows =
+    row (codes "set-system") system_kind
+    (λ id language name hours email zone currency url ttl.
+    command.SetSystem (system_of_fields id language name hours email zone currency url ttl))
+    ∷ row_if (codes "add-plan") plan_kind
+    (λ id name price taxable description segments.
+    option_map command.AddPlan (plan_within (plan_of_fields id name price taxable description segments)))
+    ∷ row_if (codes "add-type") type_kind
+    (λ id name form range plan.
+    option_map command.AddType (type_within (type_of_fields id name form range.0 range.1 plan)))
+    ∷ row (codes "set-plan") (Idents & Idents) command.SetPlan
+    ∷ row_if (codes "add-station") station_kind
+    (λ id name lat lon docks. option_map command.AddStation (station_within (station_of_fields id name lat lon docks)))
+    ∷ row (codes "set-station") (Idents & Flags & Flags & Flags) command.SetStation
+    ∷ row (codes "mark-dock") (Idents & Docks & Choices (codes "broken") (codes "working")) command.MarkDock
+    ∷ row (codes "add-bike") (Numbereds & Idents) command.AddBike
+    ∷ row (codes "mark-bike") (Numbereds & Choices (codes "disabled") (codes "fit")) command.MarkBike
+    ∷ row (codes "retire-bike") Numbereds command.RetireBike
+    ∷ row (codes "add-truck") (Numbereds & Few) command.AddTruck
+    ∷ row (codes "add-rider") Numbereds command.AddRider
+    ∷ row (codes "set-rider") (Numbereds & Choices (codes "blocked") (codes "open")) command.SetRider
+    ∷ row (codes "top-up") (Numbereds & Payments) command.TopUp
+    ∷ row (codes "start") (Numbereds & Idents & Docks) command.Start
+    ∷ row (codes "end") (Numbereds & Idents & Docks) command.End
+    ∷ row (codes "recover") Serials command.Recover
+    ∷ row (codes "refund") (Serials & Payments) command.Refund
+    ∷ row (codes "open-order") (Numbereds & Ends & Ends & Idents & Few) command.OpenOrder
+    ∷ row (codes "load") (Numbereds & Serials & Numbereds) command.Load
+    ∷ row (codes "unload") (Numbereds & Serials & Numbereds & Sides & DocksOrDepot) command.Unload
+    ∷ row (codes "close-order") Serials command.CloseOrder
+    ∷ row (codes "add-region") (Idents & Names) (λ id name. command.AddRegion (region_of_fields id name))
+    ∷ row (codes "set-region") (Idents & IdentsOrNone) command.SetRegion
+    ∷ row (codes "add-name") (NameKinds & Idents & Languages & Names) command.AddName
+    ∷ row (codes "set-name") (NameKinds & Idents & Languages & Names) command.SetName
+    ∷ row (codes "remove-name") (NameKinds & Idents & Languages) command.RemoveName
+    ∷ row (codes "change-system") (Names & Asciis & Asciis & Asciis & Asciis & Numbers 0 LONGEST_TIME_TO_LIVE)
+    (λ name hours email zone url ttl. command.ChangeSystem (settings_of_fields name hours email zone url ttl))
+    ∷ row_if (codes "move-station") position_kind
+    (λ station lat lon. option_map (command.MoveStation station) (position_within (position_of_fields lat lon)))
+    ∷ row (codes "add-docks") (Idents & Docks) command.AddDocks
+    ∷ []
 
-unfoldable pub end_at : Parts → Option Command
-end_at ps = do
-  bike ← field_at numbered_of ps
-  station ← field_at ident_of bike.1
-  dock ← field_at dock_of station.1
-  end ← no_more dock.1
-  Some (End bike.0 station.0 dock.0)
+abbrev pub row_by : List Row → List ℕ → Option Row
+row_by [] word = None
+row_by (r ∷ rs) word = if bytes_eq word r.word then Some r else row_by rs word
 
-unfoldable pub recover_at : Parts → Option Command
-recover_at ps = do
-  rental ← field_at serial_of ps
-  end ← no_more rental.1
-  Some (Recover rental.0)
-
-unfoldable pub refund_at : Parts → Option Command
-refund_at ps = do
-  rental ← field_at serial_of ps
-  amount ← field_at payment_of rental.1
-  end ← no_more amount.1
-  Some (Refund rental.0 amount.0)
-
-unfoldable pub open_order_at : Parts → Option Command
-open_order_at ps = do
-  truck ← field_at numbered_of ps
-  from_end ← field_at end_of truck.1
-  to_end ← field_at end_of from_end.1
-  type_id ← field_at ident_of to_end.1
-  count ← field_at few_of type_id.1
-  end ← no_more count.1
-  Some (OpenOrder truck.0 from_end.0 to_end.0 type_id.0 count.0)
-
-unfoldable pub load_at : Parts → Option Command
-load_at ps = do
-  truck ← field_at numbered_of ps
-  order ← field_at serial_of truck.1
-  bike ← field_at numbered_of order.1
-  end ← no_more bike.1
-  Some (Load truck.0 order.0 bike.0)
-
-unfoldable pub unload_at : Parts → Option Command
-unload_at ps = do
-  truck ← field_at numbered_of ps
-  order ← field_at serial_of truck.1
-  bike ← field_at numbered_of order.1
-  side ← field_at side_of bike.1
-  dock ← field_at unload_dock_of side.1
-  end ← no_more dock.1
-  Some (Unload truck.0 order.0 bike.0 side.0 dock.0)
-
-unfoldable pub close_order_at : Parts → Option Command
-close_order_at ps = do
-  order ← field_at serial_of ps
-  end ← no_more order.1
-  Some (CloseOrder order.0)
-
-unfoldable pub set_region_at : Parts → Option Command
-set_region_at ps = do
-  station ← field_at ident_of ps
-  region ← field_at ident_or_none_of station.1
-  end ← no_more region.1
-  Some (SetRegion station.0 region.0)
-
-unfoldable pub add_docks_at : Parts → Option Command
-add_docks_at ps = do
-  station ← field_at ident_of ps
-  count ← field_at dock_of station.1
-  end ← no_more count.1
-  Some (AddDocks station.0 count.0)
+-- what is read of a row's fields
+abbrev pub made_at : Row → Parts → Option Command
+made_at r ps = all_at (reads r.kind) ps >>= r.made
 
 unfoldable pub command_by : List ℕ → Parts → Option Command
-command_by word ps =
-    if bytes_eq word (codes "set-system") then set_system_at ps else (
-    if bytes_eq word (codes "add-plan") then add_plan_at ps else (
-    if bytes_eq word (codes "add-type") then add_type_at ps else (
-    if bytes_eq word (codes "set-plan") then set_plan_at ps else (
-    if bytes_eq word (codes "add-station") then add_station_at ps else (
-    if bytes_eq word (codes "set-station") then set_station_at ps else (
-    if bytes_eq word (codes "mark-dock") then mark_dock_at ps else (
-    if bytes_eq word (codes "add-bike") then add_bike_at ps else (
-    if bytes_eq word (codes "mark-bike") then mark_bike_at ps else (
-    if bytes_eq word (codes "retire-bike") then retire_bike_at ps else (
-    if bytes_eq word (codes "add-truck") then add_truck_at ps else (
-    if bytes_eq word (codes "add-rider") then add_rider_at ps else (
-    if bytes_eq word (codes "set-rider") then set_rider_at ps else (
-    if bytes_eq word (codes "top-up") then top_up_at ps else (
-    if bytes_eq word (codes "start") then start_at ps else (
-    if bytes_eq word (codes "end") then end_at ps else (
-    if bytes_eq word (codes "recover") then recover_at ps else (
-    if bytes_eq word (codes "refund") then refund_at ps else (
-    if bytes_eq word (codes "open-order") then open_order_at ps else (
-    if bytes_eq word (codes "load") then load_at ps else (
-    if bytes_eq word (codes "unload") then unload_at ps else (
-    if bytes_eq word (codes "close-order") then close_order_at ps else (
-    if bytes_eq word (codes "add-region") then add_region_at ps else (
-    if bytes_eq word (codes "set-region") then set_region_at ps else (
-    if bytes_eq word (codes "add-name") then add_name_at ps else (
-    if bytes_eq word (codes "set-name") then set_name_at ps else (
-    if bytes_eq word (codes "remove-name") then remove_name_at ps else (
-    if bytes_eq word (codes "change-system") then change_system_at ps else (
-    if bytes_eq word (codes "move-station") then move_station_at ps else (
-    if bytes_eq word (codes "add-docks") then add_docks_at ps else (
-    None))))))))))))))))))))))))))))))
+command_by word ps = row_by rows word >>= λ r. made_at r ps
 
 unfoldable pub command_at : Parts → Option Command
 command_at ps = do

@@ -2,17 +2,20 @@
 //!
 //! A command has one spelling, but for its coordinates. Reading is exact in both directions: a value is
 //! answered where the text spells one, and nothing only where it spells none.
+//!
+//! A command is a word and values one behind another. A type says once how its values are read and how they are
+//! written (`Spelled`), pairs do it for any number of them, and memory is asked for once all fields are tested.
 #![tactic(auto)]
 
 mod line;
-mod read_network;
-mod read_orders;
-mod read_records;
-mod read_riding;
+mod owned;
+mod plain;
+mod put_texts;
+mod readers;
 mod reading;
+mod records;
+mod spelled;
 mod unread;
-mod write_fields;
-mod write_records;
 mod writing;
 
 pub use line::read_line;

@@ -64,6 +64,16 @@ impl<'a> Fields<'a> {
         }
     }
 
+    /// The same parts, to be read a second time.
+    pub fn again(&self) -> Fields<'a>
+        ensures { result ≡ self.now }
+    {
+        Fields {
+            rest: self.rest,
+            separator: self.separator,
+        }
+    }
+
     /// The next part as it stands.
     pub fn part(&mut self) -> Option<&'a str>
         ensures { Takes (λ p. p.now) result (part_at self.old) self.new }

@@ -4,7 +4,7 @@ use Rattle.std.proofs.lemmas.Iterator.Consumers.{YieldsList-end}
 use Rattle.std.proofs.Math.Utf8.{encode, encodes}
 use Rattle.bike_texts.specs.Fields.{escapes_of}
 use Rattle.bike_requests.proofs.Escaping.{escaped_more, escaped_none, escaped_whole}
-use Rattle.bike_requests.proofs.write_fields.put_escaped.Goals as goal
+use Rattle.bike_requests.proofs.put_texts.put_escaped.Goals as goal
 
 pub loop-c-init : goal.loop-c-init
 loop-c-init c = sym (escaped_none (string_bytes c.push.new.self))

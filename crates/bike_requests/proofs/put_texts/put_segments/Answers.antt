@@ -3,7 +3,7 @@ use Rattle.std.proofs.lemmas.Str.{encode_ascii}
 use Rattle.bike_texts.specs.Fields.{segment_text}
 use Rattle.bike_requests.specs.Writing.{others_text}
 use Rattle.bike_requests.proofs.SegmentTexts.{segments_written}
-use Rattle.bike_requests.proofs.write_fields.put_segments.Goals as goal
+use Rattle.bike_requests.proofs.put_texts.put_segments.Goals as goal
 
 pub returns-in_ok-push_segment-in-Some : goal.returns-in_ok-push_segment-in-Some
 returns-in_ok-push_segment-in-Some c =

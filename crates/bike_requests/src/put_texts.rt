@@ -1,4 +1,4 @@
-//! Writing fields: each is appended behind a TAB.
+//! Writing texts: each is appended behind a TAB.
 
 ghost use Rattle.std.specs.Prelude.{◌≡◌, ◌++◌, ◌∷◌, decimal, OnOk, string_bytes, if◌then◌else◌};
 ghost use Rattle.std.specs.Char.{encode_utf8};
@@ -32,47 +32,6 @@ pub fn put_text(out: &mut String, text: &str) -> Result<(), AllocError>
 {
     out.push('\t')?;
     out.push_str(text)
-}
-
-/// The identifier as it stands.
-pub fn put_ident(out: &mut String, ident: &Ident) -> Result<(), AllocError>
-    ensures { OnOk result (string_bytes out.new ≡ string_bytes out.old ++ 9 ∷ ident.now) }
-{
-    put_text(out, ident.as_str())
-}
-
-/// The word where it holds, else the other word.
-pub fn put_choice(out: &mut String, word: &str, other: &str, holds: bool) -> Result<(), AllocError>
-    ensures { OnOk result (string_bytes out.new ≡ string_bytes out.old ++ 9 ∷ (if holds then word.now else other.now)) }
-{
-    put_text(out, if holds { word } else { other })
-}
-
-/// The degrees with six decimals.
-pub fn put_degrees(out: &mut String, coordinate: &Micro) -> Result<(), AllocError>
-    ensures { OnOk result (string_bytes out.new ≡ string_bytes out.old ++ 9 ∷ micro_text coordinate.now) }
-{
-    put_text(out, coordinate.text().as_str())
-}
-
-/// `*` for the depot, else the station's identifier.
-pub fn put_end(out: &mut String, end: &OrderEnd) -> Result<(), AllocError>
-    ensures { OnOk result (string_bytes out.new ≡ string_bytes out.old ++ 9 ∷ end_text end.now) }
-{
-    match end {
-        OrderEnd::Depot => put_text(out, "*"),
-        OrderEnd::Station(station) => put_ident(out, station),
-    }
-}
-
-/// `*` for none, else the identifier.
-pub fn put_ident_or_none(out: &mut String, ident: &Option<Ident>) -> Result<(), AllocError>
-    ensures { OnOk result (string_bytes out.new ≡ string_bytes out.old ++ 9 ∷ field_text (IdOrNone ident.now)) }
-{
-    match ident {
-        None => put_text(out, "*"),
-        Some(ident) => put_ident(out, ident),
-    }
 }
 
 /// A character, or its escape.
