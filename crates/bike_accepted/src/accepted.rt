@@ -5,7 +5,8 @@ ghost use Rattle.bike_places.specs.Reply.TheVariants.{Done};
 
 use crate::change::Change;
 use crate::moved::Moved;
-use bike_places::{Cents, Entry, Refusal, Reply};
+use bike_fixed::Cents;
+use bike_places::{Entry, Refusal, Reply};
 
 /// An entry that is booked, with the numbers after it.
 #[derive(Clone, Copy)]

@@ -1,9 +1,9 @@
 //! Records that are put, added or removed, but for those of bicycles that are there and of docks.
 
-use bike_fixed::Moment;
+use bike_fixed::{Cents, Moment};
 use bike_places::{
-    Cents, Ident, Language, Name, NameKind, OrderEnd, Plan, Position, Region, Settings, Station,
-    System, VehicleType,
+    Ident, Language, Name, NameKind, OrderEnd, Plan, Position, Region, Settings, Station, System,
+    VehicleType,
 };
 
 /// One record that is put, added or removed, with all that its row gets. What is added wasn't there. Money is in

@@ -33,8 +33,8 @@ pub struct Held<'a> {
     pub state: BikeState,
 }
 
-/// What touches the numbers that are stored of a station: a bicycle's record that is put, docks that a station gets, or a dock
-/// that is marked. By the report rule the station of a dock that is named reports.
+/// What touches the numbers that are stored of a station: a bicycle's record that is put, docks that a station gets, or
+/// a dock that is marked. By the report rule the station of a dock that is named reports.
 #[derive(Clone, Copy)]
 pub enum Moved<'a> {
     /// A bicycle is put from no dock to none.

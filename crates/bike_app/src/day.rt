@@ -12,7 +12,8 @@ ghost use Rattle.bike_app.specs.Days.{ReportsAt, ReportsInMemory, TellsReported,
 
 use bike_adoption::{Looked, Unwatched, adopt, look};
 use bike_console::Fault;
-use bike_days::{DayTable, DayTableFault, day_csv};
+use bike_day_texts::DayTable;
+use bike_days::{DayTableFault, day_csv};
 use bike_desk::Desk;
 use sqlite::{Alter, Connection};
 use std::alloc::Global;

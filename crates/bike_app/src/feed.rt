@@ -15,7 +15,8 @@ ghost use Rattle.bike_app.specs.Feeds.{PublishesAt, TellsFeed, TellsPublished, f
 use bike_adoption::{Looked, Unwatched, look};
 use bike_console::Fault;
 use bike_desk::Desk;
-use bike_feeds::{Feed, FeedFault, write_feed};
+use bike_feed_texts::Feed;
+use bike_feeds::{FeedFault, write_feed};
 use bike_fixed::Moment;
 use sqlite::{Alter, Connection};
 use std::alloc::Global;

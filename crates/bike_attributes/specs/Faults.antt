@@ -7,7 +7,7 @@ use Rattle.bike_fields.specs.declared.fault.Field.TheVariants.{Start, Rate, Inte
 use Rattle.bike_fields.specs.declared.fault.FieldFault.{FieldFault}
 use Rattle.bike_fields.specs.declared.fault.FieldFault.TheVariants.{Broken}
 use Rattle.bike_fields.specs.declared.numbers.TheConstants.{LAST_MINUTE}
-use Rattle.bike_fields.specs.micro.TheConstants.{GREATEST_COORDINATE}
+use Rattle.bike_fixed.specs.declared.micro.TheConstants.{GREATEST_COORDINATE}
 use Rattle.bike_attributes.specs.declared.limits.TheConstants.{GREATEST_RATE}
 use Rattle.bike_fields.specs.Fault.{at_field}
 use Rattle.bike_attributes.specs.Values.{SegmentRow}

@@ -13,7 +13,6 @@ mod rate;
 mod segment;
 mod vehicle;
 
-pub use bike_fields::{Cents, Moment};
 pub use limits::{GREATEST_LATITUDE, GREATEST_RATE, MOST_SEGMENTS};
 pub use name_kind::{NameKind, name_kind_laws};
 pub use position::Position;

@@ -4,7 +4,7 @@ ghost use Rattle.std.specs.Prelude.{◌≡◌};
 ghost use Rattle.bike_attributes.specs.Values.{IsLatitude, position_of_fields, position_within};
 
 use crate::limits::GREATEST_LATITUDE;
-use bike_fields::Micro;
+use bike_fixed::Micro;
 use std::marker::Model;
 
 /// Where a station stands: its place in microdegrees (GBFS's `lat` and `lon`).

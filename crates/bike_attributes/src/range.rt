@@ -6,7 +6,8 @@ ghost use Rattle.bike_attributes.specs.declared.limits.TheConstants.{GREATEST_RA
 ghost use Rattle.bike_attributes.specs.Faults.{value_or_fault, range_fault, signed_fault, IsCoordinateBound};
 
 use crate::rate::Rate;
-use bike_fields::{Bound, Field, FieldFault, Micro, Within};
+use bike_fields::{Bound, Field, FieldFault};
+use bike_fixed::{Micro, Within};
 
 /// The number as that field. The one error is `Broken`, of this field and its range, where the number is below `LO` or
 /// above `HI`.

@@ -1,12 +1,12 @@
 //! Rates.
 
 ghost use Rattle.std.specs.Prelude.{◌≡◌, pos, neg_ℤ, if◌then◌else◌, Some, None};
-ghost use Rattle.bike_fields.specs.Whole.{signed_of};
+ghost use Rattle.bike_fixed.specs.Whole.{signed_of};
 ghost use Rattle.bike_attributes.specs.declared.limits.TheConstants.{GREATEST_RATE};
 ghost use Rattle.bike_attributes.specs.Values.{IsRate, is_rate};
 
 use crate::limits::GREATEST_RATE;
-use bike_fields::read_signed;
+use bike_fixed::read_signed;
 use std::marker::Model;
 
 /// What a segment charges each time, in hundredths of either sign.

@@ -1,7 +1,7 @@
 //! Where the columns of the tables stand in their rows.
 //!
-//! `specs/Rows` gives the rows, and the schema the columns of the same names. In a line that holds the rows of several tables the
-//! row behind one begins after as many columns as that has: `COLUMNS`.
+//! `specs/Rows` gives the rows, and the schema the columns of the same names. In a line that holds the rows of several
+//! tables the row behind one begins after as many columns as that has: `COLUMNS`.
 
 /// The columns of `meta`.
 pub mod meta {

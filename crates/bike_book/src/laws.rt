@@ -1,7 +1,9 @@
 //! The laws: which row changes book each record that an accepted command puts or adds, and the close of its request.
 
 ghost use Rattle.bike_book.specs.ChangeLaws.{Everywhere};
-ghost use Rattle.bike_book.specs.ChangeLaws.{SetSystemLaw, AddPlanLaw, AddTypeLaw, SetPlanLaw, AddRegionLaw, AddStationLaw, SetStationLaw, SetRegionLaw, AddNameLaw, SetOwnNameLaw, SetFurtherNameLaw, RemoveNameLaw, ChangeSystemLaw, MoveStationLaw};
+ghost use Rattle.bike_book.specs.ChangeLaws.{SetSystemLaw, AddPlanLaw, AddTypeLaw, SetPlanLaw, AddRegionLaw};
+ghost use Rattle.bike_book.specs.ChangeLaws.{AddStationLaw, SetStationLaw, SetRegionLaw, AddNameLaw, SetOwnNameLaw};
+ghost use Rattle.bike_book.specs.ChangeLaws.{SetFurtherNameLaw, RemoveNameLaw, ChangeSystemLaw, MoveStationLaw};
 ghost use Rattle.bike_book.specs.ChangeLaws.{AddBikeLaw, AddTruckLaw, AddRiderLaw, SetRiderLaw};
 ghost use Rattle.bike_book.specs.ChangeLaws.{AddRentalLaw, CloseRentalLaw, AddOrderLaw, SetOrderLaw};
 ghost use Rattle.bike_book.specs.CloseLaws.{AtEachClose, QuietCloseLaw, EntryCloseLaw, RefundCloseLaw};

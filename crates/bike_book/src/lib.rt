@@ -1,8 +1,8 @@
 //! The tables that stand for an operator, and what each change makes of them.
 //!
 //! `specs/Stored` gives the tables of an operator, row by row, with every stored number as a count or a sum over its
-//! records; `specs/Writes` what a row change does to the tables. The laws say which row changes lead from the tables of one
-//! operator to those of the next.
+//! records; `specs/Writes` what a row change does to the tables. The laws say which row changes lead from the tables of
+//! one operator to those of the next.
 #![tactic(auto)]
 
 pub mod columns;

@@ -16,8 +16,8 @@ use Rattle.bike_operator.specs.declared.records.Bike.{Bike}
 use Rattle.bike_operator.specs.declared.records.Order.{Order}
 use Rattle.bike_operator.specs.declared.records.Rental.{Rental}
 use Rattle.bike_catalogue.specs.Rows.{more_docks}
-use Rattle.bike_operator.specs.NameKind.{NameKind}
-use Rattle.bike_operator.specs.NameKind.TheVariants as named
+use Rattle.bike_attributes.specs.declared.name_kind.NameKind.{NameKind}
+use Rattle.bike_attributes.specs.declared.name_kind.NameKind.TheVariants as named
 use Rattle.bike_operator.specs.Operator.{Operator, Station, Rider, Kept, texts_cmp}
 use Rattle.bike_operator.specs.Changes.{entry_added}
 use Rattle.bike_operator.specs.Steps.{key_changed, own_name_set, with_report, dock_marked}

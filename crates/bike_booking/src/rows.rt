@@ -8,7 +8,8 @@ ghost use Rattle.bike_moves.specs.Put.{bikes_by};
 ghost use Rattle.bike_accepted.specs.declared.moved.Moved.TheVariants as moved;
 ghost use Rattle.bike_booking.specs.Room.{HasRoom, TakesRows};
 ghost use Rattle.bike_booking.specs.Stored.{counts_in};
-ghost use Rattle.bike_booking.specs.Writes.{count_row, dock_row, moved_rows, entry_writes, close_rows, writes_of_accepted, AreAdded};
+ghost use Rattle.bike_booking.specs.Writes.{count_row, dock_row, moved_rows, entry_writes, close_rows};
+ghost use Rattle.bike_booking.specs.Writes.{writes_of_accepted, AreAdded};
 
 use crate::shares::{BikeShares, moved_by, one};
 use crate::stored::{Stored, StoredCounts, StoredDock, Sums};
@@ -20,8 +21,8 @@ use bike_book::RowChange;
 use bike_fields::{DockCount, Ident};
 use bike_fixed::Moment;
 
-/// A request makes at most this many row changes: 3 of what is put or marked, a record and 8 segments of a plan, 3 of an
-/// entry and 2 of the close.
+/// A request makes at most this many row changes: 3 of what is put or marked, a record and 8 segments of a plan, 3 of
+/// an entry and 2 of the close.
 pub const MOST_ROW_CHANGES: usize = 17;
 
 /// The row changes of a request. They take no memory.

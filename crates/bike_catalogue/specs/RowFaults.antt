@@ -1,6 +1,6 @@
 -- The first bad field of a record, in the order of the commands' fields, and the first bound that it breaks.
 use Rattle.std.specs.Prelude.{ℕ, List, [], ◌∷◌, length, nat_le, if◌then◌else◌, Option, Some, None, Result}
-use Rattle.bike_fields.specs.micro.TheConstants.{GREATEST_COORDINATE}
+use Rattle.bike_fixed.specs.declared.micro.TheConstants.{GREATEST_COORDINATE}
 use Rattle.bike_fields.specs.declared.fault.Bound.{Bound}
 use Rattle.bike_fields.specs.declared.fault.Bound.TheVariants.{Length}
 use Rattle.bike_fields.specs.declared.fault.Field.{Field}

@@ -1,6 +1,6 @@
 -- The records of the catalogue, as contracts see them.
 use Rattle.std.specs.Prelude.{◌≡◌, ℕ, ℤ, ◌+◌, ◌≤◌, List, length, Bool, true, Option, None, Some, nat_le, if◌then◌else◌}
-use Rattle.bike_fields.specs.Coordinate.{IsMicro}
+use Rattle.bike_fixed.specs.Coordinate.{IsMicro}
 use Rattle.bike_attributes.specs.declared.vehicle.Form.{Form}
 use Rattle.bike_attributes.specs.declared.vehicle.Propulsion.{Propulsion}
 use Rattle.bike_fields.specs.declared.numbers.TheConstants.{MOST_DOCKS, GREATEST_PRICE, LONGEST_TIME_TO_LIVE}

@@ -12,7 +12,6 @@ mod station;
 mod system;
 mod vehicle_type;
 
-pub use bike_attributes::{Form, NameKind, Position, Propulsion, Rate, Segment};
 pub use more_name::MoreName;
 pub use plan::Plan;
 pub use region::Region;

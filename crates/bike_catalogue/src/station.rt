@@ -7,7 +7,8 @@ ghost use Rattle.bike_catalogue.specs.RowFaults.{MakesStation, station_fault};
 ghost use Rattle.bike_catalogue.specs.Rows.{IsStation, station_of_fields, station_within};
 
 use bike_attributes::{GREATEST_LATITUDE, coordinate, in_range};
-use bike_fields::{DockCount, Field, FieldFault, GREATEST_COORDINATE, Ident, Micro, Name};
+use bike_fields::{DockCount, Field, FieldFault, Ident, Name};
+use bike_fixed::{GREATEST_COORDINATE, Micro};
 use std::alloc::{AllocError, Global};
 use std::marker::Model;
 

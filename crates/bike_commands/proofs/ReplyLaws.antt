@@ -6,8 +6,8 @@ use Rattle.std.proofs.lemmas.Option.{option_and_then_some, same_Some, none-some}
 use Rattle.std.proofs.lemmas.Bool.Decides.{eqb_tells}
 use Rattle.std.proofs.lemmas.Int.{ints}
 use Rattle.std.proofs.lemmas.List.Splits.{join_with_byte-slice_split}
-use Rattle.bike_texts.specs.cents.TheConstants.{GREATEST_FARE}
-use Rattle.bike_texts.specs.Whole.{number_of as whole_of}
+use Rattle.bike_fixed.specs.declared.cents.TheConstants.{GREATEST_FARE}
+use Rattle.bike_fixed.specs.Whole.{number_of as whole_of}
 use Rattle.bike_texts.specs.Parts.{Parts}
 use Rattle.bike_texts.specs.Fields.{Field, Number, Signed, Fixed, HasNoTab}
 use Rattle.bike_texts.specs.Reading.{part_at, i64_of, fare_of}

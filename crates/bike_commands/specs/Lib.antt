@@ -5,13 +5,12 @@ pub mod ReplyReaders
 pub mod RequestFields
 pub mod Requests
 pub use Rattle.bike_catalogue.specs.Rows
-pub use Rattle.bike_catalogue.specs.Vehicle
-pub use Rattle.bike_catalogue.specs.NameKinds
-pub use Rattle.bike_catalogue.specs.NameKind
-pub use Rattle.bike_catalogue.specs.numbers
-pub use Rattle.bike_texts.specs.Bytes
-pub use Rattle.bike_texts.specs.Caller
-pub use Rattle.bike_texts.specs.CallerType
+pub use Rattle.bike_attributes.specs.NameKinds
+pub use Rattle.bike_attributes.specs.declared.name_kind.NameKind
+pub use Rattle.bike_fields.specs.declared.numbers
+pub use Rattle.bike_fields.specs.Bytes
+pub use Rattle.bike_fields.specs.Caller
+pub use Rattle.bike_fields.specs.declared.caller.Caller as CallerType
 pub use Rattle.bike_texts.specs.Fields
 pub use Rattle.bike_texts.specs.declared.ends.OrderEnd
 pub use Rattle.bike_texts.specs.declared.ends.Side

@@ -1,7 +1,7 @@
 -- How a reply is spelled, which is the answer line without its LF.
 use Rattle.std.specs.Prelude.{ℕ, ℤ, List, [], ◌∷◌, ◌++◌, codes, pos, neg_ℤ}
-use Rattle.bike_texts.specs.cents.TheConstants.{GREATEST_FARE}
-use Rattle.bike_catalogue.specs.numbers.TheConstants.{GREATEST_NUMBER, GREATEST_SERIAL}
+use Rattle.bike_fixed.specs.declared.cents.TheConstants.{GREATEST_FARE}
+use Rattle.bike_fields.specs.declared.numbers.TheConstants.{GREATEST_NUMBER, GREATEST_SERIAL}
 use Rattle.bike_texts.specs.Fields.{Field, Number, Signed, Fixed, AreGood, fields_text}
 use Rattle.bike_commands.specs.declared.reply.Reply.{Reply}
 use Rattle.bike_commands.specs.declared.reply.Reply.TheVariants.{Done, Balance, Started, Ended, Ordered, Refused}

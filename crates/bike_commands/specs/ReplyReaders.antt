@@ -1,8 +1,8 @@
 -- What is read of a reply, a block for each kind.
 use Rattle.std.specs.Prelude.{ℕ, List, Option, Some, None, if◌then◌else◌, codes}
 use Rattle.std.specs.Str.{bytes_eq}
-use Rattle.bike_texts.specs.Whole.{number_of}
-use Rattle.bike_catalogue.specs.numbers.TheConstants.{GREATEST_NUMBER, GREATEST_SERIAL}
+use Rattle.bike_fixed.specs.Whole.{number_of}
+use Rattle.bike_fields.specs.declared.numbers.TheConstants.{GREATEST_NUMBER, GREATEST_SERIAL}
 use Rattle.bike_texts.specs.Parts.{Parts}
 use Rattle.bike_texts.specs.Reading.{◌>>=◌, part_at, field_at, no_more, exactly, i64_of, fare_of}
 use Rattle.bike_commands.specs.declared.reply.Reply.{Reply}

@@ -1,8 +1,8 @@
 -- The fields of a request, and their bounds.
 use Rattle.std.specs.Prelude.{◌≡◌, ℕ, List, true}
-use Rattle.bike_texts.specs.Bytes.{is_key}
-use Rattle.bike_texts.specs.Caller.{IsCaller}
-use Rattle.bike_texts.specs.CallerType.{Caller}
+use Rattle.bike_fields.specs.Bytes.{is_key}
+use Rattle.bike_fields.specs.Caller.{IsCaller}
+use Rattle.bike_fields.specs.declared.caller.Caller.{Caller}
 use Rattle.bike_commands.specs.declared.command.Command.{Command}
 use Rattle.bike_commands.specs.Commands.{IsCommand}
 

@@ -1,7 +1,7 @@
 -- How a request line is spelled.
 use Rattle.std.specs.Prelude.{◌≡◌, ℕ, ◌≤◌, List, ◌∷◌, ◌++◌, length, decimal}
 use Rattle.std.specs.Str.{IsUtf8}
-use Rattle.bike_texts.specs.Caller.{caller_text}
+use Rattle.bike_fields.specs.Caller.{caller_text}
 use Rattle.bike_commands.specs.declared.request.Request.{Request}
 use Rattle.bike_commands.specs.declared.request.TheConstants.{LINE_LENGTH}
 use Rattle.bike_commands.specs.Commands.{IsSpelling}

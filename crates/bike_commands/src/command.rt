@@ -1,11 +1,12 @@
 //! Commands: what a request asks the operator to do.
 
+use bike_attributes::{NameKind, Position};
 use bike_catalogue::{Plan, Region, Settings, Station, System, VehicleType};
-use bike_texts::{
-    BicycleNumber, DockCount, DockNumber, Ident, Language, Name, NameKind, OrderEnd, OrderNumber,
-    OrderQuantity, Payment, Position, RentalNumber, RiderNumber, Side, TruckCapacity, TruckNumber,
-    UnloadDock,
+use bike_fields::{
+    BicycleNumber, DockCount, DockNumber, Ident, Language, Name, OrderNumber, OrderQuantity,
+    Payment, RentalNumber, RiderNumber, TruckCapacity, TruckNumber,
 };
+use bike_texts::{OrderEnd, Side, UnloadDock};
 
 /// What a request asks for. Its fields keep their bounds by their types.
 #[derive(Drop)]

@@ -10,11 +10,12 @@ mod reply;
 mod request;
 
 pub use bike_catalogue::{Plan, Region, Settings, Station, System, VehicleType};
-pub use bike_texts::{
-    BicycleNumber, DockCount, DockNumber, Ident, Language, Name, NameKind, OrderEnd, OrderNumber,
-    OrderQuantity, Position, RentalNumber, RiderNumber, Segment, TruckCapacity, TruckNumber,
-    UnloadDock,
+pub use bike_fields::{
+    BicycleNumber, DockCount, DockNumber, Ident, Language, Name, OrderNumber, OrderQuantity,
+    RentalNumber, RiderNumber, TruckCapacity, TruckNumber,
 };
+pub use bike_attributes::{NameKind, Position};
+pub use bike_texts::OrderEnd;
 pub use command::Command;
 pub use refusal::Refusal;
 pub use reply::{REPLY_LENGTH, Reply};

@@ -5,12 +5,15 @@ ghost use Rattle.std.specs.Fmt.{signed_decimal};
 ghost use Rattle.arrayvec.specs.ArrayString.{array_string_len};
 ghost use Rattle.bike_commands.specs.declared.reply.Reply.{Reply};
 ghost use Rattle.bike_commands.specs.Replies.{reply_text, IsReply};
-ghost use Rattle.bike_commands.specs.ReplyReaders.{done_at, balance_at, started_at, ended_at, ordered_at, named_at, refused_at, reply_by, reply_at};
+ghost use Rattle.bike_commands.specs.ReplyReaders.{done_at, balance_at, started_at, ended_at, ordered_at, named_at};
+ghost use Rattle.bike_commands.specs.ReplyReaders.{refused_at, reply_by, reply_at};
 ghost use Rattle.bike_commands.specs.Refusals.{number_of, name_of, refusal_of};
 
 use crate::refusal::Refusal;
 use arrayvec::ArrayString;
-use bike_texts::{BicycleNumber, Fare, Fields, OrderNumber, RentalNumber, Within, signed_text};
+use bike_fields::{BicycleNumber, OrderNumber, RentalNumber};
+use bike_fixed::{Within, signed_text};
+use bike_texts::{Fare, Fields};
 use itoa::Buffer;
 
 /// Room in bytes for every reply: the longest word before two numbers is `fare`, and a number of

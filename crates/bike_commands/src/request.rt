@@ -1,7 +1,7 @@
 //! Requests.
 
 use crate::command::Command;
-use bike_texts::{Caller, RequestKey};
+use bike_fields::{Caller, RequestKey};
 use std::marker::Model;
 
 /// The greatest length of a request line in bytes, its LF not counted.

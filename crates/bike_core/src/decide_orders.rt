@@ -106,8 +106,8 @@ pub(crate) fn decide_open_order<'a>(
     })
 }
 
-/// The bicycle that is loaded, or the first refusal of loading it. By the crew rule neither the station's flags nor the dock's
-/// mark are asked for, nor whether the bicycle is fit.
+/// The bicycle that is loaded, or the first refusal of loading it. By the crew rule neither the station's flags nor the
+/// dock's mark are asked for, nor whether the bicycle is fit.
 fn check_load(view: &View, truck: TruckNumber) -> Result<&Bike, Refusal>
     requires { IfSome view.now.order (λ o. o.delivered + view.now.on_truck ≤ o.count) }
     ensures tests { (order bike : ℕ) → refusal_in result ≡ first (tests view.now (command.Load truck order bike)) }
@@ -181,8 +181,8 @@ struct Unloading<'a> {
     order: &'a Order,
 }
 
-/// The bicycle that is unloaded and its order, or the first refusal of unloading it. By the crew rule the station's flags are not
-/// asked for.
+/// The bicycle that is unloaded and its order, or the first refusal of unloading it. By the crew rule the station's
+/// flags are not asked for.
 fn check_unload(
     view: &View,
     truck: TruckNumber,

@@ -64,7 +64,8 @@ fn check_start(view: &View, dock: DockNumber) -> Result<&DockedBike, Refusal>
     Ok(docked)
 }
 
-/// Decides on the start of a rental of the bicycle in a dock. By the rental-plan rule it keeps the plan of the bicycle's type.
+/// Decides on the start of a rental of the bicycle in a dock. By the rental-plan rule it keeps the plan of the
+/// bicycle's type.
 pub(crate) fn decide_start<'a>(
     view: &'a View,
     now: Moment,

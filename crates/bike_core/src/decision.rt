@@ -22,9 +22,9 @@ use bike_commands::Command;
 use bike_fixed::Moment;
 use bike_operator::View;
 
-/// Decides on a command, without memory: by the first-refusal rule the first refusal that holds, or else the reply and the
-/// changes that make its effect. The view is the operator's for the command, and `now` is by the now rule the greater of the
-/// request's moment and the operator's.
+/// Decides on a command, without memory: by the first-refusal rule the first refusal that holds, or else the reply and
+/// the changes that make its effect. The view is the operator's for the command, and `now` is by the now rule the
+/// greater of the request's moment and the operator's.
 pub fn decide<'a>(view: &'a View, now: Moment, command: &'a Command) -> Decision<'a>
     requires { IsBounded view.now now }
     ensures decides { DecidesAt now view.now command.now result }

@@ -1,7 +1,7 @@
 //! Decisions on the commands of a bike share's operator, each with what was found for it.
 //!
-//! `decide` answers, on the view of an operator, exactly the first refusal that holds, or else the reply and what makes the
-//! effect. It takes no memory.
+//! `decide` answers, on the view of an operator, exactly the first refusal that holds, or else the reply and what makes
+//! the effect. It takes no memory.
 //!
 //! What a caller names stands here too: commands, requests, replies and refusals, the view of an operator and what an
 //! accepted command makes. A command's text and its readers stand in `bike_requests`.

@@ -8,8 +8,5 @@ mod day;
 mod fault;
 mod tables;
 
-pub use bike_day_texts::DayTable;
-pub use bike_desk::{Desk, DeskFault};
-pub use bike_fixed::DayFault;
 pub use day::day_csv;
 pub use fault::DayTableFault;

@@ -16,11 +16,11 @@ use Rattle.bike_booking.specs.Figures.{figures_of}
 use Rattle.bike_schema.specs.declared.fault.StatementFault.{StatementFault}
 use Rattle.bike_schema.specs.Answers.{Answers}
 use Rattle.bike_schema.specs.Stands.{Keeps}
-use Rattle.bike_stored.specs.KnownType.{Known}
-use Rattle.bike_stored.specs.SightType.{Sight}
-use Rattle.bike_stored.specs.Known.{IsKnown}
-use Rattle.bike_stored.specs.Open.{AnswersOpen}
-use Rattle.bike_stored.specs.Sight.{IsSight}
+use Rattle.bike_views.specs.declared.figures.Known.{Known}
+use Rattle.bike_views.specs.declared.sight.Sight.{Sight}
+use Rattle.bike_views.specs.Known.{IsKnown}
+use Rattle.bike_views.specs.Open.{AnswersOpen}
+use Rattle.bike_views.specs.Sight.{IsSight}
 use Rattle.bike_desk.specs.declared.remembered.Remembered.{Remembered}
 use Rattle.bike_desk.specs.Desk.{AreFigures, IsRemembered}
 use Rattle.bike_desk.specs.Serving.{IsReadFor, IsSightOf}

@@ -13,7 +13,7 @@ use Rattle.bike_commands.specs.declared.refusal.Refusal.TheVariants as refusal
 use Rattle.bike_commands.specs.Commands.{text_of}
 use Rattle.bike_commands.specs.Requests.{IsRequest}
 use Rattle.sqlite.specs.Effect.{Database}
-use Rattle.bike_stored.specs.SightType.{Sight}
+use Rattle.bike_views.specs.declared.sight.Sight.{Sight}
 use Rattle.bike_operator.specs.Operator.{Operator, Kept}
 use Rattle.bike_operator.specs.Sound.{IsSound}
 use Rattle.bike_operator.specs.Steps.{refusal_of, reply_of}

@@ -28,8 +28,8 @@ use Rattle.bike_booking.specs.declared.stored.Sums.{Sums}
 use Rattle.bike_booking.specs.Booking.{AreTexts}
 use Rattle.bike_booking.specs.Figures.{figures_of}
 use Rattle.bike_booking.specs.Sums.{sums_of, sums_after}
-use Rattle.bike_stored.specs.Sight.{IsSight}
-use Rattle.bike_stored.specs.SightType.{Sight}
+use Rattle.bike_views.specs.Sight.{IsSight}
+use Rattle.bike_views.specs.declared.sight.Sight.{Sight}
 use Rattle.bike_desk.specs.declared.serve.Asked.{Asked}
 use Rattle.bike_desk.specs.declared.serve.Served.{Served}
 use Rattle.bike_desk.specs.Desk.{AreFigures}

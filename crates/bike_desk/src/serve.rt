@@ -25,7 +25,8 @@ use bike_fixed::Moment;
 use bike_office_reads::{KeptRow, find_kept};
 use bike_operator::is_bounded;
 use bike_schema::StatementFault;
-use bike_stored::{Known, Sight, find_stored, find_view, know_figures};
+use bike_stored::find_stored;
+use bike_views::{Known, Sight, find_view, know_figures};
 use sqlite::{Alter, Connection};
 use std::alloc::Global;
 

@@ -1,7 +1,7 @@
 -- What a rental costs, in the words of GBFS's `per_min_pricing`.
 use Rattle.std.specs.Prelude.{◌≡◌, ℕ, ℤ, zero, suc, ◌+◌, ◌-◌, ◌*◌, ◌%◌, ◌<◌, ◌+ℤ◌, pos, min, List, [], ◌∷◌, Bool, true, ◌&&◌, ◌||◌, nat_le, nat_lt, ◌==◌, if◌then◌else◌, ◌⊎◌, Option, Some, None}
 use Rattle.std.specs.Int.{int_max}
-use Rattle.bike_attributes.specs.cents.TheConstants.{GREATEST_FARE}
+use Rattle.bike_fixed.specs.declared.cents.TheConstants.{GREATEST_FARE}
 use Rattle.bike_attributes.specs.Values.{SegmentRow, IsSegment}
 use Rattle.bike_catalogue.specs.Rows.{PlanRow}
 use Rattle.bike_attributes.specs.declared.limits.TheConstants.{MOST_SEGMENTS, GREATEST_RATE}

@@ -4,7 +4,7 @@ ghost use Rattle.std.specs.Prelude.{◌≡◌, ◌≤◌};
 ghost use Rattle.bike_fares.specs.Pricing.{elapsed_seconds};
 ghost use Rattle.bike_fares.specs.declared.elapsed.TheConstants.{LONGEST};
 
-use bike_attributes::Moment;
+use bike_fixed::Moment;
 
 /// Thirty days in seconds: what lasts longer costs no more.
 pub const LONGEST: u64 = 2_592_000;

@@ -7,8 +7,9 @@ ghost use Rattle.bike_fares.specs.Pricing.{is_charged, segment_charge, per_min_p
 ghost use Rattle.bike_fares.specs.Pricing.{greatest_fare, most_at_minute};
 
 use crate::elapsed::{MINUTES, elapsed_seconds};
-use bike_attributes::{Cents, Moment, Segment};
+use bike_attributes::Segment;
 use bike_catalogue::Plan;
+use bike_fixed::{Cents, Moment};
 
 /// Whether a segment charges at a minute.
 fn is_charged(segment: &Segment, minute: u32) -> bool

@@ -8,8 +8,9 @@ ghost use Rattle.bike_fares.specs.Counting.{count_below, minutes_before, segment
 ghost use Rattle.bike_fares.specs.Counting.{most_of_segment, most_of_segments};
 
 use crate::elapsed::elapsed_seconds;
-use bike_attributes::{Cents, Moment, Segment};
+use bike_attributes::Segment;
 use bike_catalogue::Plan;
+use bike_fixed::{Cents, Moment};
 
 /// How many of the minutes below `minutes` are the start, or whole intervals after it.
 fn count_below(start: u32, interval: u32, minutes: u32) -> u32

@@ -5,7 +5,7 @@ use Rattle.std.specs.FinMap.{FinMap}
 use Rattle.bike_catalogue.specs.Rows.{PlanRow, TypeRow, RegionRow, MoreNameRow, SystemRow}
 use Rattle.bike_json.specs.Tree.{Tree, array, text, whole, Items}
 use Rattle.bike_json.specs.Rows.{items}
-use Rattle.bike_operator.specs.NameKind.TheVariants as named
+use Rattle.bike_attributes.specs.declared.name_kind.NameKind.TheVariants as named
 use Rattle.bike_operator.specs.Operator.{Operator, Station, text_cmp}
 use Rattle.bike_operator.specs.Counts.{available, available_of, disabled_bikes, docks_available, docks_broken}
 use Rattle.bike_operator.specs.Names.{part_at, further_names}

@@ -11,7 +11,7 @@ use Rattle.bike_json.specs.State.{Place, IsAt as IsIn, after_value}
 use Rattle.bike_operator.specs.Operator.{Operator, Station}
 use Rattle.bike_operator.specs.Sound.{IsSound}
 use Rattle.bike_feed_texts.specs.declared.status.TypeCount.{TypeCount}
-use Rattle.bike_operator.specs.NameKind.TheVariants as named
+use Rattle.bike_attributes.specs.declared.name_kind.NameKind.TheVariants as named
 use Rattle.bike_operator.specs.Names.{further_names}
 use Rattle.bike_feed_texts.specs.Elements.{station_tree, status_tree}
 use Rattle.bike_feed_texts.specs.Trees.{report_of, counts_of}

@@ -14,7 +14,7 @@ use Rattle.bike_feed_texts.specs.Writing.{list_head_text, list_end_text, informa
 use Rattle.bike_feed_texts.specs.declared.feed.Feed.TheVariants.{SystemInformation}
 use Rattle.bike_feed_texts.specs.Trees.{feed_tree}
 use Rattle.bike_feed_texts.proofs.Frames.{list_text, information_text}
-use Rattle.bike_operator.specs.NameKind.TheVariants as named
+use Rattle.bike_attributes.specs.declared.name_kind.NameKind.TheVariants as named
 use Rattle.bike_operator.specs.Operator.{Operator}
 use Rattle.bike_operator.specs.Names.{further_names}
 use Rattle.bike_desk.specs.Desk.{DeskValue, desk_state, IsAt}

@@ -12,9 +12,6 @@ mod text;
 mod text_kind;
 mod text_lengths;
 
-pub use bike_fixed::{
-    Cents, GREATEST_COORDINATE, GREATEST_FARE, Micro, Moment, Within, read_signed, signed_text,
-};
 pub use caller::{Caller, CallerName, caller_laws};
 pub use fault::{Bound, Field, FieldFault};
 pub use numbers::{

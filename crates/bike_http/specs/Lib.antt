@@ -4,7 +4,3 @@ pub mod Exchange
 pub mod Telling
 pub mod Again
 pub use Rattle.bike_feeds.specs.Desk
-pub use Rattle.bike_feeds.specs.Runs
-pub use Rattle.bike_feeds.specs.Publishing
-pub use Rattle.bike_feeds.specs.DeskFault
-pub use Rattle.bike_feeds.specs.declared.fault.FeedFault

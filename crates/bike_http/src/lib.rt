@@ -10,7 +10,7 @@ mod laws;
 mod respond;
 mod rows;
 
-pub use bike_feeds::{Desk, DeskFault, Feed, FeedFault, write_feed};
+pub use bike_feeds::Desk;
 pub use bike_heads::Routes;
 pub use exchange::{ServeFault, Served, serve_one};
 pub use laws::answered_once;

@@ -8,7 +8,6 @@ mod request;
 mod row;
 mod table;
 
-pub use bike_desk::{Desk, DeskFault};
 pub use fault::ImportFault;
 pub use import::{MOST_ROWS, import_stations};
 pub use input::MOST_READS;

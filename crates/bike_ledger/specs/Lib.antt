@@ -1,4 +1,4 @@
 pub mod Entries
 pub mod Ledger
 pub mod Money
-pub use Rattle.bike_fields.specs.Whole
+pub use Rattle.bike_fixed.specs.Whole

@@ -2,9 +2,8 @@
 
 ghost use Rattle.std.specs.Prelude.{◌≡◌, ◌≤◌, ◌≤ℤ◌, pos};
 
-use bike_fields::{
-    Cents, GREATEST_FARE, GREATEST_SERIAL, Moment, Payment, RentalNumber, RiderNumber, Within, kind,
-};
+use bike_fields::{GREATEST_SERIAL, Payment, RentalNumber, RiderNumber, kind};
+use bike_fixed::{Cents, GREATEST_FARE, Moment, Within};
 use std::marker::Model;
 
 /// The number of an entry, 1 to `GREATEST_SERIAL`.

@@ -7,7 +7,7 @@
 mod entry;
 mod sums;
 
-pub use bike_fields::{Cents, Moment};
+pub use bike_fixed::{Cents, Moment};
 pub use entry::{Entry, EntryKind, EntryNumber};
 pub use sums::{
     GREATEST_BALANCE, balance_after, bound_law, cash_after, entry_law, is_balance, money_law,

@@ -9,7 +9,7 @@ ghost use Rattle.bike_ledger.specs.Ledger.{cash_of, revenue_of, refunded_of, IsA
 ghost use Rattle.bike_ledger.specs.Money.{AreDistinct, AreOf, IsConserved};
 
 use crate::entry::{Entry, EntryKind};
-use bike_fields::Cents;
+use bike_fixed::Cents;
 
 /// What one entry fewer than `GREATEST_SERIAL`, each of `GREATEST_FARE`, come to, in hundredths.
 pub const GREATEST_BALANCE: i64 = 3_456_179_965_438_200_000;

@@ -2,7 +2,8 @@
 
 ghost use Rattle.bike_book.specs.ChangeLaws.{Everywhere};
 ghost use Rattle.bike_moves.specs.Ends.{StoredDocksLaw, SoundEndsLaw};
-ghost use Rattle.bike_moves.specs.PutLaws.{AtEachMoment, AwayLaw, AtDockLaw, MarkedEmptyLaw, MarkedHeldLaw, AddDocksLaw};
+ghost use Rattle.bike_moves.specs.PutLaws.{AtEachMoment, AwayLaw, AtDockLaw, MarkedEmptyLaw, MarkedHeldLaw};
+ghost use Rattle.bike_moves.specs.PutLaws.{AddDocksLaw};
 
 /// The laws of a bicycle's record put, in another state or place or both: from no dock to no dock, and from, into or in
 /// a dock, whose station reports. The numbers to write follow from those stored.
@@ -11,8 +12,8 @@ pub fn books_put()
     ensures at_dock { AtEachMoment AtDockLaw }
 {}
 
-/// The laws of a dock marked as broken or as working, whose station reports: an empty one, and one with a bicycle in it.
-/// The numbers to write follow from those stored.
+/// The laws of a dock marked as broken or as working, whose station reports: an empty one, and one with a bicycle in
+/// it. The numbers to write follow from those stored.
 pub fn books_marked()
     ensures empty { AtEachMoment MarkedEmptyLaw }
     ensures held { AtEachMoment MarkedHeldLaw }

@@ -2,7 +2,7 @@
 use Rattle.std.specs.Prelude.{◌≡◌, ℕ, List, Option, Some, None, option_map, string_bytes}
 use Rattle.bike_ledger.specs.Ledger.{cash_of, revenue_of, refunded_of}
 use Rattle.bike_commands.specs.Commands.{text_of}
-use Rattle.bike_operator.specs.Rows.{SystemRow}
+use Rattle.bike_catalogue.specs.Rows.{SystemRow}
 use Rattle.bike_operator.specs.Operator.{Operator, Kept, item_numbered}
 use Rattle.bike_office_reads.specs.declared.meta.MetaRow.{MetaRow}
 use Rattle.bike_office_reads.specs.declared.kept.KeptRow.{KeptRow}

@@ -20,7 +20,6 @@ pub use Rattle.bike_commands.specs.declared.refusal.Refusal
 pub use Rattle.bike_commands.specs.declared.reply.Reply
 pub use Rattle.bike_ledger.specs.Entries
 pub use Rattle.bike_ledger.specs.Ledger
-pub use Rattle.bike_commands.specs.Vehicle
 pub use Rattle.bike_commands.specs.Caller
 pub use Rattle.bike_commands.specs.Replies
 pub use Rattle.bike_commands.specs.declared.request.Request

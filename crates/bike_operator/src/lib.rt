@@ -14,9 +14,9 @@ mod view;
 
 pub use bike_commands::{
     DockCount, Ident, Language, Name, NameKind, OrderEnd, Plan, Position, Refusal, Region, Reply,
-    Segment, Settings, Station, System, VehicleType,
+    Settings, Station, System, VehicleType,
 };
-pub use bike_ledger::{Cents, Entry, Moment};
+pub use bike_ledger::Entry;
 pub use bounds::is_bounded;
 pub use change::NewPlace;
 pub use limits::{

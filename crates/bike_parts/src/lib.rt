@@ -1,5 +1,5 @@
-//! The parts of which decisions are made: what a bicycle is good for and where it is, bicycles that are put and docks that are marked,
-//! entries with the numbers and the balances after them, and the replies that tell these.
+//! The parts of which decisions are made: what a bicycle is good for and where it is, bicycles that are put and docks
+//! that are marked, entries with the numbers and the balances after them, and the replies that tell these.
 //!
 //! Each is made from what a view shows, so that nothing is looked up again. None takes memory.
 #![tactic(auto)]

@@ -7,7 +7,7 @@ mod counts;
 mod laws;
 
 pub use bike_operator::{
-    BikeState, Cents, DockCount, Entry, Ident, Language, Name, NameKind, NewPlace, OrderEnd, Plan,
+    BikeState, DockCount, Entry, Ident, Language, Name, NameKind, NewPlace, OrderEnd, Plan,
     Position, Refusal, Region, Reply, Settings, Station, System, VehicleType,
 };
 pub use counts::{docks_law, mark_law, put_law, share_law};

@@ -9,7 +9,7 @@ use Rattle.sqlite_value.specs.declared.value.Value.{Value}
 use Rattle.sqlite_value.specs.declared.value.Value.TheVariants.{Text}
 use Rattle.sqlite_value.specs.Order.{Row, column}
 use Rattle.bike_catalogue.specs.Rows.{MoreNameRow}
-use Rattle.bike_operator.specs.NameKind.TheVariants as named
+use Rattle.bike_attributes.specs.declared.name_kind.NameKind.TheVariants as named
 use Rattle.bike_operator.specs.Names.{further_names}
 use Rattle.bike_operator.specs.Operator.{Operator, Station, text_cmp}
 use Rattle.bike_fleet_reads.specs.Fleet.{dock_numbers_of}

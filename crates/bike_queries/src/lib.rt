@@ -23,7 +23,6 @@ mod status;
 mod system;
 mod types;
 
-pub use bike_feed_texts::TypeCount;
 pub use bike_fleet_reads::{find_bike, find_order};
 pub use bikes::find_place;
 pub use counts::{Counts, find_station_counts};

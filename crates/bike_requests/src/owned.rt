@@ -1,7 +1,8 @@
 //! The values that need memory: texts, segments, and what holds an identifier.
 #![tactic(auto, unfolding(bike_texts::specs::Fields::fields_text))]
 
-ghost use Rattle.bike_requests.specs.Kinds.{Asciis, Currencies, Ends, Idents, IdentsOrNone, Languages, Names, SegmentLists, fields_with, reads};
+ghost use Rattle.bike_requests.specs.Kinds.{Asciis, Currencies, Ends, Idents, IdentsOrNone, Languages, Names};
+ghost use Rattle.bike_requests.specs.Kinds.{SegmentLists, fields_with, reads};
 
 use crate::put_texts::{put_escaped, put_segments, put_text};
 use crate::spelled::{Lent, Spelled};

@@ -5,7 +5,8 @@ ghost use Rattle.std.specs.Prelude.{◌≡◌, ◌++◌, List, OnOk, Option, cod
 ghost use Rattle.bike_texts.specs.Fields.{Field, fields_text};
 ghost use Rattle.bike_texts.specs.Parts.{Parts};
 ghost use Rattle.bike_texts.specs.Reading.{Takes};
-ghost use Rattle.bike_requests.specs.Kinds.{Choices, Coordinates, Forms, NameKinds, Numbers, Ranges, Sides, fields_with, reads};
+ghost use Rattle.bike_requests.specs.Kinds.{Choices, Coordinates, Forms, NameKinds, Numbers, Ranges, Sides};
+ghost use Rattle.bike_requests.specs.Kinds.{fields_with, reads};
 
 use crate::put_texts::{put_number, put_text};
 use crate::spelled::Spelled;

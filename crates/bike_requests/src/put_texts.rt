@@ -4,7 +4,8 @@ ghost use Rattle.std.specs.Prelude.{◌≡◌, ◌++◌, ◌∷◌, decimal, OnO
 ghost use Rattle.std.specs.Char.{encode_utf8};
 ghost use Rattle.std.specs.Fmt.{signed_decimal};
 ghost use Rattle.bike_fixed.specs.Text.{micro_text};
-ghost use Rattle.bike_texts.specs.Fields.{escapes_of, segment_end_text, segment_text, segments_text, end_text, IdOrNone, field_text};
+ghost use Rattle.bike_texts.specs.Fields.{escapes_of, segment_end_text, segment_text, segments_text, end_text};
+ghost use Rattle.bike_texts.specs.Fields.{IdOrNone, field_text};
 ghost use Rattle.bike_requests.specs.Writing.{others_text};
 
 use bike_attributes::Segment;

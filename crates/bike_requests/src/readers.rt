@@ -28,139 +28,139 @@ macro_rules! read_as {
     }};
 }
 
-pub fn read_set_plan(alloc: Global, fields: Fields) -> Result<Command, Unread>
+pub(crate) fn read_set_plan(alloc: Global, fields: Fields) -> Result<Command, Unread>
     ensures { IsReading (command_by (codes "set-plan") fields.entry) result }
 {
     read_as!(alloc, fields => SetPlan: type_id, plan)
 }
 
-pub fn read_set_station(alloc: Global, fields: Fields) -> Result<Command, Unread>
+pub(crate) fn read_set_station(alloc: Global, fields: Fields) -> Result<Command, Unread>
     ensures { IsReading (command_by (codes "set-station") fields.entry) result }
 {
     read_as!(alloc, fields => SetStation: station, installed, renting, returning)
 }
 
-pub fn read_mark_dock(alloc: Global, fields: Fields) -> Result<Command, Unread>
+pub(crate) fn read_mark_dock(alloc: Global, fields: Fields) -> Result<Command, Unread>
     ensures { IsReading (command_by (codes "mark-dock") fields.entry) result }
 {
     read_as!(alloc, fields => MarkDock: station, dock, broken: Broken)
 }
 
-pub fn read_add_bike(alloc: Global, fields: Fields) -> Result<Command, Unread>
+pub(crate) fn read_add_bike(alloc: Global, fields: Fields) -> Result<Command, Unread>
     ensures { IsReading (command_by (codes "add-bike") fields.entry) result }
 {
     read_as!(alloc, fields => AddBike: bike, type_id)
 }
 
-pub fn read_mark_bike(alloc: Global, fields: Fields) -> Result<Command, Unread>
+pub(crate) fn read_mark_bike(alloc: Global, fields: Fields) -> Result<Command, Unread>
     ensures { IsReading (command_by (codes "mark-bike") fields.entry) result }
 {
     read_as!(alloc, fields => MarkBike: bike, disabled: Disabled)
 }
 
-pub fn read_retire_bike(alloc: Global, fields: Fields) -> Result<Command, Unread>
+pub(crate) fn read_retire_bike(alloc: Global, fields: Fields) -> Result<Command, Unread>
     ensures { IsReading (command_by (codes "retire-bike") fields.entry) result }
 {
     read_as!(alloc, fields => RetireBike: bike)
 }
 
-pub fn read_add_truck(alloc: Global, fields: Fields) -> Result<Command, Unread>
+pub(crate) fn read_add_truck(alloc: Global, fields: Fields) -> Result<Command, Unread>
     ensures { IsReading (command_by (codes "add-truck") fields.entry) result }
 {
     read_as!(alloc, fields => AddTruck: truck, capacity)
 }
 
-pub fn read_add_rider(alloc: Global, fields: Fields) -> Result<Command, Unread>
+pub(crate) fn read_add_rider(alloc: Global, fields: Fields) -> Result<Command, Unread>
     ensures { IsReading (command_by (codes "add-rider") fields.entry) result }
 {
     read_as!(alloc, fields => AddRider: rider)
 }
 
-pub fn read_set_rider(alloc: Global, fields: Fields) -> Result<Command, Unread>
+pub(crate) fn read_set_rider(alloc: Global, fields: Fields) -> Result<Command, Unread>
     ensures { IsReading (command_by (codes "set-rider") fields.entry) result }
 {
     read_as!(alloc, fields => SetRider: rider, blocked: Blocked)
 }
 
-pub fn read_top_up(alloc: Global, fields: Fields) -> Result<Command, Unread>
+pub(crate) fn read_top_up(alloc: Global, fields: Fields) -> Result<Command, Unread>
     ensures { IsReading (command_by (codes "top-up") fields.entry) result }
 {
     read_as!(alloc, fields => TopUp: rider, amount)
 }
 
-pub fn read_start(alloc: Global, fields: Fields) -> Result<Command, Unread>
+pub(crate) fn read_start(alloc: Global, fields: Fields) -> Result<Command, Unread>
     ensures { IsReading (command_by (codes "start") fields.entry) result }
 {
     read_as!(alloc, fields => Start: rider, station, dock)
 }
 
-pub fn read_end(alloc: Global, fields: Fields) -> Result<Command, Unread>
+pub(crate) fn read_end(alloc: Global, fields: Fields) -> Result<Command, Unread>
     ensures { IsReading (command_by (codes "end") fields.entry) result }
 {
     read_as!(alloc, fields => End: bike, station, dock)
 }
 
-pub fn read_recover(alloc: Global, fields: Fields) -> Result<Command, Unread>
+pub(crate) fn read_recover(alloc: Global, fields: Fields) -> Result<Command, Unread>
     ensures { IsReading (command_by (codes "recover") fields.entry) result }
 {
     read_as!(alloc, fields => Recover: rental)
 }
 
-pub fn read_refund(alloc: Global, fields: Fields) -> Result<Command, Unread>
+pub(crate) fn read_refund(alloc: Global, fields: Fields) -> Result<Command, Unread>
     ensures { IsReading (command_by (codes "refund") fields.entry) result }
 {
     read_as!(alloc, fields => Refund: rental, amount)
 }
 
-pub fn read_open_order(alloc: Global, fields: Fields) -> Result<Command, Unread>
+pub(crate) fn read_open_order(alloc: Global, fields: Fields) -> Result<Command, Unread>
     ensures { IsReading (command_by (codes "open-order") fields.entry) result }
 {
     read_as!(alloc, fields => OpenOrder: truck, from_end, to_end, type_id, count)
 }
 
-pub fn read_load(alloc: Global, fields: Fields) -> Result<Command, Unread>
+pub(crate) fn read_load(alloc: Global, fields: Fields) -> Result<Command, Unread>
     ensures { IsReading (command_by (codes "load") fields.entry) result }
 {
     read_as!(alloc, fields => Load: truck, order, bike)
 }
 
-pub fn read_unload(alloc: Global, fields: Fields) -> Result<Command, Unread>
+pub(crate) fn read_unload(alloc: Global, fields: Fields) -> Result<Command, Unread>
     ensures { IsReading (command_by (codes "unload") fields.entry) result }
 {
     read_as!(alloc, fields => Unload: truck, order, bike, side, dock)
 }
 
-pub fn read_close_order(alloc: Global, fields: Fields) -> Result<Command, Unread>
+pub(crate) fn read_close_order(alloc: Global, fields: Fields) -> Result<Command, Unread>
     ensures { IsReading (command_by (codes "close-order") fields.entry) result }
 {
     read_as!(alloc, fields => CloseOrder: order)
 }
 
-pub fn read_set_region(alloc: Global, fields: Fields) -> Result<Command, Unread>
+pub(crate) fn read_set_region(alloc: Global, fields: Fields) -> Result<Command, Unread>
     ensures { IsReading (command_by (codes "set-region") fields.entry) result }
 {
     read_as!(alloc, fields => SetRegion: station, region)
 }
 
-pub fn read_add_name(alloc: Global, fields: Fields) -> Result<Command, Unread>
+pub(crate) fn read_add_name(alloc: Global, fields: Fields) -> Result<Command, Unread>
     ensures { IsReading (command_by (codes "add-name") fields.entry) result }
 {
     read_as!(alloc, fields => AddName: kind, id, language, name)
 }
 
-pub fn read_set_name(alloc: Global, fields: Fields) -> Result<Command, Unread>
+pub(crate) fn read_set_name(alloc: Global, fields: Fields) -> Result<Command, Unread>
     ensures { IsReading (command_by (codes "set-name") fields.entry) result }
 {
     read_as!(alloc, fields => SetName: kind, id, language, name)
 }
 
-pub fn read_remove_name(alloc: Global, fields: Fields) -> Result<Command, Unread>
+pub(crate) fn read_remove_name(alloc: Global, fields: Fields) -> Result<Command, Unread>
     ensures { IsReading (command_by (codes "remove-name") fields.entry) result }
 {
     read_as!(alloc, fields => RemoveName: kind, id, language)
 }
 
-pub fn read_add_docks(alloc: Global, fields: Fields) -> Result<Command, Unread>
+pub(crate) fn read_add_docks(alloc: Global, fields: Fields) -> Result<Command, Unread>
     ensures { IsReading (command_by (codes "add-docks") fields.entry) result }
 {
     read_as!(alloc, fields => AddDocks: station, count)

@@ -73,8 +73,8 @@ pub fn read_rest(alloc: Global, mut fields: Fields) -> Result<Command, Unread>
     read_fields(alloc, word, fields)
 }
 
-/// The command that the text spells: its word and its fields, joined by single TABs. None where it spells none; an error
-/// where memory was refused, which only a text that spells a command asks for.
+/// The command that the text spells: its word and its fields, joined by single TABs. None where it spells none; an
+/// error where memory was refused, which only a text that spells a command asks for.
 pub fn read_command(alloc: Global, text: &str) -> Result<Option<Command>, AllocError>
     ensures found { IfOk result (λ o. IfSome o (λ c. IsSpelling text.now c × IsCommand c)) }
     ensures only { IfOk result (λ o. (c : Command) → IsCommand c → IsSpelling text.now c → o ≡ Some c) }

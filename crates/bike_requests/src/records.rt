@@ -2,7 +2,8 @@
 
 ghost use Rattle.std.specs.Prelude.{◌≡◌, ◌++◌, OnOk, codes, string_bytes};
 ghost use Rattle.bike_texts.specs.Fields.{fields_text};
-ghost use Rattle.bike_commands.specs.declared.command.Command.TheVariants.{SetSystem, AddPlan, AddType, AddStation, AddRegion, ChangeSystem, MoveStation};
+ghost use Rattle.bike_commands.specs.declared.command.Command.TheVariants.{SetSystem, AddPlan, AddType, AddStation};
+ghost use Rattle.bike_commands.specs.declared.command.Command.TheVariants.{AddRegion, ChangeSystem, MoveStation};
 ghost use Rattle.bike_commands.specs.Commands.{text_of};
 ghost use Rattle.bike_requests.specs.Readers.{command_by};
 ghost use Rattle.bike_requests.specs.Unread.{IsReading};
@@ -14,7 +15,8 @@ use crate::unread::Unread;
 use bike_attributes::{GREATEST_LATITUDE, Position};
 use bike_catalogue::{Plan, Region, Settings, Station, System, VehicleType};
 use bike_commands::Command;
-use bike_fields::{GREATEST_COORDINATE, Ident};
+use bike_fields::Ident;
+use bike_fixed::GREATEST_COORDINATE;
 use bike_texts::Fields;
 use std::alloc::{AllocError, Global};
 
@@ -23,7 +25,7 @@ type Latitude = Degrees<GREATEST_LATITUDE>;
 type Longitude = Degrees<GREATEST_COORDINATE>;
 
 #[tactic(auto, unfolding(crate::specs::Readers::command_by))]
-pub fn read_set_system(alloc: Global, fields: Fields) -> Result<Command, Unread>
+pub(crate) fn read_set_system(alloc: Global, fields: Fields) -> Result<Command, Unread>
     ensures { IsReading (command_by (codes "set-system") fields.entry) result }
 {
     let (id, (language, (name, (hours, (email, (zone, (currency, (url, ttl)))))))) = read(
@@ -34,7 +36,7 @@ pub fn read_set_system(alloc: Global, fields: Fields) -> Result<Command, Unread>
 }
 
 #[tactic(auto, unfolding(crate::specs::Readers::command_by))]
-pub fn read_add_plan(alloc: Global, fields: Fields) -> Result<Command, Unread>
+pub(crate) fn read_add_plan(alloc: Global, fields: Fields) -> Result<Command, Unread>
     ensures { IsReading (command_by (codes "add-plan") fields.entry) result }
 {
     let (id, (name, (price, (taxable, (description, Segments { list }))))) = read(alloc, fields)?;
@@ -43,7 +45,7 @@ pub fn read_add_plan(alloc: Global, fields: Fields) -> Result<Command, Unread>
 }
 
 #[tactic(auto, unfolding(crate::specs::Readers::command_by))]
-pub fn read_add_type(alloc: Global, fields: Fields) -> Result<Command, Unread>
+pub(crate) fn read_add_type(alloc: Global, fields: Fields) -> Result<Command, Unread>
     ensures { IsReading (command_by (codes "add-type") fields.entry) result }
 {
     let (id, (name, (form, (Range { propulsion, metres }, plan)))) = read(alloc, fields)?;
@@ -52,7 +54,7 @@ pub fn read_add_type(alloc: Global, fields: Fields) -> Result<Command, Unread>
 }
 
 #[tactic(auto, unfolding(crate::specs::Readers::command_by))]
-pub fn read_add_station(alloc: Global, fields: Fields) -> Result<Command, Unread>
+pub(crate) fn read_add_station(alloc: Global, fields: Fields) -> Result<Command, Unread>
     ensures { IsReading (command_by (codes "add-station") fields.entry) result }
 {
     let (id, (name, (lat, (lon, docks)))): (_, (_, (Latitude, (Longitude, _)))) = read(
@@ -63,7 +65,7 @@ pub fn read_add_station(alloc: Global, fields: Fields) -> Result<Command, Unread
 }
 
 #[tactic(auto, unfolding(crate::specs::Readers::command_by))]
-pub fn read_add_region(alloc: Global, fields: Fields) -> Result<Command, Unread>
+pub(crate) fn read_add_region(alloc: Global, fields: Fields) -> Result<Command, Unread>
     ensures { IsReading (command_by (codes "add-region") fields.entry) result }
 {
     let (id, name) = read(alloc, fields)?;
@@ -71,7 +73,7 @@ pub fn read_add_region(alloc: Global, fields: Fields) -> Result<Command, Unread>
 }
 
 #[tactic(auto, unfolding(crate::specs::Readers::command_by))]
-pub fn read_change_system(alloc: Global, fields: Fields) -> Result<Command, Unread>
+pub(crate) fn read_change_system(alloc: Global, fields: Fields) -> Result<Command, Unread>
     ensures { IsReading (command_by (codes "change-system") fields.entry) result }
 {
     let (name, (hours, (email, (zone, (url, ttl))))) = read(alloc, fields)?;
@@ -80,7 +82,7 @@ pub fn read_change_system(alloc: Global, fields: Fields) -> Result<Command, Unre
 }
 
 #[tactic(auto, unfolding(crate::specs::Readers::command_by))]
-pub fn read_move_station(alloc: Global, fields: Fields) -> Result<Command, Unread>
+pub(crate) fn read_move_station(alloc: Global, fields: Fields) -> Result<Command, Unread>
     ensures { IsReading (command_by (codes "move-station") fields.entry) result }
 {
     let (station, (lat, lon)): (_, (Latitude, Longitude)) = read(alloc, fields)?;
@@ -88,7 +90,7 @@ pub fn read_move_station(alloc: Global, fields: Fields) -> Result<Command, Unrea
     Ok(Command::MoveStation { station, position })
 }
 
-pub fn put_set_system(out: &mut String, system: &System) -> Result<(), AllocError>
+pub(crate) fn put_set_system(out: &mut String, system: &System) -> Result<(), AllocError>
     ensures { OnOk result (string_bytes out.new ≡ string_bytes out.old ++ text_of (SetSystem system.now)) }
 {
     let last = (system.currency(), (system.base_url(), &system.ttl()));
@@ -101,7 +103,7 @@ pub fn put_set_system(out: &mut String, system: &System) -> Result<(), AllocErro
     )
 }
 
-pub fn put_add_plan(out: &mut String, plan: &Plan) -> Result<(), AllocError>
+pub(crate) fn put_add_plan(out: &mut String, plan: &Plan) -> Result<(), AllocError>
     ensures { OnOk result (string_bytes out.new ≡ string_bytes out.old ++ text_of (AddPlan plan.now)) }
 {
     let last = (&plan.taxable(), (plan.description(), plan.segments()));
@@ -112,7 +114,7 @@ pub fn put_add_plan(out: &mut String, plan: &Plan) -> Result<(), AllocError>
     )
 }
 
-pub fn put_add_type(out: &mut String, kind: &VehicleType) -> Result<(), AllocError>
+pub(crate) fn put_add_type(out: &mut String, kind: &VehicleType) -> Result<(), AllocError>
     ensures { OnOk result (string_bytes out.new ≡ string_bytes out.old ++ text_of (AddType kind.now)) }
 {
     let range = Range {
@@ -123,7 +125,7 @@ pub fn put_add_type(out: &mut String, kind: &VehicleType) -> Result<(), AllocErr
     put(out, "add-type", &(kind.type_id(), (kind.name(), last)))
 }
 
-pub fn put_add_station(out: &mut String, station: &Station) -> Result<(), AllocError>
+pub(crate) fn put_add_station(out: &mut String, station: &Station) -> Result<(), AllocError>
     ensures { OnOk result (string_bytes out.new ≡ string_bytes out.old ++ text_of (AddStation station.now)) }
 {
     let lat = Latitude {
@@ -140,13 +142,13 @@ pub fn put_add_station(out: &mut String, station: &Station) -> Result<(), AllocE
     )
 }
 
-pub fn put_add_region(out: &mut String, region: &Region) -> Result<(), AllocError>
+pub(crate) fn put_add_region(out: &mut String, region: &Region) -> Result<(), AllocError>
     ensures { OnOk result (string_bytes out.new ≡ string_bytes out.old ++ text_of (AddRegion region.now)) }
 {
     put(out, "add-region", &(region.region_id(), region.name()))
 }
 
-pub fn put_change_system(out: &mut String, settings: &Settings) -> Result<(), AllocError>
+pub(crate) fn put_change_system(out: &mut String, settings: &Settings) -> Result<(), AllocError>
     ensures { OnOk result (string_bytes out.new ≡ string_bytes out.old ++ text_of (ChangeSystem settings.now)) }
 {
     let last = (settings.timezone(), (settings.base_url(), &settings.ttl()));
@@ -158,7 +160,7 @@ pub fn put_change_system(out: &mut String, settings: &Settings) -> Result<(), Al
     )
 }
 
-pub fn put_move_station(
+pub(crate) fn put_move_station(
     out: &mut String,
     station: &Ident,
     position: &Position,

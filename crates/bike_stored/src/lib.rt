@@ -4,5 +4,4 @@
 
 mod stored;
 
-pub use bike_views::{Known, Sight, find_view, know_figures};
 pub use stored::find_stored;

@@ -13,7 +13,8 @@ ghost use Rattle.bike_attributes.specs.Vehicle.{form_of, propulsion_of};
 ghost use Rattle.bike_texts.specs.Escapes.{name_at, ascii_at};
 ghost use Rattle.bike_texts.specs.SegmentReading.{segments_of};
 ghost use Rattle.bike_texts.specs.Reading.{Takes, HasIdent, part_at, field_at, no_more, exactly, i64_of, fare_of};
-ghost use Rattle.bike_texts.specs.Reading.{degrees_of, is_of_size, metres_of, choice_of, side_of, end_of, end_meant, ident_or_none_of};
+ghost use Rattle.bike_texts.specs.Reading.{degrees_of, is_of_size, metres_of, choice_of, side_of, end_of, end_meant};
+ghost use Rattle.bike_texts.specs.Reading.{ident_or_none_of};
 
 use crate::ends::{EndName, Side};
 use crate::escapes::{AsciiText, NameText, read_ascii, read_name};

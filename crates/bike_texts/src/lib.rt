@@ -13,12 +13,6 @@ mod fields;
 mod segments;
 mod values;
 
-pub use bike_attributes::{NameKind, Position, Segment};
-pub use bike_fields::{
-    BicycleNumber, Caller, DockCount, DockNumber, Ident, Language, Name, OrderNumber,
-    OrderQuantity, Payment, RentalNumber, RequestKey, RiderNumber, TruckCapacity, TruckNumber,
-    Within, signed_text,
-};
 pub use ends::{EndName, OrderEnd, Side, UnloadDock};
 pub use escapes::{AsciiText, NameText};
 pub use fare::Fare;

@@ -10,7 +10,8 @@ use bike_rows::write::run;
 use bike_schema::{Staged, StatementFault};
 use sqlite::{Alter, params};
 
-/// Sets the name of what has this kind and identifier, or a plan's description. `system` has one row, under a key of its own.
+/// Sets the name of what has this kind and identifier, or a plan's description. `system` has one row, under a key of
+/// its own.
 pub(crate) fn set_own_name<S: Alter>(
     tx: &mut Staged<'_, S>,
     kind: NameKind,

@@ -1,5 +1,5 @@
 use Rattle.std.proofs.Common.{◌≡◌, ◌+◌, ◌*◌, pos, neg_ℤ, ◌+ℤ◌, ◌≤ℤ◌}
-use Rattle.bike_catalogue.specs.numbers.TheConstants.{GREATEST_PRICE}
+use Rattle.bike_fields.specs.declared.numbers.TheConstants.{GREATEST_PRICE}
 use Rattle.bike_fares.specs.Pricing.{sum_below, reached_charge, most_at_minute}
 use Rattle.bike_fares.proofs.minutes.fare_by_minutes.Given as goal
 
