@@ -118,8 +118,8 @@ after_delivery To order o co s there made =
     rw made (order_as order (λ x. record x { delivered = o.delivered + 1; is_open = o.is_open }) (λ x. record x { delivered = x.delivered + 1 }) o s there refl)
 
 orders_left : (now order : ℕ) (m : Moved) (s : Operator) → item_numbered order (after_moved now m s).orders ≡ item_numbered order s.orders
-orders_left now order (moved.Away bike type_id was becomes) s = refl
-orders_left now order (moved.AtDock at bike type_id was becomes) s = refl
+orders_left now order (moved.Away bike type_id was next) s = refl
+orders_left now order (moved.AtDock at bike type_id was next) s = refl
 orders_left now order (moved.AddDocks station was count) s = refl
 orders_left now order (moved.Marked at held broken) s = refl
 
