@@ -143,7 +143,7 @@ not_made k fit made holds ps e (Err x) read passed = subst (λ (y : Unread). IsR
   some (Some v) e is = holds v (all_sound (exact k fit) ps v e).good
 
   by : (e : Unread) → IsReading {A = Value k} (all_at (reads k) ps) (Err e) → IsReading {A = Command} (all_at (reads k) ps >>= made) (Err e)
-  by BadField none = rw none refl
+  by BadField nothing = rw nothing refl
   by NoMemory is = some (all_at (reads k) ps) refl is
 
 pub plan_not_made : (ps : Parts) (e : Unread) (s : Result Command Unread) → IsReading {A = Value plan_kind} (all_at (reads plan_kind) ps) (Err e) → IsErr s × IsErrAnd s (λ x. x ≡ e) → IsReading (command_by (codes "add-plan") ps) s
