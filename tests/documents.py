@@ -230,8 +230,9 @@ WIDEST_LINE = 120
 
 
 def wide_lines(text):
-    """The numbers of the lines that are too wide."""
-    return [n for n, it in enumerate(text.splitlines(), 1) if len(it) > WIDEST_LINE]
+    """The numbers of the lines that are too wide, but for attributes, which `rt fmt` joins."""
+    lines = enumerate(text.splitlines(), 1)
+    return [n for n, it in lines if len(it) > WIDEST_LINE and not it.lstrip().startswith("#[")]
 
 
 def test_widths_of_code(program):

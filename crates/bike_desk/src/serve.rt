@@ -191,7 +191,7 @@ fn serve_anew<'a, S: Alter>(
     ensures failed { HasCleanDisk (state S.Store conn.new) → (s : Operator) → Keeps (state S.Store conn.old) s
         → IsRemembered s remembered.now → map.get s.kept (key_in asked.entry.request.now) ≡ None
         → OnErr result (AllLeft (state S.Store conn.new)
-            (TreesStandForEither s (step s moment asked.entry.request.now).1)) }
+        (TreesStandForEither s (step s moment asked.entry.request.now).1)) }
 {
     let figures = know_figures(conn, &remembered.figures)?;
     let known = Known {

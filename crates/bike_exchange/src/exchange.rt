@@ -70,14 +70,7 @@ impl<S: Socket> Exchange<S> {
     }
 }
 
-#[tactic(
-    auto,
-    using(
-        crate::proofs::Reading::read_front,
-        crate::proofs::Reading::read_behind,
-        crate::proofs::Reading::read_nothing
-    )
-)]
+#[tactic(auto, using(crate::proofs::Reading::read_front, crate::proofs::Reading::read_behind, crate::proofs::Reading::read_nothing))]
 impl<S: Socket> Read for Exchange<S> {
     ghost use Rattle.std.specs.Prelude.{Some, None, ◌++◌, drop, if◌then◌else◌};
     ghost use Rattle.bike_exchange.specs.Asking.{unread};

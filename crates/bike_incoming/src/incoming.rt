@@ -57,14 +57,7 @@ enum Opening {
 }
 
 /// Reads until the input's head is whole, or no head can come.
-#[tactic(
-    auto,
-    using(
-        crate::proofs::Receiving::grew_then,
-        crate::proofs::Receiving::told_opened,
-        crate::proofs::Receiving::ended_opens
-    )
-)]
+#[tactic(auto, using(crate::proofs::Receiving::grew_then, crate::proofs::Receiving::told_opened, crate::proofs::Receiving::ended_opens))]
 fn receive_head<R: Read>(
     reader: &mut R,
     reads: &mut ReadsLeft,

@@ -79,7 +79,7 @@ pub fn serve_sessions<S: Alter + Reopen + Drop>(
     ensures served { (s : Operator) → IsAt S.Store desk s
         → IfOk result (λ r. IfOk r.end (λ again. HasCleanDisk (desk_state S.Store again)
         → ServesSessions S.Store again s
-            (map (λ calls. calls.items) sessions.now) (map (λ a. a.replies.items) r.told.items))) }
+        (map (λ calls. calls.items) sessions.now) (map (λ a. a.replies.items) r.told.items))) }
     ensures refused { (s : Operator) → IsAt S.Store desk s → IfOk result (λ r. IfErr r.end (IsOnlyWant S.Store)) }
     ensures handed { IfErr result (λ d. d ≡ desk) }
 {
@@ -112,7 +112,7 @@ pub fn serve_sessions_in_memory(
 ) -> Option<SessionsServed<MemStore>>
     ensures served { IfSome result (λ r. IfOk r.end (λ again.
         ServesSessions over_memory again no_operator
-            (map (λ calls. calls.items) sessions.now) (map (λ a. a.replies.items) r.told.items))) }
+        (map (λ calls. calls.items) sessions.now) (map (λ a. a.replies.items) r.told.items))) }
     ensures refused { IfSome result (λ r. IfErr r.end (IsOnlyWant over_memory)) }
 {
     let Ok(conn) = Connection::open_in_memory(alloc) else {

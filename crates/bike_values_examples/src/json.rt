@@ -10,8 +10,7 @@ use std::test::Fail;
 const NAME: &str = "a\"\\\u{8}\t\n\u{c}\r\u{1f}\0/\u{7f}\u{e9}\u{20ac}\u{1f6b2}";
 
 /// What RFC 8259 makes of the calls of `write_text`.
-const TEXT: &str =
-    "{\"a\\\"\\\\\\b\\t\\n\\f\\r\\u001f\\u0000/\u{7f}\u{e9}\u{20ac}\u{1f6b2}\":\"\",\
+const TEXT: &str = "{\"a\\\"\\\\\\b\\t\\n\\f\\r\\u001f\\u0000/\u{7f}\u{e9}\u{20ac}\u{1f6b2}\":\"\",\
      \"n\":[-9223372036854775808,-0.25,-92233720368547758.08,-0.000001,180.000000,true,{},[[]]]}";
 
 /// Makes every kind of call; gives the outcome of the last, the count and what was written.
