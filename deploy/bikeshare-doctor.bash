@@ -5,7 +5,7 @@ _bikeshare_doctor() {
     COMPREPLY=()
     if [[ $COMP_CWORD = 1 ]]; then
         compopt -o filenames 2>/dev/null
-        mapfile -t COMPREPLY < <(compgen -W "log lines table feed" -- "$typed"; compgen -f -X '*-wal' -- "$typed")
+        mapfile -t COMPREPLY < <(compgen -W "log lines table feed portal manifest" -- "$typed"; compgen -f -X '*-wal' -- "$typed")
         return
     fi
     case $word in
@@ -16,6 +16,13 @@ _bikeshare_doctor() {
         return
         ;;
     feed) known="--here --strict" ;;
+    portal | manifest)
+        # Behind the first stand addresses, which nobody knows here.
+        [[ $COMP_CWORD = 2 ]] || return
+        compopt -o filenames 2>/dev/null
+        mapfile -t COMPREPLY < <(compgen -f -- "$typed")
+        return
+        ;;
     # The value of --port is what is being typed.
     *) [[ ${COMP_WORDS[COMP_CWORD - 1]} = --port ]] || known="--port" ;;
     esac

@@ -84,6 +84,13 @@ def test_bikeshare_office(program):
     tried(program, "bikeshare-office", cuts("bikeshare-office")[:-1], words, lambda _, said: False)
 
 
+def test_bikeshare_portal(program):
+    """Cut anywhere, it doesn't say that all was made, where the program wasn't even there."""
+    Path(program.folder, "office").mkdir()
+    words = ["http://127.0.0.1:1", Path(program.folder, "office"), "published"]
+    tried(program, "bikeshare-portal", cuts("bikeshare-portal")[:-1], words, lambda _, said: False)
+
+
 def test_none_is_left_out(_):
     """Each script of deploy/ has its test here."""
     scripts = {it.name for it in DEPLOY.iterdir() if it.read_bytes().startswith(b"#!")}

@@ -1559,7 +1559,7 @@ def test_shapes_have_the_members_of_the_documents(program):
             tried += 1
             assert name in shape or f"{name}?" in shape, (feed, name)
     assert tried > 25, tried
-    assert doctor.SHAPES.keys() == set(FEEDS)
+    assert doctor.SHAPES.keys() == {*FEEDS, "gbfs_versions", "system_alerts"}
 
 
 # ---- the words
@@ -1569,7 +1569,7 @@ def test_words(program):
     """Wrong words have the status 2 and the usage. Lines and tables are read from standard input. Of a good file a line
     says what isn't seen."""
     wrong = ("", "--port 1", "x.db --port 65536", "x.db --port 080", "lines x", "table --strict", "feed", "feed a b")
-    for words in (*wrong, "log", "log a b", "x.db --x"):
+    for words in (*wrong, "log", "log a b", "x.db --x", "portal", "portal a b c", "manifest", "manifest --here a"):
         status, lines = told(*words.split())
         assert status == 2 and lines[0].startswith("usage: bikeshare-doctor "), (words, status, lines)
     assert told("--help")[0] == 0 and told("feed", "--help")[0] == 0
@@ -1607,6 +1607,7 @@ def test_the_manual_page_and_the_completion(program):
     assert set(completed(program.folder, "")) == words | {"city.db"} and completed(program.folder, "ta") == ["table"]
     assert completed(program.folder, "feed", "x", "-") == ["--here", "--strict"]
     assert completed(program.folder, "lines", "") == [] and completed(program.folder, "log", "") == ["city.db"]
+    assert "city.db" in completed(program.folder, "manifest", "") and completed(program.folder, "portal", "x", "") == []
     assert completed(program.folder, "city.db", "-") == ["--port"]
     assert completed(program.folder, "city.db", "--port", "") == []
 

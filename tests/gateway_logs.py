@@ -19,7 +19,8 @@ import time
 from pathlib import Path
 
 from operating import DEPLOY, SECONDS, TOKENS, Gateway, plain_copy
-from shared import Server, city, needs, ran
+from restarts import Unit
+from shared import Server, can_mount, city, disk, is_sound, needs, ran
 
 LONG = "x/" + "a" * 7000
 
@@ -105,6 +106,50 @@ def test_no_stranger_fills_the_logs(program):
             client.sendall(b"GET /status HTTP/1.0\r\n\r\n")
             told = client.makefile("rb").read().decode()
         assert int(re.search(r"^ \d+ \d+ (\d+)", told, re.M)[1]) > 48_000, told
+
+
+@needs("nginx")
+def test_a_full_disk(program):
+    """Of a city and its gateway on one small disk: strangers take none of its room. Once it is full a POST is answered
+    503 and ends the program, which shows rows again once the unit has started it, and the gateway goes on. The first
+    POST after there is room is accepted."""
+    if not can_mount(program, "gateway_logs.test_a_full_disk"):
+        return
+    here = Path(program.folder, "disk")
+    here.mkdir()
+    # nginx runs as another user.
+    here.parent.chmod(0o755)
+    with disk(here, 64 << 20):
+        program.folder = str(here)
+        city(program)
+        with Unit(program) as unit:
+            unit.comes_back("first")
+            with Gateway(program, {"metro": unit.port}) as gateway:
+
+                def post(key):
+                    body = json.dumps({"key": key, "command": "top-up\t17\t1"})
+                    return gateway.told("POST", "/office", "office:anna", body)[0]
+
+                before = os.statvfs(here).f_bfree
+                flooded(gateway.port, asking(LONG), 10_000)
+                assert post("open") == 200 and before - os.statvfs(here).f_bfree < 16, "strangers take room"
+                with contextlib.suppress(OSError), open(here / "fill", "wb", buffering=0) as file:
+                    while True:
+                        file.write(bytes(4096))
+                # A few still find room in the city's log.
+                keys = (f"full{it}" for it in range(100))
+                found = list(iter(lambda: post(next(keys)), 503))
+                assert set(found) <= {200}, found
+                for turn in range(3):
+                    unit.wait(lambda: gateway.told("GET", "/riders/17", "office:anna")[0] == 200, "no row is shown")
+                    assert post(f"turn{turn}") == 503
+                unit.wait(lambda: len(unit.ends) == 4, "it goes on without room")
+                assert unit.ends == [3] * 4, unit.ends
+                (here / "fill").unlink()
+                # Until the program is started again the gateway has no answer of it.
+                unit.wait(lambda: gateway.told("GET", "/riders/17", "office:anna")[0] == 200, "no row is shown")
+                assert post("last") == 200 and gateway.child.poll() is None
+        is_sound(program)
 
 
 @needs("nginx")
