@@ -358,6 +358,7 @@ def test_release(program):
         "deploy/backup",
         "deploy/bikeshare-doctor",
         "deploy/bikeshare-office",
+        "deploy/bikeshare-portal",
         "deploy/bikeshare-watch",
         "deploy/keep-copies",
         "examples/city/run",
@@ -401,7 +402,8 @@ def test_release_in_an_empty_root(program):
 def test_unit_files(program):
     """systemd knows each line of the unit files, and finds the programs that they name."""
     folder = Path(program.folder)
-    names = ("bikeshare@.service", "bikeshare-gateway.service", "bikeshare-backup@.service", "bikeshare-backup@.timer")
+    names = ["bikeshare@.service", "bikeshare-gateway.service"]
+    names += [f"bikeshare-{it}@.{kind}" for it in ("backup", "portal") for kind in ("service", "timer")]
     for name in names:
         text = (DEPLOY / name).read_text().replace("/opt/bikeshare/bikeshare", program.file)
         shown = text.replace("/usr/sbin/nginx", "/bin/true").replace("/opt/bikeshare/deploy", str(DEPLOY))

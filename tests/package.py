@@ -22,7 +22,7 @@ DEPLOY = TOP / "deploy"
 SECONDS = 120
 DOCUMENTS = "usr/share/doc/bikeshare"
 # The scripts for administrators and staff, each with a manual page and a completion beside it.
-SCRIPTS = "bikeshare-doctor", "bikeshare-office", "bikeshare-watch"
+SCRIPTS = "bikeshare-doctor", "bikeshare-office", "bikeshare-portal", "bikeshare-watch"
 PAGES = [f"{name}.1" for name in ("bikeshare", *SCRIPTS)]
 
 
@@ -56,6 +56,8 @@ def wanted_files():
         "usr/lib/systemd/system/bikeshare@.service": None,
         "usr/lib/systemd/system/bikeshare-gateway.service": None,
         "usr/lib/systemd/system/bikeshare-backup@.service": None,
+        "usr/lib/systemd/system/bikeshare-portal@.service": None,
+        "usr/lib/systemd/system/bikeshare-portal@.timer": None,
         "usr/lib/systemd/system/bikeshare-logs.service": None,
         "usr/lib/systemd/system/bikeshare-logs.timer": None,
         "usr/lib/systemd/system/bikeshare-backup@.timer": None,
@@ -126,12 +128,13 @@ def has_good_files(program, found):
 def has_good_paths(found):
     """Holds the unit files and the script for backups to those of deploy/, with the paths of the package."""
     units = sorted(it.name for it in DEPLOY.iterdir() if it.suffix in (".service", ".timer"))
-    assert len(units) == 6, units
+    assert len(units) == 8, units
     for name in units:
         text = (DEPLOY / name).read_text()
         text = text.replace("/opt/bikeshare/bikeshare", "/usr/bin/bikeshare").replace(
             "/opt/bikeshare/docs", "/usr/share/doc/bikeshare/docs"
         )
+        text = text.replace("/opt/bikeshare/deploy/bikeshare-", "/usr/bin/bikeshare-")
         text = text.replace("/opt/bikeshare/deploy/", "/usr/share/bikeshare/")
         assert found[f"usr/lib/systemd/system/{name}"][1].decode() == text, name
         named = re.findall(r"^(?:ExecStart=|Documentation=file:)/(usr/\S+)", text, re.M)
@@ -260,7 +263,7 @@ def test_package(program):
     for name in PAGES:
         page = gzip.decompress(found[f"usr/share/man/man1/{name}.gz"][1])
         assert page == (one / "release/deploy" / name).read_bytes() and f'"{told["version"]}"'.encode() in page, name
-        rest = re.sub(rb"bikeshare(\\-backup)?@CITY", b"", page)
+        rest = re.sub(rb"bikeshare(\\-(?:backup|portal))?@CITY", b"", page)
         assert b"@" not in rest, f"a mark of {name} wasn't replaced"
     # Another umask, another time zone, another language; and another package of that name, which isn't written over.
     status, said, again = released(program, two, umask=0o077, told={"TZ": "Asia/Tokyo", "LC_ALL": "C.UTF-8"})

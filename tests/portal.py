@@ -10,6 +10,7 @@ import copy
 import http.server
 import json
 import os
+import re
 import shutil
 import subprocess
 import sys
@@ -21,9 +22,11 @@ from pathlib import Path
 
 from doctor import doctor, moment_in, told
 from operating import Gateway
+from package import sections_of
 from shared import CITY, FEEDS, TOP, Server, accepted, city, free_port, needs, ran
 
 SCRIPT = TOP / "deploy/bikeshare-portal"
+PAGE, COMPLETION = TOP / "deploy/bikeshare-portal.1", TOP / "deploy/bikeshare-portal.bash"
 SECONDS = 30
 OWN_MEMBERS = ["system_id", "languages", "name", "opening_hours", "feed_contact_email", "timezone"]
 MEMBERS = {
@@ -401,3 +404,32 @@ def test_words(program):
         env={**os.environ, "PATH": "/nowhere"}, timeout=SECONDS, check=False,
     )
     assert done.returncode == 1 and done.stdout.startswith("there is no bikeshare-doctor"), done
+
+
+def test_page_and_completion(program):
+    """The manual page has the words and the statuses of the script, the members that the office may give, and examples
+    in which nothing is wrong; bash proposes folders."""
+    page = sections_of(PAGE.read_text(encoding="utf-8"))
+    status, said = ran(SCRIPT, "--help")
+    usage = said.split("\n")[0].removeprefix("usage: ").replace(" [-h]", "")
+    assert status == 0 and page["SYNOPSIS"] == [("", usage)], (said, page["SYNOPSIS"])
+    assert {it for it, _ in page["EXIT STATUS"] if it} == {"0", "1", "2", "3"}
+    files = {head: text for head, text in page["FILES"] if head}
+    assert set(files) == {f"{it}.json" for it in (*doctor.OFFICE_FILES, "gbfs_versions", "gbfs")}, files
+    told_of = set(re.findall(r"\w+", files["system_information.json"]))
+    assert {it.rstrip("?") for it in doctor.OFFICE_MEMBERS} <= told_of, doctor.OFFICE_MEMBERS
+    (alert,) = doctor.SHAPES["system_alerts"]["alerts"]
+    assert {it.rstrip("?") for it in alert} <= set(re.findall(r"\w+", files["system_alerts.json"]))
+    text = PAGE.read_text(encoding="utf-8").split(".SH EXAMPLES\n.nf\n")[1].replace("\\-", "-")
+    about, closed, systems = text.split("\n\n")[:3]
+    closed = re.sub('"20[0-9-]{8}', f'"{moment_in(0)[:10]}', closed)
+    about = json.dumps(json.loads(about) | {"manifest_url": MEMBERS["manifest_url"]})
+    office = given(Path(program.folder, "office"), system_information=about, system_alerts=closed, manifest=systems)
+    assert told("portal", office) == (0, []), told("portal", office)
+    script = f'. "{COMPLETION}"; COMP_WORDS=("$@"); COMP_CWORD=$(($# - 1)); _bikeshare_portal'
+    script += '; printf "%s\\n" "${COMPREPLY[@]}"'
+    completed = [
+        ran("bash", "-c", script, "bash", "bikeshare-portal", *words, cwd=program.folder)[1].split()
+        for words in (("",), ("http://x", ""), ("http://x", "office", "o"), ("http://x", "a", "b", ""))
+    ]
+    assert completed == [[], ["office"], ["office"], []], completed
