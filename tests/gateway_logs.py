@@ -20,7 +20,7 @@ from pathlib import Path
 
 from operating import DEPLOY, SECONDS, TOKENS, Gateway, plain_copy
 from restarts import Unit
-from shared import Server, can_mount, city, disk, is_sound, needs, ran
+from shared import FEEDS, Server, can_mount, city, disk, is_sound, needs, ran
 
 LONG = "x/" + "a" * 7000
 
@@ -111,20 +111,22 @@ def test_no_stranger_fills_the_logs(program):
 @needs("nginx")
 def test_a_full_disk(program):
     """Of a city and its gateway on one small disk: strangers take none of its room. Once it is full a POST is answered
-    503 and ends the program, which shows rows again once the unit has started it, and the gateway goes on. The first
-    POST after there is room is accepted."""
+    503 and ends the program, which shows rows again once the unit has started it, and the gateway goes on, with new
+    feeds too. The first POST after there is room is accepted."""
     if not can_mount(program, "gateway_logs.test_a_full_disk"):
         return
     here = Path(program.folder, "disk")
     here.mkdir()
     # nginx runs as another user.
     here.parent.chmod(0o755)
+    (feeds := here.parent / "feeds").mkdir()
+    feeds.chmod(0o777)
     with disk(here, 64 << 20):
         program.folder = str(here)
         city(program)
         with Unit(program) as unit:
             unit.comes_back("first")
-            with Gateway(program, {"metro": unit.port}) as gateway:
+            with Gateway(program, {"metro": unit.port}, feeds=f"{feeds}/") as gateway:
 
                 def post(key):
                     body = json.dumps({"key": key, "command": "top-up\t17\t1"})
@@ -136,6 +138,7 @@ def test_a_full_disk(program):
                 with contextlib.suppress(OSError), open(here / "fill", "wb", buffering=0) as file:
                     while True:
                         file.write(bytes(4096))
+                assert [gateway.told("GET", f"/gbfs/3.0/{it}.json")[0] for it in FEEDS] == [200] * len(FEEDS)
                 # A few still find room in the city's log.
                 keys = (f"full{it}" for it in range(100))
                 found = list(iter(lambda: post(next(keys)), 503))

@@ -438,11 +438,12 @@ TOKENS = {
 UNAUTHORIZED, FORBIDDEN = (401, "unauthorized"), (403, "forbidden")
 
 
-def configuration(port, cities, ttl):
+def configuration(port, cities, ttl, feeds=""):
     """The text of deploy/nginx.conf on this port, with its city's lines once for each city, a name and its program's
-    port."""
+    port. Feeds are kept in a folder whose name ends in a slash, or in nginx's own."""
     text = (DEPLOY / "nginx.conf").read_text()
-    for found, wanted in ("max-age=30", f"max-age={ttl}"), ("127.0.0.1:8079", f"127.0.0.1:{free_port()}"):
+    inner = "127.0.0.1:8079", f"127.0.0.1:{free_port()}"
+    for found, wanted in ("max-age=30", f"max-age={ttl}"), inner, ("_path /run/bikeshare-gateway/", f"_path {feeds}"):
         assert found in text, found
         text = text.replace(found, wanted)
     before, city, after = re.fullmatch(
@@ -479,7 +480,7 @@ def test_the_gateways_lines_for_tls(program):
     """nginx takes them as they stand, in place of those for trying it."""
     folder = Path(program.folder)
     make_certificate(folder)
-    (folder / "nginx.conf").write_text(on_the_network((DEPLOY / "nginx.conf").read_text(), free_port()))
+    (folder / "nginx.conf").write_text(on_the_network(configuration(8081, {"metro": 8080}, 30), free_port()))
     (folder / "metro.callers").touch()
     (folder / "logs").mkdir()
     words = ["-p", f"{folder}/", "-e", "error.log", "-c", folder / "nginx.conf", "-t"]
@@ -491,12 +492,12 @@ class Gateway:
     """nginx with deploy/nginx.conf on a free port, as a user without rights, before the servers of these cities. Where
     it is public, its lines for TLS stand in place of those for trying it."""
 
-    def __init__(self, program, cities, tokens=None, ttl=30, is_public=False):
+    def __init__(self, program, cities, tokens=None, ttl=30, is_public=False, feeds=""):
         self.port = free_port()
         self.folder = Path(program.folder, "public" if is_public else "gateway")
         (self.folder / "logs").mkdir(parents=True)
         # Its lines for trying it have this port, by which those for TLS are put there.
-        text = configuration(8081 if is_public else self.port, cities, ttl)
+        text = configuration(8081 if is_public else self.port, cities, ttl, feeds)
         (self.folder / "nginx.conf").write_text(on_the_network(text, self.port) if is_public else text)
         if is_public:
             make_certificate(self.folder)
