@@ -189,7 +189,7 @@ region_word None = refl
 region_word (Some id) = tt
 
 -- fields among which no word of a list stands
-is_plain : Field → Bool
+abbrev is_plain : Field → Bool
 is_plain (Fixed word) = false
 is_plain f = true
 
