@@ -406,6 +406,13 @@ def test_words(program):
     assert done.returncode == 1 and done.stdout.startswith("there is no bikeshare-doctor"), done
 
 
+def test_what_the_journal_takes(program):
+    """Of a run of the unit it takes the script's lines, and of systemd's none where all was made: those are of no such
+    level."""
+    unit = (TOP / "deploy/bikeshare-portal@.service").read_text(encoding="utf-8")
+    assert re.findall(r"^(?:SyslogLevel|LogLevelMax)=(.*)$", unit, re.M) == ["warning"] * 2, unit
+
+
 def test_page_and_completion(program):
     """The manual page has the words and the statuses of the script, the members that the office may give, and examples
     in which nothing is wrong; bash proposes folders."""
@@ -423,7 +430,6 @@ def test_page_and_completion(program):
     text = PAGE.read_text(encoding="utf-8").split(".SH EXAMPLES\n.nf\n")[1].replace("\\-", "-")
     about, closed, systems = text.split("\n\n")[:3]
     closed = re.sub('"20[0-9-]{8}', f'"{moment_in(0)[:10]}', closed)
-    about = json.dumps(json.loads(about) | {"manifest_url": MEMBERS["manifest_url"]})
     office = given(Path(program.folder, "office"), system_information=about, system_alerts=closed, manifest=systems)
     assert told("portal", office) == (0, []), told("portal", office)
     script = f'. "{COMPLETION}"; COMP_WORDS=("$@"); COMP_CWORD=$(($# - 1)); _bikeshare_portal'
