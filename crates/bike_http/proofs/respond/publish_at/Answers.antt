@@ -20,8 +20,8 @@ returns-in-Err-SystemMissing-clause-sent g c clean s at =
     let none = h.desk.missing clean s at refl in
     responds g.S.Store c.write_feed.new.desk s s _ not_found _ _ c.send.result (inl (sym (ap (feed_response s c.args.moment c.args.feed) none.0), none.1)) c.send.ensures
 
-pub returns-in-Err : goal.returns-in-Err
-returns-in-Err g c =
+pub returns : goal.returns
+returns g c =
     let h = c.in-Err.ensures in
     record {
       clean = h.desk.clean;
