@@ -1,4 +1,4 @@
-pub use Rattle.bike_places.proofs.CatalogueLemmas
-pub use Rattle.bike_places.proofs.CountLemmas
-pub use Rattle.bike_places.proofs.ItemLemmas
-pub use Rattle.bike_places.proofs.MapLemmas
+pub use Rattle.bike_laws.proofs.SingleSteps.CatalogueLemmas
+pub use Rattle.bike_laws.proofs.SingleSteps.CountLemmas
+pub use Rattle.bike_laws.proofs.SingleSteps.ItemLemmas
+pub use Rattle.bike_laws.proofs.SingleSteps.MapLemmas

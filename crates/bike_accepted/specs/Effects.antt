@@ -2,18 +2,18 @@
 use Rattle.std.specs.Prelude.{◌≡◌, ℕ, List, true, false, Option, Some, None, option_map, Result, Ok, Err}
 use Rattle.std.specs.FinMap as map
 use Rattle.std.specs.Borrow.{Bor}
-use Rattle.bike_places.specs.Entries.{Entry}
-use Rattle.bike_places.specs.Rows.{moved_to, more_docks, system_with}
-use Rattle.bike_places.specs.Command.{Command}
-use Rattle.bike_places.specs.Refusal.{Refusal}
-use Rattle.bike_places.specs.BikeState.TheVariants.{Fit}
-use Rattle.bike_places.specs.Place.TheVariants as place
-use Rattle.bike_places.specs.Bike.{Bike}
-use Rattle.bike_places.specs.ViewType.{View}
-use Rattle.bike_places.specs.Operator.{Operator, name_key}
-use Rattle.bike_places.specs.View.{view_of}
-use Rattle.bike_places.specs.Steps.{refusal_of, effect, reply_of, key_changed, with_report, new_station, own_name_set, further_name_set, further_name_removed, dock_marked, rental_added, rental_closed, order_added, order_changed}
-use Rattle.bike_places.specs.Changes.{place_of, text_in, entry_added}
+use Rattle.bike_operator.specs.Entries.{Entry}
+use Rattle.bike_operator.specs.Rows.{moved_to, more_docks, system_with}
+use Rattle.bike_operator.specs.Command.{Command}
+use Rattle.bike_operator.specs.Refusal.{Refusal}
+use Rattle.bike_operator.specs.declared.records.BikeState.TheVariants.{Fit}
+use Rattle.bike_operator.specs.declared.records.Place.TheVariants as place
+use Rattle.bike_operator.specs.declared.records.Bike.{Bike}
+use Rattle.bike_operator.specs.declared.view.View.{View}
+use Rattle.bike_operator.specs.Operator.{Operator, name_key}
+use Rattle.bike_operator.specs.View.{view_of}
+use Rattle.bike_operator.specs.Steps.{refusal_of, effect, reply_of, key_changed, with_report, new_station, own_name_set, further_name_set, further_name_removed, dock_marked, rental_added, rental_closed, order_added, order_changed}
+use Rattle.bike_operator.specs.Changes.{place_of, text_in, entry_added}
 use Rattle.bike_accepted.specs.declared.moved.Standing.{Standing}
 use Rattle.bike_accepted.specs.declared.moved.Moved.{Moved}
 use Rattle.bike_accepted.specs.declared.moved.Moved.TheVariants as moved

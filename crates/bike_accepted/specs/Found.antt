@@ -2,20 +2,20 @@
 use Rattle.std.specs.Prelude.{◌≡◌, ℕ, ℤ, ◌+◌, ◌+ℤ◌, List, length, pos, true, false, Option, Some, None, option_map, IfSome}
 use Rattle.std.specs.FinMap as map
 use Rattle.std.specs.Borrow.{Bor}
-use Rattle.bike_places.specs.Entries.{Entry}
-use Rattle.bike_places.specs.Ledger.{credit, given_back, balance_of, refunded_of}
-use Rattle.bike_places.specs.Command.{Command}
-use Rattle.bike_places.specs.Place.{Place}
-use Rattle.bike_places.specs.Place.TheVariants as place
-use Rattle.bike_places.specs.Bike.{Bike}
-use Rattle.bike_places.specs.ViewType.{View}
-use Rattle.bike_places.specs.Operator.{Operator, Station, name_key}
-use Rattle.bike_places.specs.Counts.{is_broken, docked_at, docks_broken}
-use Rattle.bike_places.specs.View.{view_of}
-use Rattle.bike_places.specs.Changes.{place_of}
-use Rattle.bike_places.specs.Sound.{HasDock, IsSound}
-use Rattle.bike_places.specs.Numbers.{occupied_docks}
-use Rattle.bike_places.specs.Laws.{IsAway}
+use Rattle.bike_operator.specs.Entries.{Entry}
+use Rattle.bike_operator.specs.Ledger.{credit, given_back, balance_of, refunded_of}
+use Rattle.bike_operator.specs.Command.{Command}
+use Rattle.bike_operator.specs.declared.records.Place.{Place}
+use Rattle.bike_operator.specs.declared.records.Place.TheVariants as place
+use Rattle.bike_operator.specs.declared.records.Bike.{Bike}
+use Rattle.bike_operator.specs.declared.view.View.{View}
+use Rattle.bike_operator.specs.Operator.{Operator, Station, name_key}
+use Rattle.bike_operator.specs.Counts.{is_broken, docked_at, docks_broken}
+use Rattle.bike_operator.specs.View.{view_of}
+use Rattle.bike_operator.specs.Changes.{place_of}
+use Rattle.bike_operator.specs.Sound.{HasDock, IsSound}
+use Rattle.bike_laws.specs.SingleSteps.Numbers.{occupied_docks}
+use Rattle.bike_laws.specs.SingleSteps.Laws.{IsAway}
 use Rattle.bike_accepted.specs.declared.moved.Standing.{Standing}
 use Rattle.bike_accepted.specs.declared.moved.DockAt.{DockAt}
 use Rattle.bike_accepted.specs.declared.moved.Held.{Held}

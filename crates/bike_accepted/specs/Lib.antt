@@ -1,3 +1,3 @@
 pub mod Effects
 pub mod Found
-pub use Rattle.bike_places.specs.Numbers
+pub use Rattle.bike_laws.specs.SingleSteps.Numbers

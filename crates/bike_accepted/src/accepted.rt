@@ -1,12 +1,12 @@
 //! What is answered and made of an accepted command.
 
 ghost use Rattle.std.specs.Prelude.{◌≡◌, Some, None};
-ghost use Rattle.bike_places.specs.Reply.TheVariants.{Done};
+ghost use Rattle.bike_operator.specs.Reply.TheVariants.{Done};
 
 use crate::change::Change;
 use crate::moved::Moved;
 use bike_fixed::Cents;
-use bike_places::{Entry, Refusal, Reply};
+use bike_operator::{Entry, Refusal, Reply};
 
 /// An entry that is booked, with the numbers after it.
 #[derive(Clone, Copy)]

@@ -1,7 +1,7 @@
 //! Records that are put, added or removed, but for those of bicycles that are there and of docks.
 
 use bike_fixed::{Cents, Moment};
-use bike_places::{
+use bike_operator::{
     Ident, Language, Name, NameKind, OrderEnd, Plan, Position, Region, Settings, Station, System,
     VehicleType,
 };

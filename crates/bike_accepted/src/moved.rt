@@ -1,6 +1,6 @@
 //! What is put or marked at a dock, and docks that a station gets.
 
-use bike_places::{BikeState, DockCount, Ident, NewPlace};
+use bike_operator::{BikeState, DockCount, Ident, NewPlace};
 
 /// What a bicycle is good for and where it is: what of its record changes.
 #[derive(Clone, Copy)]

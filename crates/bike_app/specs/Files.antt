@@ -17,8 +17,8 @@ use Rattle.sqlite.specs.Files.{over_files, file_state, HoldsDatabase, IsClosed, 
 use Rattle.sqlite_trees.specs.Tree.{Trees}
 use Rattle.bike_operator.specs.Operator.{Operator}
 use Rattle.bike_schema.specs.Stands.{AllLeft}
-use Rattle.bike_earlier.specs.declared.earlier.Earlier.{Earlier}
-use Rattle.bike_earlier.specs.Stores.{TreesStandForAt}
+use Rattle.bike_recognition.specs.declared.earlier_versions.earlier.Earlier.{Earlier}
+use Rattle.bike_recognition.specs.EarlierVersions.Stores.{TreesStandForAt}
 use Rattle.bike_console.specs.Raising.{TreesStandSince}
 use Rattle.bike_recognition.specs.Added.{has_added_unique}
 use Rattle.bike_command_line.specs.declared.task.FileTask.{FileTask}

@@ -7,8 +7,8 @@ use Rattle.sqlite.specs.State.{HasCleanDisk}
 use Rattle.bike_operator.specs.Operator.{Operator}
 use Rattle.bike_schema.specs.Stands.{AllLeft}
 use Rattle.bike_stream.specs.Writing.{AppendsFront}
-use Rattle.bike_earlier.specs.declared.earlier.Earlier.{Earlier}
-use Rattle.bike_earlier.specs.Stores.{StandsForAt, TreesStandForAt}
+use Rattle.bike_recognition.specs.declared.earlier_versions.earlier.Earlier.{Earlier}
+use Rattle.bike_recognition.specs.EarlierVersions.Stores.{StandsForAt, TreesStandForAt}
 use Rattle.bike_console.specs.Raising.{handed, Holds, IsToldOf, IsWant, TreesStandSince}
 use Rattle.bike_console.specs.RaiseFault.{RaiseFault}
 use Rattle.bike_console.specs.declared.end.Fault.{Fault}

@@ -9,13 +9,12 @@ use bike_catalogue_rules::{
     judge_kept, judge_meta, judge_names, judge_plans, judge_regions, judge_segments, judge_system,
     judge_types,
 };
-use bike_count_rules::judge_counts;
 use bike_fleet_rules::{judge_bikes, judge_orders, judge_trucks};
 use bike_judges::BadKey;
 use bike_ledger_rules::{judge_entries, judge_rentals, judge_riders};
 use bike_recognition::TableName;
 use bike_schema::StatementFault;
-use bike_station_rules::{judge_docks, judge_stations};
+use bike_station_rules::{judge_counts, judge_docks, judge_stations};
 use sqlite::{Alter, Connection};
 use std::alloc::Global;
 

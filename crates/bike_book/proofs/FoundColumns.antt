@@ -15,9 +15,9 @@ use Rattle.sqlite_value.specs.Order.{Row, column, row_cmp, value_cmp}
 use Rattle.sqlite_value.proofs.OrderLemmas.{value_cmp-Text, value_cmp-Null, then-Equal}
 use Rattle.sqlite_rules.specs.Lists.{Has}
 use Rattle.bike_rows.specs.View.{rows_where}
-use Rattle.bike_attributes.specs.NameKinds.{kind_text}
-use Rattle.bike_attributes.specs.declared.name_kind.NameKind.{NameKind}
-use Rattle.bike_attributes.specs.Values.{SegmentRow}
+use Rattle.bike_fields.specs.NameKinds.{kind_text}
+use Rattle.bike_fields.specs.declared.name_kind.NameKind.{NameKind}
+use Rattle.bike_fields.specs.Values.{SegmentRow}
 use Rattle.bike_operator.specs.Rows.{PlanRow}
 use Rattle.bike_ledger.specs.Entries.{Entry}
 use Rattle.bike_operator.specs.declared.records.Place.{Place}

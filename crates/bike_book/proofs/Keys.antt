@@ -9,8 +9,8 @@ use Rattle.std.proofs.lemmas.Int.{ints}
 use Rattle.sqlite_value.specs.declared.value.Value.TheVariants.{Text}
 use Rattle.sqlite_value.specs.Order.{Row, row_cmp, value_cmp}
 use Rattle.sqlite_value.proofs.OrderLemmas.{value_cmp-Int, value_cmp-Text, then-Equal}
-use Rattle.bike_attributes.specs.NameKinds.{kind_text}
-use Rattle.bike_attributes.specs.declared.name_kind.NameKind.{NameKind}
+use Rattle.bike_fields.specs.NameKinds.{kind_text}
+use Rattle.bike_fields.specs.declared.name_kind.NameKind.{NameKind}
 use Rattle.bike_operator.specs.Operator.{Key, NameKey, DockKey, key_of, name_key, dock_key, text_cmp, texts_cmp}
 use Rattle.bike_accepted.proofs.MapLemmas.{number_order, text_order, texts_order}
 use Rattle.bike_book.specs.Rows.{number_value, first_text, second_text, third_text, second_number}

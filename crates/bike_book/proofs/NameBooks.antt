@@ -11,8 +11,8 @@ use Rattle.sqlite_value.specs.declared.value.Value.TheVariants.{Int, Text}
 use Rattle.sqlite_rules.specs.Lists.{Has}
 use Rattle.bike_rows.specs.View.{row_with, rows_after_update, with_values}
 use Rattle.bike_rows.proofs.SetLaw.{updated_there}
-use Rattle.bike_attributes.specs.declared.name_kind.NameKind.TheVariants as named
-use Rattle.bike_attributes.specs.Values.{SegmentRow}
+use Rattle.bike_fields.specs.declared.name_kind.NameKind.TheVariants as named
+use Rattle.bike_fields.specs.Values.{SegmentRow}
 use Rattle.bike_operator.specs.Rows.{PlanRow, TypeRow, RegionRow, SystemRow}
 use Rattle.bike_operator.specs.Operator.{Station, text_cmp, name_key}
 use Rattle.bike_operator.specs.Steps.{found_changed, key_changed, system_named}

@@ -2,8 +2,8 @@
 use Rattle.std.specs.Prelude.{◌≡◌, ◌+◌, ℕ, suc, ℤ, pos, length, List, [], ◌∷◌, Bool, true, Option, None}
 use Rattle.std.specs.Borrow.{Bor}
 use Rattle.std.specs.FinMap as fin
-use Rattle.bike_attributes.specs.declared.name_kind.NameKind.{NameKind}
-use Rattle.bike_attributes.specs.Values.{SegmentRow, PositionRow}
+use Rattle.bike_fields.specs.declared.name_kind.NameKind.{NameKind}
+use Rattle.bike_fields.specs.Values.{SegmentRow, PositionRow}
 use Rattle.bike_operator.specs.Rows.{PlanRow, TypeRow, RegionRow, StationRow, SettingsRow, SystemRow}
 use Rattle.bike_ledger.specs.Ledger.{balance_of, refunded_of}
 use Rattle.bike_operator.specs.OrderEnd.{OrderEnd}

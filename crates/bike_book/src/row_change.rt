@@ -1,7 +1,7 @@
 //! Changes of one row each. Their numbers and texts are those of an operator's records.
 
 use bike_accepted::Change;
-use bike_attributes::Segment;
+use bike_fields::Segment;
 use bike_ledger::{Cents, Entry, Moment};
 use bike_operator::{BikeState, Ident, NewPlace};
 

@@ -16,17 +16,17 @@ use Rattle.bike_operator.specs.declared.records.Bike.{Bike}
 use Rattle.bike_operator.specs.declared.records.Order.{Order}
 use Rattle.bike_operator.specs.declared.records.Rental.{Rental}
 use Rattle.bike_catalogue.specs.Rows.{more_docks}
-use Rattle.bike_attributes.specs.declared.name_kind.NameKind.{NameKind}
-use Rattle.bike_attributes.specs.declared.name_kind.NameKind.TheVariants as named
+use Rattle.bike_fields.specs.declared.name_kind.NameKind.{NameKind}
+use Rattle.bike_fields.specs.declared.name_kind.NameKind.TheVariants as named
 use Rattle.bike_operator.specs.Operator.{Operator, Station, Rider, Kept, texts_cmp}
 use Rattle.bike_operator.specs.Changes.{entry_added}
 use Rattle.bike_operator.specs.Steps.{key_changed, own_name_set, with_report, dock_marked}
 use Rattle.bike_operator.specs.Runs.{key_in, after_acceptance}
 use Rattle.bike_operator.specs.Sound.{IsSound}
-use Rattle.bike_places.proofs.ItemLemmas.{length-number_changed}
-use Rattle.bike_places.proofs.MapLemmas.{text_order, known_changed}
-use Rattle.bike_places.proofs.Moment.{reports}
-use Rattle.bike_places.proofs.NameLemmas.{KeepsNamed, same_named, names_kept}
+use Rattle.bike_laws.proofs.SingleSteps.ItemLemmas.{length-number_changed}
+use Rattle.bike_laws.proofs.SingleSteps.MapLemmas.{text_order, known_changed}
+use Rattle.bike_laws.proofs.SingleSteps.Moment.{reports}
+use Rattle.bike_laws.proofs.SingleSteps.NameLemmas.{KeepsNamed, same_named, names_kept}
 use Rattle.bike_laws.proofs.EntryLemmas.{amounts_of}
 use Rattle.bike_book.specs.declared.row_change.RowChange.TheVariants as row
 use Rattle.bike_book.specs.Stored.{Listed, IsListing}
@@ -37,7 +37,7 @@ use Rattle.bike_book.specs.Rows.{entry_row}
 use Rattle.bike_book.specs.CloseLaws.{after_close, AreKept, AreTextsOf, AreNumbersWith}
 use Rattle.bike_book.proofs.CloseBooks.{close_quiet, close_entry, close_refund}
 use Rattle.bike_book.proofs.SoundNumbers.{no_refunds, no_balance}
-use Rattle.bike_moves.proofs.Ends.{sound_ends}
+use Rattle.bike_booking.proofs.Ends.{sound_ends}
 use Rattle.bike_accepted.specs.declared.moved.Moved.{Moved}
 use Rattle.bike_accepted.specs.declared.moved.Moved.TheVariants as moved
 use Rattle.bike_accepted.specs.declared.change.Change.{Change}

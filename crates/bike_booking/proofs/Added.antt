@@ -1,7 +1,7 @@
 -- Row changes that are added, by what they write.
 use Rattle.std.proofs.Common.{◌≡◌, ℕ, ℤ, suc, ◌+◌, List, [], ◌∷◌, ◌++◌, append_assoc, append-nil, length, Option, Some, None, refl, sym, ap, ◌∙◌, subst, subst₂, arith}
 use Rattle.std.specs.Borrow.{Bor}
-use Rattle.bike_attributes.specs.Values.{SegmentRow}
+use Rattle.bike_fields.specs.Values.{SegmentRow}
 use Rattle.bike_catalogue.specs.Rows.{PlanRow}
 use Rattle.bike_ledger.specs.Entries.{Entry}
 use Rattle.bike_book.specs.declared.row_change.RowChange.{RowChange}

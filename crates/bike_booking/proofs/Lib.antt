@@ -4,3 +4,15 @@ pub mod MovedBooks
 pub mod ChangedBooks
 pub mod Accepted
 pub mod May
+pub mod TotalsRows
+pub mod Listed
+pub mod ReportBooks
+pub mod AddedDocks
+pub mod NumbersMove
+pub mod BikeMoves
+pub mod BikeBooks
+pub mod DockMarks
+pub mod MarkBooks
+pub mod Ends
+pub mod PutBooks
+pub mod MarkedBooks

@@ -8,20 +8,20 @@ use Rattle.bike_operator.specs.Operator.{Operator, Station, dock_key, key_of}
 use Rattle.bike_operator.specs.Counts.{is_dock}
 use Rattle.bike_operator.specs.Changes.{place_of}
 use Rattle.bike_operator.specs.Sound.{AreBikesSound, IsCatalogueSound}
-use Rattle.bike_places.proofs.MapLemmas.{number_order}
-use Rattle.bike_places.proofs.CountLemmas.{found_by}
+use Rattle.bike_laws.proofs.SingleSteps.MapLemmas.{number_order}
+use Rattle.bike_laws.proofs.SingleSteps.CountLemmas.{found_by}
 use Rattle.bike_book.specs.declared.row_change.RowChange.{RowChange}
 use Rattle.bike_book.specs.declared.row_change.RowChange.TheVariants as row
 use Rattle.bike_book.specs.Stored.{Listed, IsListing}
 use Rattle.bike_book.specs.Between.{Books}
-use Rattle.bike_moves.specs.Facts.{BikeTotals, HasDockTotals, HasBikeTotals}
-use Rattle.bike_moves.specs.AddedOrSet.{count_change, dock_change, with_count, with_dock}
-use Rattle.bike_moves.specs.Put.{IsDockAt, IsPutAtDock, adds_put, adds_marked, docks_by, bikes_by, docks_marked_empty, docks_marked_held}
-use Rattle.bike_moves.specs.PutLaws.{docks_reported}
-use Rattle.bike_moves.proofs.Ends.{left_is}
-use Rattle.bike_moves.proofs.PutBooks.{put_away, put_at_dock}
-use Rattle.bike_moves.proofs.AddedDocks.{add_docks}
-use Rattle.bike_moves.proofs.MarkedBooks.{marked_empty, marked_held}
+use Rattle.bike_booking.specs.Facts.{BikeTotals, HasDockTotals, HasBikeTotals}
+use Rattle.bike_booking.specs.AddedOrSet.{count_change, dock_change, with_count, with_dock}
+use Rattle.bike_booking.specs.Put.{IsDockAt, IsPutAtDock, adds_put, adds_marked, docks_by, bikes_by, docks_marked_empty, docks_marked_held}
+use Rattle.bike_booking.specs.PutLaws.{docks_reported}
+use Rattle.bike_booking.proofs.Ends.{left_is}
+use Rattle.bike_booking.proofs.PutBooks.{put_away, put_at_dock}
+use Rattle.bike_booking.proofs.AddedDocks.{add_docks}
+use Rattle.bike_booking.proofs.MarkedBooks.{marked_empty, marked_held}
 use Rattle.bike_accepted.specs.declared.moved.DockAt.{DockAt}
 use Rattle.bike_accepted.specs.declared.moved.Moved.{Moved}
 use Rattle.bike_accepted.specs.declared.moved.Moved.TheVariants as moved

@@ -4,3 +4,8 @@ pub mod Room
 pub mod Stored
 pub mod Writes
 pub mod Booking
+pub mod Facts
+pub mod AddedOrSet
+pub mod Ends
+pub mod Put
+pub mod PutLaws

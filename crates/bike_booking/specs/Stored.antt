@@ -3,9 +3,9 @@ use Rattle.std.specs.Prelude.{◌≡◌, ℕ, List, Option, Some, None, is_some,
 use Rattle.std.specs.FinMap as map
 use Rattle.bike_operator.specs.Operator.{Operator, Station, dock_key, key_of}
 use Rattle.bike_operator.specs.Counts.{available_of, docks_available, docks_broken}
-use Rattle.bike_places.specs.Numbers.{disabled_of}
+use Rattle.bike_laws.specs.SingleSteps.Numbers.{disabled_of}
 use Rattle.bike_book.specs.Stored.{Listed}
-use Rattle.bike_moves.specs.Facts.{DockTotals, BikeTotals}
+use Rattle.bike_booking.specs.Facts.{DockTotals, BikeTotals}
 use Rattle.bike_accepted.specs.declared.moved.DockAt.{DockAt}
 use Rattle.bike_accepted.specs.declared.moved.Held.{Held}
 use Rattle.bike_accepted.specs.declared.moved.Moved.{Moved}

@@ -7,9 +7,9 @@ use Rattle.bike_book.specs.Tables.{Entries}
 use Rattle.bike_book.specs.Rows.{entry_row}
 use Rattle.bike_book.specs.Writes.{RowWrite, Add, write_of, writes_of}
 use Rattle.bike_book.specs.ChangeLaws.{change_writes}
-use Rattle.bike_moves.specs.Facts.{BikeTotals}
-use Rattle.bike_moves.specs.Put.{adds_put, adds_marked, docks_by, bikes_by, docks_marked_empty, docks_marked_held}
-use Rattle.bike_moves.specs.PutLaws.{docks_reported}
+use Rattle.bike_booking.specs.Facts.{BikeTotals}
+use Rattle.bike_booking.specs.Put.{adds_put, adds_marked, docks_by, bikes_by, docks_marked_empty, docks_marked_held}
+use Rattle.bike_booking.specs.PutLaws.{docks_reported}
 use Rattle.bike_accepted.specs.declared.moved.DockAt.{DockAt}
 use Rattle.bike_accepted.specs.declared.moved.Moved.{Moved}
 use Rattle.bike_accepted.specs.declared.moved.Moved.TheVariants as moved

@@ -4,6 +4,7 @@
 
 mod figures;
 mod laws;
+mod moves;
 mod rows;
 mod shares;
 mod stored;
@@ -11,6 +12,7 @@ mod texts;
 
 pub use figures::Figures;
 pub use laws::books_accepted;
+pub use moves::{books_added_docks, books_marked, books_put, books_request};
 pub use rows::{MOST_ROW_CHANGES, Rows, rows_of};
 pub use stored::{Stored, StoredCounts, StoredDock, Sums};
 pub use texts::KeptTexts;

@@ -4,7 +4,7 @@ ghost use Rattle.std.specs.Prelude.{◌≡◌, ◌+◌, ◌++◌, ◌≤◌, len
 ghost use Rattle.bike_book.specs.declared.row_change.RowChange.TheVariants as row;
 ghost use Rattle.bike_book.specs.ChangeLaws.{segment_writes, change_writes};
 ghost use Rattle.bike_book.specs.Writes.{writes_of};
-ghost use Rattle.bike_moves.specs.Put.{bikes_by};
+ghost use Rattle.bike_booking.specs.Put.{bikes_by};
 ghost use Rattle.bike_accepted.specs.declared.moved.Moved.TheVariants as moved;
 ghost use Rattle.bike_booking.specs.Room.{HasRoom, TakesRows};
 ghost use Rattle.bike_booking.specs.Stored.{counts_in};
@@ -16,9 +16,8 @@ use crate::stored::{Stored, StoredCounts, StoredDock, Sums};
 use crate::texts::KeptTexts;
 use arrayvec::ArrayVec;
 use bike_accepted::{Accepted, Booked, Change, DockAt, Held, Moved, Standing};
-use bike_attributes::Segment;
 use bike_book::RowChange;
-use bike_fields::{DockCount, Ident};
+use bike_fields::{DockCount, Ident, Segment};
 use bike_fixed::Moment;
 
 /// A request makes at most this many row changes: 3 of what is put or marked, a record and 8 segments of a plan, 3 of

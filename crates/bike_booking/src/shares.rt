@@ -3,8 +3,8 @@
 ghost use Rattle.std.specs.Prelude.{◌≡◌, ◌≤◌, ◌&&◌, not};
 ghost use Rattle.bike_operator.specs.Changes.{place_of};
 ghost use Rattle.bike_operator.specs.Counts.{is_fit};
-ghost use Rattle.bike_places.specs.Laws.{one, dock_shares, place_shares};
-ghost use Rattle.bike_moves.specs.Put.{moved_by};
+ghost use Rattle.bike_laws.specs.SingleSteps.Laws.{one, dock_shares, place_shares};
+ghost use Rattle.bike_booking.specs.Put.{moved_by};
 
 use bike_accepted::Standing;
 use bike_fields::MOST_DOCKS;
@@ -22,7 +22,7 @@ pub(crate) struct BikeShares {
 
 impl Model for BikeShares {
     ghost use Rattle.std.specs.Prelude.{◌≤◌};
-    ghost use Rattle.bike_places.specs.Laws.{Shares};
+    ghost use Rattle.bike_laws.specs.SingleSteps.Laws.{Shares};
 
     ghost Value = { Shares };
 

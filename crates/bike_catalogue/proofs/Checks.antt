@@ -7,7 +7,7 @@ use Rattle.bike_fields.specs.declared.fault.FieldFault.{FieldFault}
 use Rattle.bike_fields.specs.declared.fault.FieldFault.TheVariants.{Broken}
 use Rattle.bike_fields.specs.Fault.{Tests}
 use Rattle.bike_catalogue.specs.Rows.{SystemRow}
-use Rattle.bike_attributes.specs.Faults.{value_or_fault, or_else}
+use Rattle.bike_fields.specs.Faults.{value_or_fault, or_else}
 
 pub checked_ok : {X : Type 0} (x value : X) (fault : Option (Field × Bound)) → Ok x ≡ value_or_fault value fault → (x ≡ value) × (fault ≡ None)
 checked_ok x value None e = (cc, refl)

@@ -6,13 +6,13 @@ use Rattle.bike_fields.specs.declared.fault.Bound.TheVariants.{Length}
 use Rattle.bike_fields.specs.declared.fault.Field.{Field}
 use Rattle.bike_fields.specs.declared.fault.Field.TheVariants.{SystemId, Language, Name, OpeningHours, FeedContactEmail, Timezone, Currency, BaseUrl, Ttl, Plan, Price, Description, Segments, TypeId, MaxRange, Station, Lat, Lon, Docks, Region}
 use Rattle.bike_fields.specs.declared.fault.FieldFault.{FieldFault}
-use Rattle.bike_attributes.specs.declared.vehicle.Propulsion.{Propulsion}
-use Rattle.bike_attributes.specs.declared.vehicle.Propulsion.TheVariants.{Human, ElectricAssist}
+use Rattle.bike_fields.specs.declared.vehicle.Propulsion.{Propulsion}
+use Rattle.bike_fields.specs.declared.vehicle.Propulsion.TheVariants.{Human, ElectricAssist}
 use Rattle.bike_fields.specs.declared.numbers.TheConstants.{MOST_DOCKS, GREATEST_PRICE, GREATEST_RANGE, LONGEST_TIME_TO_LIVE}
-use Rattle.bike_attributes.specs.declared.limits.TheConstants.{MOST_SEGMENTS, GREATEST_LATITUDE}
+use Rattle.bike_fields.specs.declared.limits.TheConstants.{MOST_SEGMENTS, GREATEST_LATITUDE}
 use Rattle.bike_fields.specs.Fault.{Makes, ident_fault, name_fault, ascii_fault, language_fault, currency_fault}
-use Rattle.bike_attributes.specs.Values.{SegmentRow}
-use Rattle.bike_attributes.specs.Faults.{first_fault, range_fault, signed_fault}
+use Rattle.bike_fields.specs.Values.{SegmentRow}
+use Rattle.bike_fields.specs.Faults.{first_fault, range_fault, signed_fault}
 use Rattle.bike_catalogue.specs.Rows.{PlanRow, TypeRow, StationRow, RegionRow, SystemRow}
 
 abbrev pub segments_fault : List SegmentRow → Option Bound

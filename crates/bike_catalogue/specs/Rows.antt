@@ -1,11 +1,11 @@
 -- The records of the catalogue, as contracts see them.
 use Rattle.std.specs.Prelude.{◌≡◌, ℕ, ℤ, ◌+◌, ◌≤◌, List, length, Bool, true, Option, None, Some, nat_le, if◌then◌else◌}
 use Rattle.bike_fixed.specs.Coordinate.{IsMicro}
-use Rattle.bike_attributes.specs.declared.vehicle.Form.{Form}
-use Rattle.bike_attributes.specs.declared.vehicle.Propulsion.{Propulsion}
+use Rattle.bike_fields.specs.declared.vehicle.Form.{Form}
+use Rattle.bike_fields.specs.declared.vehicle.Propulsion.{Propulsion}
 use Rattle.bike_fields.specs.declared.numbers.TheConstants.{MOST_DOCKS, GREATEST_PRICE, LONGEST_TIME_TO_LIVE}
-use Rattle.bike_attributes.specs.declared.limits.TheConstants.{MOST_SEGMENTS}
-use Rattle.bike_attributes.specs.Values.{SegmentRow, PositionRow, IsRange, is_range, IsLatitude, is_latitude}
+use Rattle.bike_fields.specs.declared.limits.TheConstants.{MOST_SEGMENTS}
+use Rattle.bike_fields.specs.Values.{SegmentRow, PositionRow, IsRange, is_range, IsLatitude, is_latitude}
 use Rattle.bike_fields.specs.Bytes.{is_ident, is_name, is_ascii_field, is_language, is_currency}
 
 pub record PlanRow : Type 0 where

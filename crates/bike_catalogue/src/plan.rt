@@ -2,12 +2,11 @@
 
 ghost use Rattle.std.specs.Prelude.{◌≡◌, ◌≤◌, length, IfOk};
 ghost use Rattle.bike_fields.specs.Fault.{Tests};
-ghost use Rattle.bike_attributes.specs.declared.limits.TheConstants.{MOST_SEGMENTS};
+ghost use Rattle.bike_fields.specs.declared.limits.TheConstants.{MOST_SEGMENTS};
 ghost use Rattle.bike_catalogue.specs.RowFaults.{MakesPlan, plan_fault};
 ghost use Rattle.bike_catalogue.specs.Rows.{IsPlan, plan_of_fields, plan_within};
 
-use bike_attributes::{MOST_SEGMENTS, Segment, in_range};
-use bike_fields::{Bound, Field, FieldFault, Ident, Name, Price};
+use bike_fields::{Bound, Field, FieldFault, Ident, MOST_SEGMENTS, Name, Price, Segment, in_range};
 use std::alloc::{AllocError, Global};
 use std::marker::Model;
 
@@ -25,7 +24,7 @@ pub struct Plan {
 
 impl Model for Plan {
     ghost use Rattle.std.specs.Prelude.{◌≤◌, length};
-    ghost use Rattle.bike_attributes.specs.declared.limits.TheConstants.{MOST_SEGMENTS};
+    ghost use Rattle.bike_fields.specs.declared.limits.TheConstants.{MOST_SEGMENTS};
     ghost use Rattle.bike_catalogue.specs.Rows.{PlanRow};
 
     ghost Value = { PlanRow };

@@ -2,12 +2,13 @@
 
 ghost use Rattle.std.specs.Prelude.{◌≡◌, IfOk, IfSome};
 ghost use Rattle.bike_fields.specs.Fault.{Tests};
-ghost use Rattle.bike_attributes.specs.Values.{IsLatitude};
+ghost use Rattle.bike_fields.specs.Values.{IsLatitude};
 ghost use Rattle.bike_catalogue.specs.RowFaults.{MakesStation, station_fault};
 ghost use Rattle.bike_catalogue.specs.Rows.{IsStation, station_of_fields, station_within};
 
-use bike_attributes::{GREATEST_LATITUDE, coordinate, in_range};
-use bike_fields::{DockCount, Field, FieldFault, Ident, Name};
+use bike_fields::{
+    DockCount, Field, FieldFault, GREATEST_LATITUDE, Ident, Name, coordinate, in_range,
+};
 use bike_fixed::{GREATEST_COORDINATE, Micro};
 use std::alloc::{AllocError, Global};
 use std::marker::Model;
@@ -23,7 +24,7 @@ pub struct Station {
 }
 
 impl Model for Station {
-    ghost use Rattle.bike_attributes.specs.Values.{IsLatitude};
+    ghost use Rattle.bike_fields.specs.Values.{IsLatitude};
     ghost use Rattle.bike_catalogue.specs.Rows.{StationRow};
 
     ghost Value = { StationRow };

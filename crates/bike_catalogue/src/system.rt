@@ -5,8 +5,9 @@ ghost use Rattle.bike_fields.specs.Bytes.{is_ident, is_name, is_ascii_field, is_
 ghost use Rattle.bike_catalogue.specs.RowFaults.{MakesSystem};
 ghost use Rattle.bike_catalogue.specs.Rows.{system_of_fields};
 
-use bike_attributes::in_range;
-use bike_fields::{Ascii, Currency, Field, FieldFault, Ident, Language, Name, TimeToLive};
+use bike_fields::{
+    Ascii, Currency, Field, FieldFault, Ident, Language, Name, TimeToLive, in_range,
+};
 use std::alloc::{AllocError, Global};
 use std::marker::Model;
 

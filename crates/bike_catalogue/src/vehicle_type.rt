@@ -2,13 +2,14 @@
 
 ghost use Rattle.std.specs.Prelude.{◌≡◌, IfOk};
 ghost use Rattle.bike_fields.specs.Fault.{Tests, at_field};
-ghost use Rattle.bike_attributes.specs.Faults.{value_or_fault};
+ghost use Rattle.bike_fields.specs.Faults.{value_or_fault};
 ghost use Rattle.bike_catalogue.specs.RowFaults.{MakesType, type_fault, max_range_fault};
-ghost use Rattle.bike_attributes.specs.Values.{IsRange, is_range};
+ghost use Rattle.bike_fields.specs.Values.{IsRange, is_range};
 ghost use Rattle.bike_catalogue.specs.Rows.{IsType, type_of_fields, type_within};
 
-use bike_attributes::{Form, Propulsion, in_range};
-use bike_fields::{Bound, Field, FieldFault, GREATEST_RANGE, Ident, MaxRange, Name};
+use bike_fields::{
+    Bound, Field, FieldFault, Form, GREATEST_RANGE, Ident, MaxRange, Name, Propulsion, in_range,
+};
 use std::alloc::{AllocError, Global};
 use std::marker::Model;
 
@@ -25,7 +26,7 @@ pub struct VehicleType {
 }
 
 impl Model for VehicleType {
-    ghost use Rattle.bike_attributes.specs.Values.{IsRange};
+    ghost use Rattle.bike_fields.specs.Values.{IsRange};
     ghost use Rattle.bike_catalogue.specs.Rows.{TypeRow};
 
     ghost Value = { TypeRow };

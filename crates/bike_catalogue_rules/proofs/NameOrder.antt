@@ -10,7 +10,7 @@ use Rattle.std.proofs.lemmas.Slice.Eq.{bytes_eq-Decides}
 use Rattle.sqlite_value.specs.Order.{Row}
 use Rattle.sqlite_value.proofs.OrderLemmas.{value_cmp-Text, then-Equal}
 use Rattle.bike_fields.proofs.Lengths.{both_hold}
-use Rattle.bike_attributes.specs.NameKinds.{kind_text}
+use Rattle.bike_fields.specs.NameKinds.{kind_text}
 use Rattle.bike_operator.specs.Operator.{text_cmp, name_key}
 use Rattle.bike_book.specs.Rows.{name_row}
 use Rattle.bike_book.proofs.Keys.{texts}

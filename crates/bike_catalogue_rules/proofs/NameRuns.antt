@@ -13,7 +13,7 @@ use Rattle.sqlite_rules.specs.Lists.{Has}
 use Rattle.bike_rows.specs.View.{by_key}
 use Rattle.bike_rows.proofs.OrderLemmas.{Rises, all_has}
 use Rattle.bike_rows.proofs.TreeLemmas.{by_key_total}
-use Rattle.bike_attributes.specs.NameKinds.{kind_text}
+use Rattle.bike_fields.specs.NameKinds.{kind_text}
 use Rattle.bike_catalogue.specs.Rows.{MoreNameRow}
 use Rattle.bike_operator.specs.Operator.{NameKey, text_cmp, name_key}
 use Rattle.bike_operator.specs.Names.{is_name_of, part_at}

@@ -10,7 +10,7 @@ use Rattle.sqlite_value.proofs.OrderLemmas.{value_cmp-Text, then-Equal}
 use Rattle.sqlite_rules.specs.Lists.{Has}
 use Rattle.bike_rows.specs.View.{by_key}
 use Rattle.bike_rows.proofs.OrderLemmas.{Rises, all_has}
-use Rattle.bike_attributes.specs.Values.{SegmentRow}
+use Rattle.bike_fields.specs.Values.{SegmentRow}
 use Rattle.bike_operator.specs.Operator.{text_cmp, item_at, item_numbered}
 use Rattle.bike_book.specs.Rows.{segment_row}
 use Rattle.bike_book.proofs.Keys.{texts, value_cmp-number_value}

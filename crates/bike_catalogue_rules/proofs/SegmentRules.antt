@@ -18,7 +18,7 @@ use Rattle.bike_fields.proofs.Lengths.{both_hold}
 use Rattle.bike_rows.specs.View.{by_key}
 use Rattle.bike_rows.proofs.OrderLemmas.{Rises, all_has}
 use Rattle.bike_rows.proofs.TreeLemmas.{by_key_total}
-use Rattle.bike_attributes.specs.Values.{SegmentRow}
+use Rattle.bike_fields.specs.Values.{SegmentRow}
 use Rattle.bike_catalogue.specs.Rows.{PlanRow}
 use Rattle.bike_operator.specs.Operator.{item_numbered}
 use Rattle.bike_book.specs.Rows.{segment_row}

@@ -7,10 +7,10 @@ use Rattle.bike_book.specs.declared.columns.types.TheConstants as types
 use Rattle.bike_book.specs.declared.columns.regions.TheConstants as regions
 use Rattle.bike_book.specs.declared.columns.stations.TheConstants as stations
 use Rattle.bike_book.specs.declared.columns.more_names.TheConstants as more_names
-use Rattle.bike_attributes.specs.NameKinds.{kind_text}
+use Rattle.bike_fields.specs.NameKinds.{kind_text}
 use Rattle.bike_catalogue.specs.Rows.{SystemRow, MoreNameRow}
-use Rattle.bike_attributes.specs.declared.name_kind.NameKind.{NameKind}
-use Rattle.bike_attributes.specs.declared.name_kind.NameKind.TheVariants as named
+use Rattle.bike_fields.specs.declared.name_kind.NameKind.{NameKind}
+use Rattle.bike_fields.specs.declared.name_kind.NameKind.TheVariants as named
 use Rattle.bike_operator.specs.declared.limits.TheConstants.{MOST_FURTHER_NAMES}
 use Rattle.bike_readings.specs.Readings.{system_read, plan_read, type_read, region_read, station_read, name_read}
 use Rattle.bike_judges.specs.Lines.{part}

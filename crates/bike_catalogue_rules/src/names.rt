@@ -14,9 +14,8 @@ ghost use Rattle.bike_catalogue_rules.specs.Names.{is_further, next_run, first_m
 ghost use Rattle.bike_catalogue_rules.specs.Names.{is_offer_there, has_place, has_offer};
 
 use crate::key::columns_key;
-use bike_attributes::NameKind;
 use bike_book::columns::{more_names, plans, regions, stations, types};
-use bike_fields::{Ident, Language};
+use bike_fields::{Ident, Language, NameKind};
 use bike_judges::{
     BadKey, Judge, LineFold, LineJudge, LineTest, Query, fold_lines, judge_lines, least,
 };

@@ -2,9 +2,9 @@
 use Rattle.std.specs.Prelude.{ℕ, List, [], ◌∷◌, ◌++◌, codes}
 use Rattle.bike_fixed.specs.declared.micro.TheConstants.{GREATEST_COORDINATE}
 use Rattle.bike_fields.specs.declared.numbers.TheConstants.{GREATEST_PRICE, LONGEST_TIME_TO_LIVE, MOST_CARRIED}
-use Rattle.bike_attributes.specs.declared.limits.TheConstants.{GREATEST_LATITUDE}
-use Rattle.bike_attributes.specs.Vehicle.{form_text, propulsion_text}
-use Rattle.bike_attributes.specs.NameKinds.{kind_text}
+use Rattle.bike_fields.specs.declared.limits.TheConstants.{GREATEST_LATITUDE}
+use Rattle.bike_fields.specs.Vehicle.{form_text, propulsion_text}
+use Rattle.bike_fields.specs.NameKinds.{kind_text}
 use Rattle.bike_texts.specs.Fields.{Field, Number, Fixed, Id, Language, Currency, Name, Ascii, Degrees, Metres, Segments, End, Choice, Flag, Numbered, Dock, DockOrDepot, Serial, Payment, IdOrNone, side_text, AreGood, IsSpelled, IsWritten, fields_text}
 use Rattle.bike_commands.specs.declared.command.Command.{Command}
 use Rattle.bike_commands.specs.declared.command.Command.TheVariants as command

@@ -5,8 +5,8 @@ pub mod ReplyReaders
 pub mod RequestFields
 pub mod Requests
 pub use Rattle.bike_catalogue.specs.Rows
-pub use Rattle.bike_attributes.specs.NameKinds
-pub use Rattle.bike_attributes.specs.declared.name_kind.NameKind
+pub use Rattle.bike_fields.specs.NameKinds
+pub use Rattle.bike_fields.specs.declared.name_kind.NameKind
 pub use Rattle.bike_fields.specs.declared.numbers
 pub use Rattle.bike_fields.specs.Bytes
 pub use Rattle.bike_fields.specs.Caller

@@ -1,10 +1,9 @@
 //! Commands: what a request asks the operator to do.
 
-use bike_attributes::{NameKind, Position};
 use bike_catalogue::{Plan, Region, Settings, Station, System, VehicleType};
 use bike_fields::{
-    BicycleNumber, DockCount, DockNumber, Ident, Language, Name, OrderNumber, OrderQuantity,
-    Payment, RentalNumber, RiderNumber, TruckCapacity, TruckNumber,
+    BicycleNumber, DockCount, DockNumber, Ident, Language, Name, NameKind, OrderNumber,
+    OrderQuantity, Payment, Position, RentalNumber, RiderNumber, TruckCapacity, TruckNumber,
 };
 use bike_texts::{OrderEnd, Side, UnloadDock};
 

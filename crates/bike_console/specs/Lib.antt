@@ -9,3 +9,4 @@ pub use Rattle.bike_migrate.specs.AdoptFault
 pub use Rattle.bike_migrate.specs.Raising
 pub use Rattle.bike_migrate.specs.declared.fault.RaiseFault
 pub use Rattle.bike_migrate.specs.declared.fault.RaiseCause
+pub mod Pages

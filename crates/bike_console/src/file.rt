@@ -13,10 +13,10 @@ ghost use Rattle.bike_console.specs.Files.{IsDamagedLog, IsLoneLog, IsLostLog, I
 ghost use Rattle.bike_console.specs.Files.{TellsUnopened, TellsWhy};
 
 use crate::end::Fault;
-use crate::log::would_lose_log;
+use crate::options::find_options;
 use crate::place::{NewLog, is_plain};
 use bike_recognition::has_added_unique;
-use sqlite::{Alter, Connection, FileFrom, FileStore, Files, Options, Start};
+use sqlite::{Alter, Connection, FileFrom, FileStore, Files, Start};
 use sqlite_disk::Disk;
 use sqlite_std_file::OpenError;
 use std::hash::{BuildHasher, RandomState};
@@ -74,12 +74,12 @@ pub(crate) fn open_over<D: Disk + Drop>(
     // Why not.
     ensures why { TellsUnopened (image_of D.Disk files) result }
 {
-    match would_lose_log(&mut files) {
-        Ok(false) => {}
-        Ok(true) => return Err(Fault::StoreFailed),
+    let options = match find_options(&mut files, seed) {
+        Ok(Some(options)) => options,
+        Ok(None) => return Err(Fault::StoreFailed),
         Err(fault) => return Err(fault),
-    }
-    match Connection::open_files_with(rt.alloc(), files, Options::new(seed), false) {
+    };
+    match Connection::open_files_with(rt.alloc(), files, options, false) {
         Ok(conn) => Ok(conn),
         Err((error, left)) => {
             // The files are still locked, so that nobody else has opened the log.

@@ -12,6 +12,7 @@ mod found;
 mod link;
 mod log;
 mod look;
+mod options;
 mod pieces;
 mod place;
 mod progress;

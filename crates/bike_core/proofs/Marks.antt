@@ -17,7 +17,7 @@ use Rattle.bike_accepted.specs.declared.moved.DockAt.{DockAt}
 use Rattle.bike_accepted.specs.declared.moved.Held.{Held}
 use Rattle.bike_accepted.specs.declared.moved.Moved.TheVariants as moved
 use Rattle.bike_accepted.specs.Found.{AreFound}
-use Rattle.bike_parts.specs.Moves.{IsShown, put_from, IsHeldShown}
+use Rattle.bike_core.specs.Moves.{IsShown, put_from, IsHeldShown}
 use Rattle.bike_core.proofs.Moves.{same_reach, put_found, dock_shown, held_found}
 
 pub dock_mark_found : (v : View) (station : Bor (List ℕ)) (dock : ℕ) (broken : Bool) (held : Option Held) (x : StationView) (s : Operator) (now : ℕ) → IsSound s

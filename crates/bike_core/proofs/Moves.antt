@@ -17,16 +17,16 @@ use Rattle.bike_operator.specs.View.{is_broken_dock, station_view, typed_bike, d
 use Rattle.bike_operator.specs.Steps.{place_reported}
 use Rattle.bike_operator.specs.Changes.{place_of}
 use Rattle.bike_operator.specs.Sound.{HasDock, IsPlace, AreBikesSound}
-use Rattle.bike_places.specs.Laws.{IsAway}
-use Rattle.bike_places.proofs.MapLemmas.{number_order}
-use Rattle.bike_places.proofs.CountLemmas.{found_by}
-use Rattle.bike_places.proofs.DockLaw.{dock_is}
+use Rattle.bike_laws.specs.SingleSteps.Laws.{IsAway}
+use Rattle.bike_laws.proofs.SingleSteps.MapLemmas.{number_order}
+use Rattle.bike_laws.proofs.SingleSteps.CountLemmas.{found_by}
+use Rattle.bike_laws.proofs.SingleSteps.DockLaw.{dock_is}
 use Rattle.bike_accepted.specs.declared.moved.Standing.{Standing}
 use Rattle.bike_accepted.specs.declared.moved.DockAt.{DockAt}
 use Rattle.bike_accepted.specs.declared.moved.Held.{Held}
 use Rattle.bike_accepted.specs.Effects.{bike_in, bike_put, after_moved}
 use Rattle.bike_accepted.specs.Found.{IsStationFound, IsNoOtherDock, held_bike, IsMovedFound}
-use Rattle.bike_parts.specs.Moves.{IsShown, put_from, IsHeldShown}
+use Rattle.bike_core.specs.Moves.{IsShown, put_from, IsHeldShown}
 use Rattle.bike_core.proofs.Views.{shown_bike, empty_dock}
 
 -- ---- a bicycle put from where it stands

@@ -23,8 +23,8 @@ use Rattle.bike_operator.specs.View.{view_of, station_view, truck_at, docked_vie
 use Rattle.bike_operator.specs.Steps.{first, tests, has_no_dock, ends_apart, order_changed, with_delivery, placed_at_end, after_unload}
 use Rattle.bike_operator.specs.Changes.{place_of}
 use Rattle.bike_operator.specs.Sound.{HasDock, IsOrderAt, IsSound}
-use Rattle.bike_places.specs.Laws.{IsAway}
-use Rattle.bike_places.proofs.TestLemmas.{NoneHolds, none_holds, none_of, on_row, both_hold, neither, dock_of}
+use Rattle.bike_laws.specs.SingleSteps.Laws.{IsAway}
+use Rattle.bike_laws.proofs.SingleSteps.TestLemmas.{NoneHolds, none_holds, none_of, on_row, both_hold, neither, dock_of}
 use Rattle.bike_accepted.specs.declared.moved.Standing.{Standing}
 use Rattle.bike_accepted.specs.declared.moved.DockAt.{DockAt}
 use Rattle.bike_accepted.specs.declared.moved.Moved.{Moved}
@@ -34,7 +34,7 @@ use Rattle.bike_accepted.specs.declared.change.Change.TheVariants as change
 use Rattle.bike_accepted.specs.declared.accepted.Accepted.{Accepted}
 use Rattle.bike_accepted.specs.Effects.{after_moved, where_changed, Decides}
 use Rattle.bike_accepted.specs.Found.{IsMovedFound, IsFound, AreFound}
-use Rattle.bike_parts.specs.Moves.{IsShown, put_from, IsPutAtEnd}
+use Rattle.bike_core.specs.Moves.{IsShown, put_from, IsPutAtEnd}
 use Rattle.bike_core.proofs.Moves.{after_put, away_reach, put_found, no_dock}
 use Rattle.bike_core.proofs.Views.{refused_as, shown_bike, empty_dock}
 

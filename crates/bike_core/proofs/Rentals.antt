@@ -29,9 +29,9 @@ use Rattle.bike_operator.specs.View.{view_of, docked_view, rental_of, rental_vie
 use Rattle.bike_operator.specs.Steps.{first, tests, fare_now, effect, reply_of, found_changed, key_changed, with_fare}
 use Rattle.bike_operator.specs.Changes.{place_of}
 use Rattle.bike_operator.specs.Sound.{IsSound, IsOut, IsOpenOrClosed}
-use Rattle.bike_places.specs.Laws.{IsAway}
-use Rattle.bike_places.proofs.FoundLemmas.{ridden_in, IsRentalRow, rental_row}
-use Rattle.bike_places.proofs.TestLemmas.{NoneHolds, none_holds, none_of, same_some, on_row, holds, dock_of}
+use Rattle.bike_laws.specs.SingleSteps.Laws.{IsAway}
+use Rattle.bike_laws.proofs.SingleSteps.FoundLemmas.{ridden_in, IsRentalRow, rental_row}
+use Rattle.bike_laws.proofs.SingleSteps.TestLemmas.{NoneHolds, none_holds, none_of, same_some, on_row, holds, dock_of}
 use Rattle.bike_accepted.specs.declared.moved.Standing.{Standing}
 use Rattle.bike_accepted.specs.declared.moved.Moved.{Moved}
 use Rattle.bike_accepted.specs.declared.moved.Moved.TheVariants as moved
@@ -40,7 +40,7 @@ use Rattle.bike_accepted.specs.declared.accepted.Booked.{Booked}
 use Rattle.bike_accepted.specs.declared.accepted.Accepted.{Accepted}
 use Rattle.bike_accepted.specs.Effects.{bike_in, effect_of, Decides}
 use Rattle.bike_accepted.specs.Found.{IsMovedFound, IsNoOtherDock, IsAtDockFound, IsBookedFound, AreFound}
-use Rattle.bike_parts.specs.Moves.{IsShown, IsRecovered}
+use Rattle.bike_core.specs.Moves.{IsShown, IsRecovered}
 use Rattle.bike_core.proofs.Moves.{IsDockedRow, docked_row}
 use Rattle.bike_core.proofs.Views.{refused_as, shown_bike, empty_dock, balance_after_entry, rental_balance, bike_balance, rental_refunds, rider_balance}
 

@@ -9,9 +9,9 @@ use Rattle.bike_operator.specs.declared.records.Bike.{Bike}
 use Rattle.bike_operator.specs.Operator.{Operator, Station, dock_key}
 use Rattle.bike_operator.specs.Counts.{count, is_broken, is_working_dock, docks_up_to, docks_broken}
 use Rattle.bike_operator.specs.Sound.{HasDock, IsSound, IsPlace}
-use Rattle.bike_places.specs.Numbers.{occupied_docks}
-use Rattle.bike_places.proofs.MapLemmas.{number_order}
-use Rattle.bike_places.proofs.CountLemmas.{none_counted}
+use Rattle.bike_laws.specs.SingleSteps.Numbers.{occupied_docks}
+use Rattle.bike_laws.proofs.SingleSteps.MapLemmas.{number_order}
+use Rattle.bike_laws.proofs.SingleSteps.CountLemmas.{none_counted}
 
 none_filtered : {A : Type 0} (test : A → Bool) (xs : List A) → ((x : A) → test x ≡ false) → count test xs ≡ 0
 none_filtered test [] fails = refl

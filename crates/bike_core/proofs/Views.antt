@@ -26,13 +26,13 @@ use Rattle.bike_operator.specs.View.{view_of, rider_view, typed_bike, docked_vie
 use Rattle.bike_operator.specs.Steps.{first, tests, refusal_of}
 use Rattle.bike_operator.specs.Changes.{text_in}
 use Rattle.bike_operator.specs.Sound.{AreBikesSound}
-use Rattle.bike_places.proofs.MapLemmas.{number_order}
-use Rattle.bike_places.proofs.CountLemmas.{found_by}
+use Rattle.bike_laws.proofs.SingleSteps.MapLemmas.{number_order}
+use Rattle.bike_laws.proofs.SingleSteps.CountLemmas.{found_by}
 use Rattle.bike_accepted.specs.declared.moved.Standing.{Standing}
 use Rattle.bike_accepted.specs.declared.accepted.Accepted.{Accepted}
 use Rattle.bike_accepted.specs.Effects.{bike_in}
 use Rattle.bike_accepted.specs.Found.{FindsAt, FindsOn}
-use Rattle.bike_parts.specs.Moves.{IsShown}
+use Rattle.bike_core.specs.Moves.{IsShown}
 
 -- the first test that holds over the view is the operator's refusal
 pub refused_as : (s : Operator) (v : View) (c : Command) (o : Option Refusal) → v ≡ view_of s c → o ≡ first (tests v c) → refusal_of s c ≡ o

@@ -5,11 +5,11 @@ ghost use Rattle.bike_commands.specs.declared.command.Command.TheVariants as com
 ghost use Rattle.bike_accepted.specs.Effects.{DecidesOn};
 ghost use Rattle.bike_accepted.specs.Found.{FindsOn};
 
+use crate::{is_depot, is_retired, put_from, standing_of};
 use bike_accepted::{Accepted, Change, Decision, Moved, Standing};
 use bike_commands::Refusal;
 use bike_fields::{BicycleNumber, Ident};
 use bike_operator::{BikeState, View};
-use bike_parts::{is_depot, is_retired, put_from, standing_of};
 
 /// Decides on a new bicycle.
 pub(crate) fn decide_add_bike<'a>(

@@ -5,14 +5,13 @@ ghost use Rattle.bike_commands.specs.declared.command.Command.TheVariants as com
 ghost use Rattle.bike_accepted.specs.Effects.{DecidesAt, DecidesOn};
 ghost use Rattle.bike_accepted.specs.Found.{FindsAt, FindsOn};
 
+use crate::held_in;
 use bike_accepted::{Accepted, Change, Decision, DockAt, Moved};
-use bike_attributes::Position;
 use bike_catalogue::{Plan, Settings, Station, System, VehicleType};
 use bike_commands::Refusal;
-use bike_fields::{DockCount, DockNumber, Ident, MOST_DOCKS};
+use bike_fields::{DockCount, DockNumber, Ident, MOST_DOCKS, Position};
 use bike_fixed::Moment;
 use bike_operator::View;
-use bike_parts::held_in;
 
 /// Decides on setting the system: it is set once.
 pub(crate) fn decide_set_system<'a>(view: &View, system: &'a System) -> Decision<'a>

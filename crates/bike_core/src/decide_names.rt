@@ -9,9 +9,8 @@ ghost use Rattle.bike_accepted.specs.Effects.{DecidesOn};
 ghost use Rattle.bike_accepted.specs.Found.{FindsOn};
 
 use bike_accepted::{Accepted, Change, Decision};
-use bike_attributes::NameKind;
 use bike_commands::Refusal;
-use bike_fields::{Ident, Language, Name};
+use bike_fields::{Ident, Language, Name, NameKind};
 use bike_operator::View;
 
 /// Why a name isn't taken where there is nothing of its kind.

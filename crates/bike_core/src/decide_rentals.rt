@@ -8,18 +8,18 @@ ghost use Rattle.bike_operator.specs.Counts.{is_open};
 ghost use Rattle.bike_operator.specs.Bounds.{IsRefundable, IsBounded};
 ghost use Rattle.bike_accepted.specs.Effects.{DecidesAt};
 ghost use Rattle.bike_accepted.specs.Found.{FindsAt};
-ghost use Rattle.bike_parts.specs.Moves.{IsRecovered};
+ghost use Rattle.bike_core.specs.Moves.{IsRecovered};
 
+use crate::{
+    balance_reply, booked, closing, ended_reply, fare_booked, is_fit, is_too_much, next_entry,
+    next_number, standing_of, sum_within,
+};
 use bike_accepted::{Accepted, Change, Decision, DockAt, Moved, Standing};
 use bike_commands::{Refusal, Reply};
 use bike_fields::{BicycleNumber, DockNumber, Ident, Payment, RentalNumber, RiderNumber};
 use bike_fixed::{Cents, Moment};
 use bike_ledger::Entry;
 use bike_operator::{Bike, BikeState, DockedBike, NewPlace, RentalView, View};
-use bike_parts::{
-    balance_reply, booked, closing, ended_reply, fare_booked, is_fit, is_too_much, next_entry,
-    next_number, standing_of, sum_within,
-};
 
 /// The bicycle that a rental takes from its dock, or the first refusal of a start.
 fn check_start(view: &View, dock: DockNumber) -> Result<&DockedBike, Refusal>

@@ -6,13 +6,13 @@ ghost use Rattle.bike_accepted.specs.Effects.{DecidesAt, DecidesOn};
 ghost use Rattle.bike_operator.specs.Bounds.{IsBounded};
 ghost use Rattle.bike_accepted.specs.Found.{FindsAt, FindsOn};
 
+use crate::{balance_reply, booked, next_entry};
 use bike_accepted::{Accepted, Change, Decision};
 use bike_commands::Refusal;
 use bike_fields::{Payment, RiderNumber};
 use bike_fixed::Moment;
 use bike_ledger::Entry;
 use bike_operator::View;
-use bike_parts::{balance_reply, booked, next_entry};
 
 /// Decides on a new rider.
 pub(crate) fn decide_add_rider<'a>(view: &View, rider: RiderNumber) -> Decision<'a>

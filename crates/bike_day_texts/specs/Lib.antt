@@ -1,4 +1,4 @@
 pub mod Tables
 pub mod Rows
-pub mod Lent
+pub mod Ended
 pub mod Writing

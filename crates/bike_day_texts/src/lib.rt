@@ -12,5 +12,5 @@ mod rows;
 mod table;
 
 pub use fault::LineFault;
-pub use rows::{EndedRental, write_ended, write_entry, write_header};
+pub use rows::{write_ended, write_entry, write_header};
 pub use table::DayTable;

@@ -1,42 +1,19 @@
 //! The header and the rows of a day's tables.
 
-ghost use Rattle.std.specs.Prelude.{◌≡◌, option_map};
+ghost use Rattle.std.specs.Prelude.{◌≡◌};
 ghost use Rattle.bike_day_texts.specs.Rows.{header_line, kind_name, stop_text, entry_line, ended_line};
-ghost use Rattle.bike_day_texts.specs.Lent.{ended_row};
+ghost use Rattle.bike_day_texts.specs.Ended.{info_row};
 ghost use Rattle.bike_day_texts.specs.Writing.{WritesLine};
 
 use crate::fault::LineFault;
 use crate::line::write_line;
 use crate::table::DayTable;
-use bike_fields::{BicycleNumber, Ident, RentalNumber, RiderNumber};
-use bike_fixed::{Cents, Moment};
+use bike_fields::{Ident, RentalNumber};
 use bike_ledger::{Entry, EntryKind};
+use bike_summaries::{ClosingInfo, RentalInfo};
 use itoa::Buffer;
 use std::alloc::Global;
 use std::io::Write;
-
-/// A rental that ended.
-#[derive(Clone, Copy, Debug)]
-pub struct EndedRental<'a> {
-    /// Its number.
-    pub number: RentalNumber,
-    /// Who rode.
-    pub rider: RiderNumber,
-    /// The bicycle.
-    pub bike: BicycleNumber,
-    /// The pricing plan.
-    pub plan: &'a Ident,
-    /// The station at which it began.
-    pub from_station: &'a Ident,
-    /// When it began.
-    pub start: Moment,
-    /// The station at which it ended; none where the bicycle was recovered.
-    pub to_station: Option<&'a Ident>,
-    /// When it ended.
-    pub finish: Moment,
-    /// Its fare.
-    pub fare: Cents,
-}
 
 /// Writes the names of a table's columns as one line. `NoMemory` comes before anything is written, and after `Write` a
 /// front of the line is, and not all.
@@ -106,8 +83,8 @@ pub fn write_entry<W: Write>(alloc: Global, entry: &Entry, out: &mut W) -> Resul
 }
 
 /// The station at which a rental ended, as its row shows it.
-fn stop_of<'a>(to_station: Option<&'a Ident>) -> &'a str
-    ensures { result.now ≡ stop_text (option_map (λ station. station.now) to_station.entry) }
+fn stop_of(to_station: &Option<Ident>) -> &str
+    ensures { result.now ≡ stop_text to_station.now }
 {
     match to_station {
         Some(station) => station.as_str(),
@@ -115,29 +92,32 @@ fn stop_of<'a>(to_station: Option<&'a Ident>) -> &'a str
     }
 }
 
-/// Writes the row of a rental that ended as one line; where the bicycle was recovered, the station is `*`. Faults come
-/// as those of `write_header` do.
+/// Writes the row of a rental of this number that was closed so as one line; where the bicycle was recovered, the
+/// station is `*`. Faults come as those of `write_header` do.
 pub fn write_ended<W: Write>(
     alloc: Global,
-    rental: &EndedRental<'_>,
+    number: RentalNumber,
+    rental: &RentalInfo,
+    closing: &ClosingInfo,
     out: &mut W,
 ) -> Result<(), LineFault>
-    ensures { WritesLine (W.contents out.old) (W.contents out.new) (ended_line (ended_row rental.now)) result }
+    ensures { WritesLine (W.contents out.old) (W.contents out.new)
+        (ended_line (info_row number rental.now closing.now)) result }
 {
-    let mut number = Buffer::new();
+    let mut digits = Buffer::new();
     let mut rider = Buffer::new();
     let mut bike = Buffer::new();
     let start = rental.start.text();
-    let finish = rental.finish.text();
-    let fare = rental.fare.text();
+    let finish = closing.finish.text();
+    let fare = closing.fare.text();
     let fields = [
-        number.format(rental.number.get()).as_bytes(),
+        digits.format(number.get()).as_bytes(),
         rider.format(rental.rider.get()).as_bytes(),
         bike.format(rental.bike.get()).as_bytes(),
         rental.plan.as_str().as_bytes(),
         rental.from_station.as_str().as_bytes(),
         start.as_str().as_bytes(),
-        stop_of(rental.to_station).as_bytes(),
+        stop_of(&closing.to_station).as_bytes(),
         finish.as_str().as_bytes(),
         fare.as_str().as_bytes(),
     ];

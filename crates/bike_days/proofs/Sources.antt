@@ -10,20 +10,20 @@ use Rattle.bike_operator.specs.declared.records.Closing.{Closing}
 use Rattle.bike_operator.specs.Operator.{Operator, item_at}
 use Rattle.bike_operator.specs.Sound.{IsSound}
 use Rattle.bike_book.specs.Stored.{numbers_from, with_numbers}
-use Rattle.bike_queries.specs.declared.rentals.ClosingInfo.{ClosingInfo}
-use Rattle.bike_queries.specs.declared.rentals.RentalInfo.{RentalInfo}
+use Rattle.bike_summaries.specs.declared.rental.ClosingInfo.{ClosingInfo}
+use Rattle.bike_summaries.specs.declared.rental.RentalInfo.{RentalInfo}
 use Rattle.bike_queries.specs.Infos.{closing_info, rental_info}
-use Rattle.bike_queries.specs.Spans.{lies_in, ends_in}
+use Rattle.bike_queries.specs.Spans.{ended_info, lies_in, ends_in}
 use Rattle.bike_day_texts.specs.declared.fault.LineFault.{LineFault}
 use Rattle.bike_day_texts.specs.declared.table.DayTable.TheVariants.{Entries, Rentals}
 use Rattle.csv.specs.Writing.{default_writer, row_body, is_blank, end_text}
+use Rattle.bike_day_texts.specs.Ended.{info_row}
 use Rattle.bike_day_texts.specs.Rows.{EndedRow, line_of, columns_of, header_line, entry_fields, entry_line, ended_fields, ended_line}
 use Rattle.bike_day_texts.specs.Writing.{WritesLine}
 use Rattle.bike_desk.specs.Desk.{DeskValue}
 use Rattle.bike_days.specs.declared.fault.DayTableFault.{DayTableFault}
 use Rattle.bike_days.specs.Walking.{WritesTable}
 use Rattle.bike_days.specs.Days.{ended_row, ended_in, span_text}
-use Rattle.bike_days.specs.Lines.{info_row}
 use Rattle.bike_days.proofs.Lists.{IsNumbered}
 use Rattle.bike_days.proofs.WalkLemmas.{Source, AsksLine, text, table_as}
 
@@ -102,8 +102,8 @@ rentals begin until = record {
   passes = λ e. ends_in begin until e.1.closing;
   line = λ e. closed_line e.0 e.1 e.1.closing;
   held = λ s. with_numbers s.rentals;
-  shows = λ s e. (e.0, rental_info (refunded_of e.0 s.entries) e.1);
-  answers = λ s found. option_map (λ e. (e.0, rental_info (refunded_of e.0 s.entries) e.1)) found;
+  shows = λ s e. ended_info s.entries e;
+  answers = λ s found. option_map (ended_info s.entries) found;
   answers_none = λ s. refl;
   answers_some = λ s e. refl;
   numbered = λ s sound. numbered_from 1 s.rentals;
@@ -117,7 +117,7 @@ pub rental_asks : (begin until : ℕ) (y : ℕ × RentalInfo) (b c : Option (Lis
     → ((closing : ClosingInfo) → y.1.closing ≡ Some closing → WritesLine b c (ended_line (info_row y.0 y.1 closing)) result)
     → AsksLine (rentals begin until) y b c result
 rental_asks begin until y b c result wrote s x passes same =
-    let shown : ℕ × RentalInfo = (x.0, rental_info (refunded_of x.0 s.entries) x.1) in
+    let shown : ℕ × RentalInfo = ended_info s.entries x in
     go x.1.closing refl passes
     (subst (λ (z : ℕ × RentalInfo). (closing : ClosingInfo) → z.1.closing ≡ Some closing
     → WritesLine b c (ended_line (info_row z.0 z.1 closing)) result) same wrote) where

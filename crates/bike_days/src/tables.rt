@@ -1,20 +1,20 @@
 //! The tables of a span of time, each row read from the desk as it is written.
 
 ghost use Rattle.std.specs.Prelude.{◌≡◌, Some};
+ghost use Rattle.bike_day_texts.specs.Ended.{info_row};
 ghost use Rattle.bike_day_texts.specs.Rows.{ended_line};
 ghost use Rattle.bike_day_texts.specs.Writing.{WritesLine};
 ghost use Rattle.bike_day_texts.specs.declared.table.DayTable.TheVariants.{Entries, Rentals};
-ghost use Rattle.bike_queries.specs.declared.rentals.ClosingInfo.{ClosingInfo};
+ghost use Rattle.bike_summaries.specs.declared.rental.ClosingInfo.{ClosingInfo};
 ghost use Rattle.bike_days.specs.Days.{span_text};
-ghost use Rattle.bike_days.specs.Lines.{info_row};
 ghost use Rattle.bike_days.specs.Walking.{WritesTable};
 
 use crate::fault::DayTableFault;
-use bike_day_texts::{DayTable, EndedRental, LineFault, write_ended, write_entry, write_header};
+use bike_day_texts::{DayTable, LineFault, write_ended, write_entry, write_header};
 use bike_desk::Desk;
 use bike_fields::RentalNumber;
 use bike_fixed::Moment;
-use bike_queries::RentalInfo;
+use bike_summaries::RentalInfo;
 use sqlite::Alter;
 use std::alloc::Global;
 use std::io::Write;
@@ -53,23 +53,12 @@ fn write_rental<W: Write>(
         → WritesLine (W.contents out.old) (W.contents out.new)
         (ended_line (info_row ended.now.0 ended.now.1 closing)) result }
 {
-    let (number, info) = ended;
-    let Some(closing) = &info.closing else {
+    let (number, rental) = ended;
+    let Some(closing) = &rental.closing else {
         // A rental that ended is closed.
         return Err(LineFault::Write);
     };
-    let rental = EndedRental {
-        number: *number,
-        rider: info.rider,
-        bike: info.bike,
-        plan: &info.plan,
-        from_station: &info.from_station,
-        start: info.start,
-        to_station: closing.to_station.as_ref(),
-        finish: closing.finish,
-        fare: closing.fare,
-    };
-    write_ended(alloc, &rental, out)
+    write_ended(alloc, *number, rental, closing, out)
 }
 
 /// Writes the table of the rentals that ended in a span.

@@ -19,8 +19,8 @@ use Rattle.bike_operator.specs.Counts.{is_open, is_riding, docked_at}
 use Rattle.bike_operator.specs.View.{view_of, docked_view, rental_view, rental_of}
 use Rattle.bike_operator.specs.Steps.{tests, refusal_of, after_start, after_end, after_recovery, refunded_by, effect}
 use Rattle.bike_operator.specs.Runs.{key_in, step, outcome, outcome_with_kept}
-use Rattle.bike_places.proofs.ItemLemmas.{number_or_last, number_within, IsTurned, Here, Elsewhere, number_turned}
-use Rattle.bike_places.proofs.TestLemmas.{none_holds}
+use Rattle.bike_laws.proofs.SingleSteps.ItemLemmas.{number_or_last, number_within, IsTurned, Here, Elsewhere, number_turned}
+use Rattle.bike_laws.proofs.SingleSteps.TestLemmas.{none_holds}
 use Rattle.bike_laws.proofs.FoundLemmas.{closing_now, closed_by}
 use Rattle.bike_laws.proofs.QuietLaw.{quiet_kind}
 use Rattle.bike_office_reads.specs.Newest.{NewestTells}

@@ -13,7 +13,7 @@ use Rattle.bike_commands.specs.declared.refusal.Refusal.TheVariants as refusal
 use Rattle.bike_commands.specs.Commands.{text_of}
 use Rattle.bike_commands.specs.Requests.{IsRequest}
 use Rattle.sqlite.specs.Effect.{Database}
-use Rattle.bike_views.specs.declared.sight.Sight.{Sight}
+use Rattle.bike_views.specs.declared.view_and_docks.ViewAndDocks.{ViewAndDocks}
 use Rattle.bike_operator.specs.Operator.{Operator, Kept}
 use Rattle.bike_operator.specs.Sound.{IsSound}
 use Rattle.bike_operator.specs.Steps.{refusal_of, reply_of}
@@ -93,7 +93,7 @@ accepts_stored s m now q a sums texts n sound listing it moved is = record {
 }
 
 -- the sums that were read take the entry of an accepted request
-pub later_read : (db : Database) (s : Operator) (t now : ℕ) (q : Request) (figures : Figures) (x : Sight) (a : Accepted) {later : Figures}
+pub later_read : (db : Database) (s : Operator) (t now : ℕ) (q : Request) (figures : Figures) (x : ViewAndDocks) (a : Accepted) {later : Figures}
     → SumsTakeOneMore → IsSound s → IsReadFor db s t now q figures x → IsRequest q → Decides s now q.command (Ok a)
     → (IfSome a.entry (λ _. AreBounded figures.sums) → later ≡ figures_after figures now a) → later ≡ figures_after figures now a
 later_read db s t now q figures x a take sound it good decides after =
@@ -101,7 +101,7 @@ later_read db s t now q figures x a take sound it good decides after =
     after (subst (λ (f : Figures). IfSome a.entry (λ _. AreBounded f.sums)) (sym it.figures_are) (take s now q a sound decides sound_after))
 
 -- the operator accepts a request by the decision on what was read for it
-pub accepts_read : (db : Database) (s : Operator) (t now : ℕ) (q : Request) (figures : Figures) (x : Sight) (a : Accepted) (later : Figures) (texts : KeptTexts) → IsSound s → IsReadFor db s t now q figures x → IsRequest q
+pub accepts_read : (db : Database) (s : Operator) (t now : ℕ) (q : Request) (figures : Figures) (x : ViewAndDocks) (a : Accepted) (later : Figures) (texts : KeptTexts) → IsSound s → IsReadFor db s t now q figures x → IsRequest q
     → Decides s now q.command (Ok a) → AreFound now s a → later ≡ figures_after figures now a → AreTexts s now q texts → Accepts s now q a later.sums texts
 accepts_read db s t now q figures x a later texts sound it good decides found after told = record {
   anew = it.anew;

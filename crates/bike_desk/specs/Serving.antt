@@ -28,14 +28,14 @@ use Rattle.bike_booking.specs.declared.stored.Sums.{Sums}
 use Rattle.bike_booking.specs.Booking.{AreTexts}
 use Rattle.bike_booking.specs.Figures.{figures_of}
 use Rattle.bike_booking.specs.Sums.{sums_of, sums_after}
-use Rattle.bike_views.specs.Sight.{IsSight}
-use Rattle.bike_views.specs.declared.sight.Sight.{Sight}
-use Rattle.bike_desk.specs.declared.serve.Asked.{Asked}
-use Rattle.bike_desk.specs.declared.serve.Served.{Served}
+use Rattle.bike_views.specs.ViewAndDocks.{IsFoundFor}
+use Rattle.bike_views.specs.declared.view_and_docks.ViewAndDocks.{ViewAndDocks}
+use Rattle.bike_desk.specs.declared.serve.RequestTexts.{RequestTexts}
+use Rattle.bike_desk.specs.declared.serve.Outcome.{Outcome}
 use Rattle.bike_desk.specs.Desk.{AreFigures}
 
 -- the texts are those of the request's caller and command
-pub record IsAsked (asked : Asked) : Type 0 where
+pub record IsAsked (asked : RequestTexts) : Type 0 where
   pub caller : asked.caller.now ≡ caller_text asked.request.now.caller
   pub text : asked.text.now ≡ text_of asked.request.now.command
 
@@ -49,17 +49,17 @@ pub record IsNextBy (c : State) (changes : List RowChange) (s next : Operator) :
   pub sound : IsSound next
 
 -- what was read for the command of the operator whose tables the database has
-abbrev pub IsSightOf : Database → Operator → Command → Sight → Type 0
-IsSightOf db s c x = (h : Stores db s) → IsSight s h.listed c x
+abbrev pub IsFoundIn : Database → Operator → Command → ViewAndDocks → Type 0
+IsFoundIn db s c x = (h : Stores db s) → IsFoundFor s h.listed c x
 
 -- What was read for a request that comes at a moment: its key isn't kept, the figures and the view are the operator's, and `now` is the later of both moments.
-pub record IsReadFor (db : Database) (s : Operator) (moment now : ℕ) (q : Request) (figures : Figures) (x : Sight) : Type 0 where
+pub record IsReadFor (db : Database) (s : Operator) (moment now : ℕ) (q : Request) (figures : Figures) (x : ViewAndDocks) : Type 0 where
   pub in_time : moment ≤ last_moment
   pub later : now ≡ max moment s.now
   pub anew : map.get s.kept (key_in q) ≡ None
   pub figures_are : figures ≡ figures_of s
   pub view_is : x.view ≡ view_of s q.command
-  pub sight : IsSightOf db s q.command x
+  pub found_for : IsFoundIn db s q.command x
 
 -- The operator, which keeps nothing under its key, accepts the request so, and then is sound; the records before are its own, the sums those with its entry, and the texts those of both.
 pub record Accepts (s : Operator) (now : ℕ) (q : Request) (a : Accepted) (sums : Sums) (texts : KeptTexts) : Type 0 where
@@ -71,7 +71,7 @@ pub record Accepts (s : Operator) (now : ℕ) (q : Request) (a : Accepted) (sums
   pub texts_are : AreTexts s now q texts
 
 -- What is told is the step's reply; the connection keeps the operator after it, whose figures these are.
-pub record Serves (c : State) (next : Reply × Operator) (served : Served) : Type 0 where
+pub record Serves (c : State) (next : Reply × Operator) (served : Outcome) : Type 0 where
   pub reply : served.reply ≡ next.0
   pub keeps : Keeps c next.1
   pub figures : AreFigures served.figures next.1

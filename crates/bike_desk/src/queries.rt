@@ -11,17 +11,17 @@ ghost use Rattle.bike_desk.specs.Queries.{Queries, TellsOf};
 use crate::desk::Desk;
 use crate::fault::DeskFault;
 use crate::newest::Newest;
-use bike_attributes::NameKind;
 use bike_catalogue::{MoreName, System};
-use bike_fields::{BicycleNumber, Ident, OrderNumber, RentalNumber, RiderNumber};
+use bike_fields::{BicycleNumber, Ident, NameKind, OrderNumber, RentalNumber, RiderNumber};
 use bike_fixed::{Cents, Moment};
 use bike_office_reads::{find_names, newest_tells};
 use bike_operator::{Bike, MOST_TYPES, Order, Place};
 use bike_queries::{
-    Counts, RentalInfo, RiderInfo, find_balance, find_bike, find_order, find_place,
-    find_rental_info, find_rider_info, find_station_counts, find_system, find_type_ids,
+    RiderInfo, find_balance, find_bike, find_order, find_place, find_rental_info, find_rider_info,
+    find_station_counts, find_system, find_type_ids,
 };
 use bike_schema::StatementFault;
+use bike_summaries::{Counts, RentalInfo};
 use bike_views::find_figures;
 use sqlite::Alter;
 use std::alloc::Global;

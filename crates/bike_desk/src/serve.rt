@@ -13,26 +13,25 @@ ghost use Rattle.bike_operator.specs.Runs.{step, after_acceptance, key_in};
 ghost use Rattle.bike_schema.specs.Makes.{OthersStay};
 ghost use Rattle.bike_schema.specs.Stands.{AllLeft, Keeps};
 ghost use Rattle.bike_desk.specs.Desk.{IsRemembered, TreesStandForEither};
-ghost use Rattle.bike_desk.specs.Serving.{Accepts, IsAsked, IsReadFor, IsSightOf, Serves};
+ghost use Rattle.bike_desk.specs.Serving.{Accepts, IsAsked, IsFoundIn, IsReadFor, Serves};
 
 use crate::remembered::Remembered;
 use crate::transaction::make_all;
 use bike_accepted::Accepted;
 use bike_booking::{Figures, KeptTexts, Sums, books_accepted, rows_of};
-use bike_commands::{Command, Refusal, Reply, Request};
+use bike_commands::{Refusal, Reply, Request};
 use bike_core::decide;
 use bike_fixed::Moment;
 use bike_office_reads::{KeptRow, find_kept};
 use bike_operator::is_bounded;
 use bike_schema::StatementFault;
-use bike_stored::find_stored;
-use bike_views::{Known, Sight, find_view, know_figures};
+use bike_views::{Known, ViewAndDocks, find_stored, find_view, know_figures};
 use sqlite::{Alter, Connection};
 use std::alloc::Global;
 
 /// A request with the texts of its caller and of its command.
 #[derive(Clone, Copy)]
-pub(crate) struct Asked<'a> {
+pub(crate) struct RequestTexts<'a> {
     pub(crate) request: &'a Request,
     pub(crate) caller: &'a str,
     pub(crate) text: &'a str,
@@ -40,7 +39,7 @@ pub(crate) struct Asked<'a> {
 
 /// What serving a request gives: its reply, and the operator's figures after it, as far as they are known.
 #[derive(Clone, Copy)]
-pub(crate) struct Served {
+pub(crate) struct Outcome {
     pub(crate) reply: Reply,
     pub(crate) figures: Option<Figures>,
 }
@@ -61,8 +60,7 @@ fn kept_answer(kept: &KeptRow, text: &str) -> Reply
 /// operator's with its entry.
 fn store_accepted<'a, S: Alter>(
     conn: &mut Connection<S>,
-    command: &Command,
-    sight: &Sight,
+    found: &ViewAndDocks,
     accepted: &'a Accepted<'a>,
     sums: Sums,
     now: Moment,
@@ -75,19 +73,19 @@ fn store_accepted<'a, S: Alter>(
     // Done: the operator after the acceptance, and other tables as before.
     ensures made { HasCleanDisk (state S.Store conn.new) → (s : Operator) (q : Request)
         → Keeps (state S.Store conn.old) s
-        → IsSightOf (state S.Store conn.old).now s command.now sight.now → Accepts s now q accepted.now sums texts.now
+        → IsFoundIn (state S.Store conn.old).now s q.command found.now → Accepts s now q accepted.now sums texts.now
         → OnOk result (Keeps (state S.Store conn.new) (after_acceptance s now q)) }
     ensures others { HasCleanDisk (state S.Store conn.new) → (s : Operator) (q : Request)
         → Keeps (state S.Store conn.old) s
-        → IsSightOf (state S.Store conn.old).now s command.now sight.now → Accepts s now q accepted.now sums texts.now
+        → IsFoundIn (state S.Store conn.old).now s q.command found.now → Accepts s now q accepted.now sums texts.now
         → OnOk result (OthersStay (state S.Store conn.old).now (state S.Store conn.new).now) }
     // Whatever the end, a crash leaves the operator before or after.
     ensures left { HasCleanDisk (state S.Store conn.new) → (s : Operator) (q : Request)
         → Keeps (state S.Store conn.old) s
-        → IsSightOf (state S.Store conn.old).now s command.now sight.now → Accepts s now q accepted.now sums texts.now
+        → IsFoundIn (state S.Store conn.old).now s q.command found.now → Accepts s now q accepted.now sums texts.now
         → AllLeft (state S.Store conn.new) (TreesStandForEither s (after_acceptance s now q)) }
 {
-    let stored = find_stored(conn, command, sight, &accepted.moved, sums)?;
+    let stored = find_stored(conn, &found.docks, &accepted.moved, sums)?;
     books_accepted();
     let rows = rows_of(accepted, &stored, now, texts);
     make_all(conn, rows.as_slice())
@@ -98,10 +96,10 @@ fn store_accepted<'a, S: Alter>(
 fn serve_read<'a, S: Alter>(
     conn: &mut Connection<S>,
     figures: &Figures,
-    sight: &'a Sight,
+    found: &'a ViewAndDocks,
     now: Moment,
-    asked: Asked<'a>,
-) -> Result<Served, StatementFault>
+    asked: RequestTexts<'a>,
+) -> Result<Outcome, StatementFault>
     requires outside { conn.old.in_transaction ≡ false }
     requires asked { IsAsked asked }
     // No transaction is left open.
@@ -109,28 +107,28 @@ fn serve_read<'a, S: Alter>(
     ensures clean { doubt (state S.Store conn.old).is_clean ≤ doubt (state S.Store conn.new).is_clean }
     // Done: the step of the operator, other tables as before, and all where the step changes nothing.
     ensures ok { HasCleanDisk (state S.Store conn.new) → (s : Operator) (t : ℕ) → Keeps (state S.Store conn.old) s
-        → IsReadFor (state S.Store conn.old).now s t now asked.entry.request.now figures.entry.now sight.now
+        → IsReadFor (state S.Store conn.old).now s t now asked.entry.request.now figures.entry.now found.now
         → IfOk result (Serves (state S.Store conn.new) (step s t asked.entry.request.now)) }
     ensures others { HasCleanDisk (state S.Store conn.new) → (s : Operator) (t : ℕ) → Keeps (state S.Store conn.old) s
-        → IsReadFor (state S.Store conn.old).now s t now asked.entry.request.now figures.entry.now sight.now
+        → IsReadFor (state S.Store conn.old).now s t now asked.entry.request.now figures.entry.now found.now
         → OnOk result (OthersStay (state S.Store conn.old).now (state S.Store conn.new).now) }
     ensures rests { HasCleanDisk (state S.Store conn.new) → (s : Operator) (t : ℕ) → Keeps (state S.Store conn.old) s
-        → IsReadFor (state S.Store conn.old).now s t now asked.entry.request.now figures.entry.now sight.now
+        → IsReadFor (state S.Store conn.old).now s t now asked.entry.request.now figures.entry.now found.now
         → (step s t asked.entry.request.now).1 ≡ s
         → OnOk result ((state S.Store conn.new).now ≡ (state S.Store conn.old).now) }
     // Failed: a crash leaves the operator before or after.
     ensures failed { HasCleanDisk (state S.Store conn.new) → (s : Operator) (t : ℕ) → Keeps (state S.Store conn.old) s
-        → IsReadFor (state S.Store conn.old).now s t now asked.entry.request.now figures.entry.now sight.now
+        → IsReadFor (state S.Store conn.old).now s t now asked.entry.request.now figures.entry.now found.now
         → OnErr result (AllLeft (state S.Store conn.new) (TreesStandForEither s (step s t asked.entry.request.now).1)) }
 {
     let request = asked.request;
-    let view = &sight.view;
+    let view = &found.view;
     // Every view of a sound operator is bounded: else what is stored is nobody's.
     if !is_bounded(view, now) {
         return Err(StatementFault::StoreFailed);
     }
     match decide(view, now, &request.command) {
-        Err(refusal) => Ok(Served {
+        Err(refusal) => Ok(Outcome {
             reply: Reply::Refused(refusal),
             figures: Some(*figures),
         }),
@@ -146,16 +144,8 @@ fn serve_read<'a, S: Alter>(
                 command: asked.text,
                 reply: spelled.as_str(),
             };
-            store_accepted(
-                conn,
-                &request.command,
-                sight,
-                &accepted,
-                after.sums,
-                now,
-                &texts,
-            )?;
-            Ok(Served {
+            store_accepted(conn, found, &accepted, after.sums, now, &texts)?;
+            Ok(Outcome {
                 reply,
                 figures: Some(after),
             })
@@ -168,9 +158,9 @@ fn serve_anew<'a, S: Alter>(
     alloc: Global,
     conn: &mut Connection<S>,
     moment: Moment,
-    asked: Asked<'a>,
+    asked: RequestTexts<'a>,
     remembered: &Remembered,
-) -> Result<Served, StatementFault>
+) -> Result<Outcome, StatementFault>
     requires outside { conn.old.in_transaction ≡ false }
     requires asked { IsAsked asked }
     // No transaction is left open.
@@ -199,9 +189,9 @@ fn serve_anew<'a, S: Alter>(
         newest_tells: remembered.newest_tells,
     };
     let request = asked.request;
-    let sight = find_view(alloc, conn, &request.command, &known)?;
+    let found = find_view(alloc, conn, &request.command, &known)?;
     let now = moment.later(&figures.now);
-    serve_read(conn, &figures, &sight, now, asked)
+    serve_read(conn, &figures, &found, now, asked)
 }
 
 /// Serves one request, of whose command `text` is the text, by what is remembered of the operator.
@@ -212,7 +202,7 @@ pub(crate) fn serve<S: Alter>(
     request: &Request,
     text: &str,
     remembered: &Remembered,
-) -> Result<Served, StatementFault>
+) -> Result<Outcome, StatementFault>
     requires outside { conn.old.in_transaction ≡ false }
     requires text { text.now ≡ text_of request.now.command }
     // No transaction is left open.
@@ -235,12 +225,12 @@ pub(crate) fn serve<S: Alter>(
     let caller = request.caller.text();
     let caller = caller.as_str();
     match find_kept(alloc, conn, caller, request.key.as_str())? {
-        Some(kept) => Ok(Served {
+        Some(kept) => Ok(Outcome {
             reply: kept_answer(&kept, text),
             figures: remembered.figures,
         }),
         None => {
-            let asked = Asked {
+            let asked = RequestTexts {
                 request,
                 caller,
                 text,

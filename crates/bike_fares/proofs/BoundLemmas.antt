@@ -1,9 +1,9 @@
 -- No fare is greater than the greatest.
 use Rattle.std.proofs.Common.{ℕ, ℤ, zero, suc, ◌*◌, ◌≤◌, ◌≤ℤ◌, pos, List, [], ◌∷◌, length, Bool, true, false, cond, leb, arith}
 use Rattle.std.proofs.lemmas.Int.{ints, clamps}
-use Rattle.bike_attributes.specs.Values.{SegmentRow}
+use Rattle.bike_fields.specs.Values.{SegmentRow}
 use Rattle.bike_catalogue.specs.Rows.{PlanRow, IsPlan}
-use Rattle.bike_attributes.specs.declared.limits.TheConstants.{MOST_SEGMENTS, GREATEST_RATE}
+use Rattle.bike_fields.specs.declared.limits.TheConstants.{MOST_SEGMENTS, GREATEST_RATE}
 use Rattle.bike_fares.specs.declared.elapsed.TheConstants.{MINUTES}
 use Rattle.bike_fares.specs.Pricing.{is_charged, per_min_pricing, reached_charge, sum_below, fare_of, elapsed_seconds, greatest_fare, most_at_minute, AreSegments}
 

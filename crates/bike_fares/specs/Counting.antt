@@ -1,7 +1,7 @@
 -- How often a segment charges, by division.
 use Rattle.std.specs.Prelude.{ℕ, ℤ, ◌+◌, ◌-◌, ◌*◌, ◌/◌, ◌+ℤ◌, ◌*ℤ◌, pos, min, List, [], ◌∷◌, nat_le, ◌==◌, if◌then◌else◌, Option, Some, None}
-use Rattle.bike_attributes.specs.Values.{SegmentRow}
-use Rattle.bike_attributes.specs.declared.limits.TheConstants.{MOST_SEGMENTS, GREATEST_RATE}
+use Rattle.bike_fields.specs.Values.{SegmentRow}
+use Rattle.bike_fields.specs.declared.limits.TheConstants.{MOST_SEGMENTS, GREATEST_RATE}
 use Rattle.bike_fares.specs.declared.elapsed.TheConstants.{MINUTES}
 
 -- how many of the minutes below `minutes` are the start or an interval's end

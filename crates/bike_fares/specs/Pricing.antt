@@ -2,9 +2,9 @@
 use Rattle.std.specs.Prelude.{◌≡◌, ℕ, ℤ, zero, suc, ◌+◌, ◌-◌, ◌*◌, ◌%◌, ◌<◌, ◌+ℤ◌, pos, min, List, [], ◌∷◌, Bool, true, ◌&&◌, ◌||◌, nat_le, nat_lt, ◌==◌, if◌then◌else◌, ◌⊎◌, Option, Some, None}
 use Rattle.std.specs.Int.{int_max}
 use Rattle.bike_fixed.specs.declared.cents.TheConstants.{GREATEST_FARE}
-use Rattle.bike_attributes.specs.Values.{SegmentRow, IsSegment}
+use Rattle.bike_fields.specs.Values.{SegmentRow, IsSegment}
 use Rattle.bike_catalogue.specs.Rows.{PlanRow}
-use Rattle.bike_attributes.specs.declared.limits.TheConstants.{MOST_SEGMENTS, GREATEST_RATE}
+use Rattle.bike_fields.specs.declared.limits.TheConstants.{MOST_SEGMENTS, GREATEST_RATE}
 use Rattle.bike_fares.specs.declared.elapsed.TheConstants.{LONGEST, MINUTES}
 
 -- the seconds that are charged for: from start to end, at most 30 days

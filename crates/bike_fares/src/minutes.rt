@@ -1,14 +1,14 @@
 //! Fares minute by minute: slow, and as plain as the rule.
 
 ghost use Rattle.std.specs.Prelude.{◌≡◌, ◌<◌, ◌≤◌, ◌≤ℤ◌, pos, neg_ℤ, length};
-ghost use Rattle.bike_attributes.specs.declared.limits.TheConstants.{GREATEST_RATE, MOST_SEGMENTS};
+ghost use Rattle.bike_fields.specs.declared.limits.TheConstants.{GREATEST_RATE, MOST_SEGMENTS};
 ghost use Rattle.bike_fares.specs.declared.elapsed.TheConstants.{MINUTES};
 ghost use Rattle.bike_fares.specs.Pricing.{is_charged, segment_charge, per_min_pricing, reached_charge, fare_of};
 ghost use Rattle.bike_fares.specs.Pricing.{greatest_fare, most_at_minute};
 
 use crate::elapsed::{MINUTES, elapsed_seconds};
-use bike_attributes::Segment;
 use bike_catalogue::Plan;
+use bike_fields::Segment;
 use bike_fixed::{Cents, Moment};
 
 /// Whether a segment charges at a minute.

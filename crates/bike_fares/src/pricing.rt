@@ -1,15 +1,15 @@
 //! Fares by division.
 
 ghost use Rattle.std.specs.Prelude.{◌≡◌, ◌≤◌, ◌≤ℤ◌, ◌+ℤ◌, pos, neg_ℤ, length};
-ghost use Rattle.bike_attributes.specs.declared.limits.TheConstants.{MOST_SEGMENTS};
+ghost use Rattle.bike_fields.specs.declared.limits.TheConstants.{MOST_SEGMENTS};
 ghost use Rattle.bike_fares.specs.declared.elapsed.TheConstants.{MINUTES};
 ghost use Rattle.bike_fares.specs.Pricing.{fare_of, greatest_fare};
 ghost use Rattle.bike_fares.specs.Counting.{count_below, minutes_before, segment_total, segments_total};
 ghost use Rattle.bike_fares.specs.Counting.{most_of_segment, most_of_segments};
 
 use crate::elapsed::elapsed_seconds;
-use bike_attributes::Segment;
 use bike_catalogue::Plan;
+use bike_fields::Segment;
 use bike_fixed::{Cents, Moment};
 
 /// How many of the minutes below `minutes` are the start, or whole intervals after it.

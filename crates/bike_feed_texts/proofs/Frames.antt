@@ -9,7 +9,7 @@ use Rattle.bike_json.specs.Rows.{items}
 use Rattle.bike_json.specs.State.{Place, Wrote, has_more}
 use Rattle.bike_json.specs.declared.level.Level.TheVariants.{Start, EmptyObject, FilledObject, NamedObject}
 use Rattle.bike_json.proofs.Series.{Wrote_then, Wrote_as}
-use Rattle.bike_attributes.specs.declared.name_kind.NameKind.TheVariants as named
+use Rattle.bike_fields.specs.declared.name_kind.NameKind.TheVariants as named
 use Rattle.bike_operator.specs.Operator.{Operator}
 use Rattle.bike_operator.specs.Names.{further_names}
 use Rattle.bike_feed_texts.specs.declared.feed.Feed.TheVariants.{SystemInformation}

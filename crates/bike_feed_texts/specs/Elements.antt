@@ -1,15 +1,15 @@
 -- The elements of the feeds' lists as JSON values, their members in the order in which they are written.
 use Rattle.std.specs.Prelude.{ℕ, pos, List, [], ◌∷◌, ◌++◌, Bool, ◌&&◌, Option, Some, None, codes}
 use Rattle.bike_fixed.specs.Text.{moment_text}
-use Rattle.bike_attributes.specs.declared.vehicle.Propulsion.{Propulsion}
-use Rattle.bike_attributes.specs.declared.vehicle.Propulsion.TheVariants.{Human, ElectricAssist}
-use Rattle.bike_attributes.specs.Vehicle.{form_text, propulsion_text}
-use Rattle.bike_attributes.specs.Values.{SegmentRow}
+use Rattle.bike_fields.specs.declared.vehicle.Propulsion.{Propulsion}
+use Rattle.bike_fields.specs.declared.vehicle.Propulsion.TheVariants.{Human, ElectricAssist}
+use Rattle.bike_fields.specs.Vehicle.{form_text, propulsion_text}
+use Rattle.bike_fields.specs.Values.{SegmentRow}
 use Rattle.bike_catalogue.specs.Rows.{PlanRow, TypeRow, StationRow, RegionRow, MoreNameRow, more_name_of_fields, SystemRow}
 use Rattle.bike_json.specs.Tree.{Tree, object, array, text, whole, cents, micro, flag, Members, no_members, member}
 use Rattle.bike_json.specs.Rows.{items}
 use Rattle.bike_feed_texts.specs.declared.feed.Feed.{Feed}
-use Rattle.bike_feed_texts.specs.declared.status.TypeCount.{TypeCount}
+use Rattle.bike_summaries.specs.declared.station.TypeCount.{TypeCount}
 use Rattle.bike_feed_texts.specs.Feeds.{feed_name, feed_url}
 
 -- names with their values

@@ -5,13 +5,13 @@ use Rattle.std.specs.FinMap.{FinMap}
 use Rattle.bike_catalogue.specs.Rows.{PlanRow, TypeRow, RegionRow, MoreNameRow, SystemRow}
 use Rattle.bike_json.specs.Tree.{Tree, array, text, whole, Items}
 use Rattle.bike_json.specs.Rows.{items}
-use Rattle.bike_attributes.specs.declared.name_kind.NameKind.TheVariants as named
+use Rattle.bike_fields.specs.declared.name_kind.NameKind.TheVariants as named
 use Rattle.bike_operator.specs.Operator.{Operator, Station, text_cmp}
 use Rattle.bike_operator.specs.Counts.{available, available_of, disabled_bikes, docks_available, docks_broken}
 use Rattle.bike_operator.specs.Names.{part_at, further_names}
 use Rattle.bike_feed_texts.specs.declared.feed.Feed.{Feed}
 use Rattle.bike_feed_texts.specs.declared.feed.Feed.TheVariants.{Gbfs, SystemInformation, VehicleTypes, StationInformation, StationStatus, SystemPricingPlans, SystemRegions}
-use Rattle.bike_feed_texts.specs.declared.status.TypeCount.{TypeCount}
+use Rattle.bike_summaries.specs.declared.station.TypeCount.{TypeCount}
 use Rattle.bike_feed_texts.specs.Feeds.{listed_feeds}
 use Rattle.bike_feed_texts.specs.Elements.{NamedTree, object_of, moment_tree, localized_text, link_tree, type_tree, station_tree, CountsRow, ReportRow, status_tree, plan_tree, region_tree}
 

@@ -7,8 +7,8 @@ use Rattle.bike_json.specs.Tree.{Tree, Members, comma, text_of, members_text}
 use Rattle.bike_json.specs.State.{Place, Wrote, has_more}
 use Rattle.bike_json.specs.declared.level.Level.{Level}
 use Rattle.bike_json.specs.declared.level.Level.TheVariants.{Done, FilledObject}
-use Rattle.bike_feed_texts.specs.declared.status.Counts.{Counts}
-use Rattle.bike_feed_texts.specs.declared.status.StationReport.{StationReport}
+use Rattle.bike_summaries.specs.declared.station.Counts.{Counts}
+use Rattle.bike_summaries.specs.declared.station.StationInfo.{StationInfo}
 use Rattle.bike_feed_texts.specs.Elements.{members, CountsRow, ReportRow}
 use Rattle.bike_feed_texts.specs.Trees.{head_members, system_members, contact_members}
 
@@ -50,20 +50,20 @@ in_feed = FilledObject ∷ Done ∷ []
 abbrev pub in_list : List Level
 in_list = FilledObject ∷ in_feed
 
--- what is lent of a station, and of its counts
-abbrev pub report_row : StationReport → ReportRow
-report_row r = record {
-  station_id = r.station_id.now;
-  is_installed = r.is_installed;
-  is_renting = r.is_renting;
-  is_returning = r.is_returning;
-  reported = r.reported;
+-- what a status tells of a station, and its counts
+abbrev pub report_row : StationInfo → ReportRow
+report_row x = record {
+  station_id = x.station.station_id;
+  is_installed = x.is_installed;
+  is_renting = x.is_renting;
+  is_returning = x.is_returning;
+  reported = x.reported;
 }
 
 abbrev pub counts_row : Counts → CountsRow
 counts_row c = record {
   available = c.available;
-  by_type = c.by_type.now;
+  by_type = c.by_type.items;
   disabled = c.disabled;
   docks_available = c.docks_available;
   docks_disabled = c.docks_disabled;

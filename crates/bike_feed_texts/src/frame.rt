@@ -7,7 +7,7 @@ ghost use Rattle.bike_feed_texts.specs.Writing.{head_text, list_head_text, list_
 use crate::members::{moment_member, text_member, whole_member};
 use bike_catalogue::System;
 use bike_fixed::Moment;
-use bike_json::{JsonState, Level, Output};
+use bike_json::{JsonState, Level, MemberName, Output, member};
 use bike_stream::WriteFault;
 
 /// Begins a feed, up to its data.
@@ -22,10 +22,10 @@ pub(crate) fn open_feed<W: Output>(
     ensures place { IsAt json.new Level.NamedObject (Level.Done ∷ []) }
 {
     let _ = json.begin_object(out);
-    moment_member(json, out, "last_updated", moment);
-    whole_member(json, out, "ttl", system.ttl().get());
-    text_member(json, out, "version", "3.0");
-    let _ = json.name(out, "data");
+    moment_member(json, out, member!("last_updated"), moment);
+    whole_member(json, out, member!("ttl"), system.ttl().get());
+    text_member(json, out, member!("version"), "3.0");
+    let _ = json.member(out, member!("data"));
 }
 
 /// Begins the feed of a system for a moment whose data are a list of that name (`vehicle_types`, `stations`, `plans` or
@@ -35,17 +35,17 @@ pub fn open_list<W: Output>(
     out: &mut W,
     system: &System,
     moment: Moment,
-    name: &str,
+    name: MemberName,
 ) -> Result<(), WriteFault>
     requires { IsAt json.old Level.Start [] }
     ensures wrote { Wrote json.old json.new (W.contents out.old) (W.contents out.new)
-        (list_head_text system.now moment name.now) }
+        (list_head_text system.now moment name.plain.now) }
     ensures place { IsAt json.new Level.EmptyArray in_list }
     ensures outcome { is_ok result ≡ not json.new.failed }
 {
     open_feed(json, out, system, moment);
     let _ = json.begin_object(out);
-    let _ = json.name(out, name);
+    let _ = json.member(out, name);
     json.begin_array(out)
 }
 

@@ -16,7 +16,7 @@ use crate::members::text_member;
 use arrayvec::ArrayString;
 use bike_catalogue::System;
 use bike_fixed::Moment;
-use bike_json::{JsonState, Level, Output};
+use bike_json::{JsonState, Level, Output, member};
 use bike_stream::WriteFault;
 
 /// The feeds that are listed.
@@ -53,8 +53,8 @@ fn write_link<W: Output>(json: &mut JsonState, out: &mut W, system: &System, fee
 {
     let url = url_of(system, *feed);
     let _ = json.begin_object(out);
-    text_member(json, out, "name", feed.name());
-    text_member(json, out, "url", url.as_str());
+    text_member(json, out, member!("name"), feed.name());
+    text_member(json, out, member!("url"), url.as_str());
     let _ = json.end_object(out);
 }
 
@@ -84,7 +84,7 @@ pub fn write_gbfs<W: Output>(
     ensures place { IsAt json.new Level.Done [] }
     ensures outcome { is_ok result ≡ not json.new.failed }
 {
-    let _ = open_list(json, out, system, moment, "feeds");
+    let _ = open_list(json, out, system, moment, member!("feeds"));
     write_links(json, out, system, &LISTED);
     close_list(json, out)
 }

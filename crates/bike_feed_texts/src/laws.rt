@@ -4,8 +4,8 @@ ghost use Rattle.std.specs.Prelude.{◌≡◌, ◌∷◌, ◌++◌, [], ℕ, Lis
 ghost use Rattle.std.specs.FinMap.{values};
 ghost use Rattle.bike_json.specs.Rows.{items};
 ghost use Rattle.bike_json.specs.Tree.{text, text_of, items_text};
-ghost use Rattle.bike_attributes.specs.declared.name_kind.NameKind.{NameKind};
-ghost use Rattle.bike_attributes.specs.declared.name_kind.NameKind.TheVariants as named;
+ghost use Rattle.bike_fields.specs.declared.name_kind.NameKind.{NameKind};
+ghost use Rattle.bike_fields.specs.declared.name_kind.NameKind.TheVariants as named;
 ghost use Rattle.bike_operator.specs.Operator.{Operator};
 ghost use Rattle.bike_operator.specs.Names.{further_names};
 ghost use Rattle.bike_catalogue.specs.Rows.{SystemRow};

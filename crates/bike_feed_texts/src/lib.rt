@@ -30,6 +30,6 @@ pub use laws::{feed_name_laws, further_name_laws, list_text_laws};
 pub use plan::write_plan;
 pub use region::write_region;
 pub use station::write_station;
-pub use status::{Counts, StationReport, TypeCount, write_status};
+pub use status::write_status;
 pub use system::{close_information, open_information, write_language};
 pub use vehicle_type::write_type;

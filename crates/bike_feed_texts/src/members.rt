@@ -11,36 +11,53 @@ ghost use Rattle.bike_feed_texts.specs.Writing.{WroteMember, WroteValue};
 use bike_catalogue::{MoreName, System};
 use bike_fields::{Language, Name};
 use bike_fixed::{Cents, Micro, Moment};
-use bike_json::{JsonState, Level, Output};
+use bike_json::{JsonState, Level, MemberName, Output, member};
 
 /// A text.
-pub(crate) fn text_member<W: Output>(json: &mut JsonState, out: &mut W, name: &str, value: &str)
+pub(crate) fn text_member<W: Output>(
+    json: &mut JsonState,
+    out: &mut W,
+    name: MemberName,
+    value: &str,
+)
     requires { IsTrue (takes_name json.old.top) }
-    ensures wrote { WroteMember json.old json.new (W.contents out.old) (W.contents out.new) name.now (text value.now) }
+    ensures wrote { WroteMember json.old json.new (W.contents out.old) (W.contents out.new) name.plain.now
+        (text value.now) }
     ensures place { IsAt json.new Level.FilledObject json.old.round }
 {
-    let _ = json.name(out, name);
+    let _ = json.member(out, name);
     let _ = json.text(out, value);
 }
 
 /// A whole number.
-pub(crate) fn whole_member<W: Output>(json: &mut JsonState, out: &mut W, name: &str, number: u32)
+pub(crate) fn whole_member<W: Output>(
+    json: &mut JsonState,
+    out: &mut W,
+    name: MemberName,
+    number: u32,
+)
     requires { IsTrue (takes_name json.old.top) }
-    ensures wrote { WroteMember json.old json.new (W.contents out.old) (W.contents out.new) name.now
+    ensures wrote { WroteMember json.old json.new (W.contents out.old) (W.contents out.new) name.plain.now
         (whole (pos number)) }
     ensures place { IsAt json.new Level.FilledObject json.old.round }
 {
-    let _ = json.name(out, name);
+    let _ = json.member(out, name);
     let _ = json.whole(out, i64::from(number));
 }
 
 /// An amount, in units with two decimals.
-pub(crate) fn cents_member<W: Output>(json: &mut JsonState, out: &mut W, name: &str, amount: Cents)
+pub(crate) fn cents_member<W: Output>(
+    json: &mut JsonState,
+    out: &mut W,
+    name: MemberName,
+    amount: Cents,
+)
     requires { IsTrue (takes_name json.old.top) }
-    ensures wrote { WroteMember json.old json.new (W.contents out.old) (W.contents out.new) name.now (cents amount) }
+    ensures wrote { WroteMember json.old json.new (W.contents out.old) (W.contents out.new) name.plain.now
+        (cents amount) }
     ensures place { IsAt json.new Level.FilledObject json.old.round }
 {
-    let _ = json.name(out, name);
+    let _ = json.member(out, name);
     let _ = json.cents(out, amount);
 }
 
@@ -48,25 +65,31 @@ pub(crate) fn cents_member<W: Output>(json: &mut JsonState, out: &mut W, name: &
 pub(crate) fn micro_member<W: Output>(
     json: &mut JsonState,
     out: &mut W,
-    name: &str,
+    name: MemberName,
     coordinate: Micro,
 )
     requires { IsTrue (takes_name json.old.top) }
-    ensures wrote { WroteMember json.old json.new (W.contents out.old) (W.contents out.new) name.now
+    ensures wrote { WroteMember json.old json.new (W.contents out.old) (W.contents out.new) name.plain.now
         (micro coordinate) }
     ensures place { IsAt json.new Level.FilledObject json.old.round }
 {
-    let _ = json.name(out, name);
+    let _ = json.member(out, name);
     let _ = json.micro(out, coordinate);
 }
 
 /// `true` or `false`.
-pub(crate) fn flag_member<W: Output>(json: &mut JsonState, out: &mut W, name: &str, value: bool)
+pub(crate) fn flag_member<W: Output>(
+    json: &mut JsonState,
+    out: &mut W,
+    name: MemberName,
+    value: bool,
+)
     requires { IsTrue (takes_name json.old.top) }
-    ensures wrote { WroteMember json.old json.new (W.contents out.old) (W.contents out.new) name.now (flag value) }
+    ensures wrote { WroteMember json.old json.new (W.contents out.old) (W.contents out.new) name.plain.now
+        (flag value) }
     ensures place { IsAt json.new Level.FilledObject json.old.round }
 {
-    let _ = json.name(out, name);
+    let _ = json.member(out, name);
     let _ = json.flag(out, value);
 }
 
@@ -74,11 +97,11 @@ pub(crate) fn flag_member<W: Output>(json: &mut JsonState, out: &mut W, name: &s
 pub(crate) fn moment_member<W: Output>(
     json: &mut JsonState,
     out: &mut W,
-    name: &str,
+    name: MemberName,
     moment: Moment,
 )
     requires { IsTrue (takes_name json.old.top) }
-    ensures wrote { WroteMember json.old json.new (W.contents out.old) (W.contents out.new) name.now
+    ensures wrote { WroteMember json.old json.new (W.contents out.old) (W.contents out.new) name.plain.now
         (moment_tree moment) }
     ensures place { IsAt json.new Level.FilledObject json.old.round }
 {
@@ -100,8 +123,8 @@ fn write_translation<W: Output>(
     ensures place { IsAt json.new (after_value json.old.top) json.old.round }
 {
     let _ = json.begin_object(out);
-    text_member(json, out, "text", value.as_str());
-    text_member(json, out, "language", language.as_str());
+    text_member(json, out, member!("text"), value.as_str());
+    text_member(json, out, member!("language"), language.as_str());
     let _ = json.end_object(out);
 }
 
@@ -129,19 +152,19 @@ fn write_translations<W: Output>(
 pub(crate) fn localized_member<W: Output>(
     json: &mut JsonState,
     out: &mut W,
-    name: &str,
+    name: MemberName,
     system: &System,
     value: &Name,
     names: &[MoreName],
 )
     requires name { IsTrue (takes_name json.old.top) }
     requires room { length json.old.round < 15 }
-    ensures wrote { WroteMember json.old json.new (W.contents out.old) (W.contents out.new) name.now
+    ensures wrote { WroteMember json.old json.new (W.contents out.old) (W.contents out.new) name.plain.now
         (localized_text system.now value.now names.now) }
     ensures place { IsAt json.new Level.FilledObject json.old.round }
 {
     let own = system.language();
-    let _ = json.name(out, name);
+    let _ = json.member(out, name);
     let _ = json.begin_array(out);
     write_translations(json, out, own, value, names);
     let _ = json.end_array(out);

@@ -8,10 +8,10 @@ ghost use Rattle.bike_feed_texts.specs.Elements.{members, end_members, segment_t
 ghost use Rattle.bike_feed_texts.specs.Writing.{WroteMember, WroteMembers, WroteValue};
 
 use crate::members::{cents_member, flag_member, localized_member, text_member, whole_member};
-use bike_attributes::Segment;
 use bike_catalogue::{MoreName, Plan, System};
+use bike_fields::Segment;
 use bike_fixed::Cents;
-use bike_json::{JsonState, Level, Output};
+use bike_json::{JsonState, Level, MemberName, Output, member};
 use bike_stream::WriteFault;
 
 /// The minute at which a segment ends, where it does.
@@ -23,7 +23,7 @@ fn end_member<W: Output>(json: &mut JsonState, out: &mut W, end: Option<u32>)
 {
     match end {
         None => {}
-        Some(minute) => whole_member(json, out, "end", minute),
+        Some(minute) => whole_member(json, out, member!("end"), minute),
     }
 }
 
@@ -34,9 +34,14 @@ fn write_segment<W: Output>(json: &mut JsonState, out: &mut W, segment: &Segment
     ensures place { IsAt json.new (after_value json.old.top) json.old.round }
 {
     let _ = json.begin_object(out);
-    whole_member(json, out, "start", segment.start());
-    cents_member(json, out, "rate", Cents::new(i64::from(segment.rate())));
-    whole_member(json, out, "interval", segment.interval());
+    whole_member(json, out, member!("start"), segment.start());
+    cents_member(
+        json,
+        out,
+        member!("rate"),
+        Cents::new(i64::from(segment.rate())),
+    );
+    whole_member(json, out, member!("interval"), segment.interval());
     end_member(json, out, segment.end());
     let _ = json.end_object(out);
 }
@@ -55,14 +60,19 @@ fn write_segments<W: Output>(json: &mut JsonState, out: &mut W, segments: &[Segm
 }
 
 /// The segments as a member.
-fn segments_member<W: Output>(json: &mut JsonState, out: &mut W, name: &str, segments: &[Segment])
+fn segments_member<W: Output>(
+    json: &mut JsonState,
+    out: &mut W,
+    name: MemberName,
+    segments: &[Segment],
+)
     requires name { IsTrue (takes_name json.old.top) }
     requires room { length json.old.round < 15 }
-    ensures wrote { WroteMember json.old json.new (W.contents out.old) (W.contents out.new) name.now
+    ensures wrote { WroteMember json.old json.new (W.contents out.old) (W.contents out.new) name.plain.now
         (array (items segment_tree segments.now)) }
     ensures place { IsAt json.new Level.FilledObject json.old.round }
 {
-    let _ = json.name(out, name);
+    let _ = json.member(out, name);
     let _ = json.begin_array(out);
     write_segments(json, out, segments);
     let _ = json.end_array(out);
@@ -77,7 +87,7 @@ fn pricing_member<W: Output>(json: &mut JsonState, out: &mut W, segments: &[Segm
     ensures place { IsAt json.new Level.FilledObject json.old.round }
 {
     if !segments.is_empty() {
-        segments_member(json, out, "per_min_pricing", segments);
+        segments_member(json, out, member!("per_min_pricing"), segments);
     }
 }
 
@@ -98,20 +108,20 @@ pub fn write_plan<W: Output>(
     ensures outcome { is_ok result ≡ not json.new.failed }
 {
     let _ = json.begin_object(out);
-    text_member(json, out, "plan_id", plan.plan_id().as_str());
-    localized_member(json, out, "name", system, plan.name(), names);
-    text_member(json, out, "currency", system.currency().as_str());
+    text_member(json, out, member!("plan_id"), plan.plan_id().as_str());
+    localized_member(json, out, member!("name"), system, plan.name(), names);
+    text_member(json, out, member!("currency"), system.currency().as_str());
     cents_member(
         json,
         out,
-        "price",
+        member!("price"),
         Cents::new(i64::from(plan.price().get())),
     );
-    flag_member(json, out, "is_taxable", plan.taxable());
+    flag_member(json, out, member!("is_taxable"), plan.taxable());
     localized_member(
         json,
         out,
-        "description",
+        member!("description"),
         system,
         plan.description(),
         descriptions,

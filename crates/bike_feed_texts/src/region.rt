@@ -7,7 +7,7 @@ ghost use Rattle.bike_feed_texts.specs.Writing.{WroteValue};
 
 use crate::members::{localized_member, text_member};
 use bike_catalogue::{MoreName, Region, System};
-use bike_json::{JsonState, Output};
+use bike_json::{JsonState, Output, member};
 use bike_stream::WriteFault;
 
 /// Writes a region, with its further names.
@@ -26,7 +26,7 @@ pub fn write_region<W: Output>(
     ensures outcome { is_ok result ≡ not json.new.failed }
 {
     let _ = json.begin_object(out);
-    text_member(json, out, "region_id", region.region_id().as_str());
-    localized_member(json, out, "name", system, region.name(), names);
+    text_member(json, out, member!("region_id"), region.region_id().as_str());
+    localized_member(json, out, member!("name"), system, region.name(), names);
     json.end_object(out)
 }

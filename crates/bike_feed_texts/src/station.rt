@@ -8,7 +8,7 @@ ghost use Rattle.bike_feed_texts.specs.Writing.{WroteMembers, WroteValue};
 use crate::members::{localized_member, micro_member, text_member, whole_member};
 use bike_catalogue::{MoreName, Station, System};
 use bike_fields::Ident;
-use bike_json::{JsonState, Level, Output};
+use bike_json::{JsonState, Level, Output, member};
 use bike_stream::WriteFault;
 
 /// The region in which a station stands, where it stands in one.
@@ -20,7 +20,7 @@ fn region_member<W: Output>(json: &mut JsonState, out: &mut W, region: Option<&I
 {
     match region {
         None => {}
-        Some(region) => text_member(json, out, "region_id", region.as_str()),
+        Some(region) => text_member(json, out, member!("region_id"), region.as_str()),
     }
 }
 
@@ -42,11 +42,16 @@ pub fn write_station<W: Output>(
     ensures outcome { is_ok result ≡ not json.new.failed }
 {
     let _ = json.begin_object(out);
-    text_member(json, out, "station_id", station.station_id().as_str());
-    localized_member(json, out, "name", system, station.name(), names);
-    micro_member(json, out, "lat", station.lat());
-    micro_member(json, out, "lon", station.lon());
+    text_member(
+        json,
+        out,
+        member!("station_id"),
+        station.station_id().as_str(),
+    );
+    localized_member(json, out, member!("name"), system, station.name(), names);
+    micro_member(json, out, member!("lat"), station.lat());
+    micro_member(json, out, member!("lon"), station.lon());
     region_member(json, out, region);
-    whole_member(json, out, "capacity", station.docks().get());
+    whole_member(json, out, member!("capacity"), station.docks().get());
     json.end_object(out)
 }

@@ -8,49 +8,9 @@ ghost use Rattle.bike_feed_texts.specs.Elements.{members, type_count_tree, count
 ghost use Rattle.bike_feed_texts.specs.Writing.{WroteMember, WroteMembers, WroteValue, report_row, counts_row};
 
 use crate::members::{flag_member, moment_member, text_member, whole_member};
-use bike_fields::Ident;
-use bike_fixed::Moment;
-use bike_json::{JsonState, Level, Output};
+use bike_json::{JsonState, Level, MemberName, Output, member};
 use bike_stream::WriteFault;
-
-/// How many bicycles of a vehicle type are available at a station.
-#[derive(Debug, Drop)]
-pub struct TypeCount {
-    /// The vehicle type.
-    pub type_id: Ident,
-    /// How many of it are available; 0 too.
-    pub count: u32,
-}
-
-/// The counts of a station, as GBFS's `station_status` has them.
-#[derive(Clone, Copy, Debug)]
-pub struct Counts<'a> {
-    /// The bicycles that are fit and in a dock that isn't broken.
-    pub available: u32,
-    /// Of these, how many there are of each vehicle type of the system.
-    pub by_type: &'a [TypeCount],
-    /// The other bicycles in its docks.
-    pub disabled: u32,
-    /// The docks that are empty and not broken.
-    pub docks_available: u32,
-    /// The broken docks.
-    pub docks_disabled: u32,
-}
-
-/// What a station's status tells beside its counts.
-#[derive(Clone, Copy, Debug)]
-pub struct StationReport<'a> {
-    /// The station.
-    pub station_id: &'a Ident,
-    /// Whether it stands at its place.
-    pub is_installed: bool,
-    /// Whether bicycles are rented there while it is installed.
-    pub is_renting: bool,
-    /// Whether bicycles are taken back there while it is installed.
-    pub is_returning: bool,
-    /// When it last reported.
-    pub reported: Moment,
-}
+use bike_summaries::{Counts, StationInfo, TypeCount};
 
 fn write_type_count<W: Output>(json: &mut JsonState, out: &mut W, count: &TypeCount)
     requires value { IsTrue (takes_value json.old.top) }
@@ -59,8 +19,13 @@ fn write_type_count<W: Output>(json: &mut JsonState, out: &mut W, count: &TypeCo
     ensures place { IsAt json.new (after_value json.old.top) json.old.round }
 {
     let _ = json.begin_object(out);
-    text_member(json, out, "vehicle_type_id", count.type_id.as_str());
-    whole_member(json, out, "count", count.count);
+    text_member(
+        json,
+        out,
+        member!("vehicle_type_id"),
+        count.type_id.as_str(),
+    );
+    whole_member(json, out, member!("count"), count.count);
     let _ = json.end_object(out);
 }
 
@@ -81,70 +46,90 @@ fn write_type_counts<W: Output>(json: &mut JsonState, out: &mut W, counts: &[Typ
 fn type_counts_member<W: Output>(
     json: &mut JsonState,
     out: &mut W,
-    name: &str,
+    name: MemberName,
     counts: &[TypeCount],
 )
     requires name { IsTrue (takes_name json.old.top) }
     requires room { length json.old.round < 15 }
-    ensures wrote { WroteMember json.old json.new (W.contents out.old) (W.contents out.new) name.now
+    ensures wrote { WroteMember json.old json.new (W.contents out.old) (W.contents out.new) name.plain.now
         (array (items type_count_tree counts.now)) }
     ensures place { IsAt json.new Level.FilledObject json.old.round }
 {
-    let _ = json.name(out, name);
+    let _ = json.member(out, name);
     let _ = json.begin_array(out);
     write_type_counts(json, out, counts);
     let _ = json.end_array(out);
 }
 
-fn counts_members<W: Output>(json: &mut JsonState, out: &mut W, counts: &Counts<'_>)
+fn counts_members<W: Output>(json: &mut JsonState, out: &mut W, counts: &Counts)
     requires top { json.old.top ≡ Level.FilledObject }
     requires room { length json.old.round < 15 }
     ensures wrote { WroteMembers json.old json.new (W.contents out.old) (W.contents out.new)
         (members (counts_members (counts_row counts.now))) }
     ensures place { IsAt json.new Level.FilledObject json.old.round }
 {
-    whole_member(json, out, "num_vehicles_available", counts.available);
-    type_counts_member(json, out, "vehicle_types_available", counts.by_type);
-    whole_member(json, out, "num_vehicles_disabled", counts.disabled);
-    whole_member(json, out, "num_docks_available", counts.docks_available);
-    whole_member(json, out, "num_docks_disabled", counts.docks_disabled);
+    whole_member(
+        json,
+        out,
+        member!("num_vehicles_available"),
+        counts.available,
+    );
+    type_counts_member(
+        json,
+        out,
+        member!("vehicle_types_available"),
+        counts.by_type.as_slice(),
+    );
+    whole_member(json, out, member!("num_vehicles_disabled"), counts.disabled);
+    whole_member(
+        json,
+        out,
+        member!("num_docks_available"),
+        counts.docks_available,
+    );
+    whole_member(
+        json,
+        out,
+        member!("num_docks_disabled"),
+        counts.docks_disabled,
+    );
 }
 
 /// Whether the station is installed and the flag is set.
-fn while_installed(station: &StationReport<'_>, flag: bool) -> bool
+fn while_installed(station: &StationInfo, flag: bool) -> bool
     ensures { result ≡ station.now.is_installed && flag }
 {
     station.is_installed && flag
 }
 
-fn report_members<W: Output>(json: &mut JsonState, out: &mut W, station: &StationReport<'_>)
+fn report_members<W: Output>(json: &mut JsonState, out: &mut W, station: &StationInfo)
     requires { json.old.top ≡ Level.FilledObject }
     ensures wrote { WroteMembers json.old json.new (W.contents out.old) (W.contents out.new)
         (members (report_members (report_row station.now))) }
     ensures place { IsAt json.new Level.FilledObject json.old.round }
 {
-    flag_member(json, out, "is_installed", station.is_installed);
+    flag_member(json, out, member!("is_installed"), station.is_installed);
     flag_member(
         json,
         out,
-        "is_renting",
+        member!("is_renting"),
         while_installed(station, station.is_renting),
     );
     flag_member(
         json,
         out,
-        "is_returning",
+        member!("is_returning"),
         while_installed(station, station.is_returning),
     );
-    moment_member(json, out, "last_reported", station.reported);
+    moment_member(json, out, member!("last_reported"), station.reported);
 }
 
 /// Writes the status of a station. It rents bicycles and takes them back only while it is installed.
 pub fn write_status<W: Output>(
     json: &mut JsonState,
     out: &mut W,
-    station: &StationReport<'_>,
-    counts: &Counts<'_>,
+    station: &StationInfo,
+    counts: &Counts,
 ) -> Result<(), WriteFault>
     requires value { IsTrue (takes_value json.old.top) }
     requires room { length json.old.round < 14 }
@@ -154,7 +139,12 @@ pub fn write_status<W: Output>(
     ensures outcome { is_ok result ≡ not json.new.failed }
 {
     let _ = json.begin_object(out);
-    text_member(json, out, "station_id", station.station_id.as_str());
+    text_member(
+        json,
+        out,
+        member!("station_id"),
+        station.station.station_id().as_str(),
+    );
     counts_members(json, out, counts);
     report_members(json, out, station);
     json.end_object(out)

@@ -13,7 +13,7 @@ use crate::members::{localized_member, text_member};
 use bike_catalogue::{MoreName, System};
 use bike_fields::Language;
 use bike_fixed::Moment;
-use bike_json::{JsonState, Level, Output};
+use bike_json::{JsonState, Level, Output, member};
 use bike_stream::WriteFault;
 
 /// Begins the feed `system_information` of a system for a moment, up to the first of its languages: that is the
@@ -32,8 +32,8 @@ pub fn open_information<W: Output>(
 {
     open_feed(json, out, system, moment);
     let _ = json.begin_object(out);
-    text_member(json, out, "system_id", system.system_id().as_str());
-    let _ = json.name(out, "languages");
+    text_member(json, out, member!("system_id"), system.system_id().as_str());
+    let _ = json.member(out, member!("languages"));
     json.begin_array(out)
 }
 
@@ -58,15 +58,20 @@ fn contact<W: Output>(json: &mut JsonState, out: &mut W, system: &System, names:
         (members (contact_members system.now names.now)) }
     ensures place { IsAt json.new Level.FilledObject in_feed }
 {
-    localized_member(json, out, "name", system, system.name(), names);
-    text_member(json, out, "opening_hours", system.opening_hours().as_str());
+    localized_member(json, out, member!("name"), system, system.name(), names);
     text_member(
         json,
         out,
-        "feed_contact_email",
+        member!("opening_hours"),
+        system.opening_hours().as_str(),
+    );
+    text_member(
+        json,
+        out,
+        member!("feed_contact_email"),
         system.feed_contact_email().as_str(),
     );
-    text_member(json, out, "timezone", system.timezone().as_str());
+    text_member(json, out, member!("timezone"), system.timezone().as_str());
 }
 
 /// Ends the feed `system_information` behind the last of its languages, with the system's further names.

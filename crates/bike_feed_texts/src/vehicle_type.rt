@@ -6,9 +6,9 @@ ghost use Rattle.bike_feed_texts.specs.Elements.{members, range_members, type_tr
 ghost use Rattle.bike_feed_texts.specs.Writing.{WroteMembers, WroteValue};
 
 use crate::members::{localized_member, text_member, whole_member};
-use bike_attributes::Propulsion;
 use bike_catalogue::{MoreName, System, VehicleType};
-use bike_json::{JsonState, Level, Output};
+use bike_fields::Propulsion;
+use bike_json::{JsonState, Level, Output, member};
 use bike_stream::WriteFault;
 
 /// The greatest range in metres, where the propulsion has one.
@@ -20,7 +20,7 @@ fn range_member<W: Output>(json: &mut JsonState, out: &mut W, propulsion: Propul
 {
     match propulsion {
         Propulsion::Human => {}
-        Propulsion::ElectricAssist => whole_member(json, out, "max_range_meters", metres),
+        Propulsion::ElectricAssist => whole_member(json, out, member!("max_range_meters"), metres),
     }
 }
 
@@ -44,17 +44,29 @@ pub fn write_type<W: Output>(
     text_member(
         json,
         out,
-        "vehicle_type_id",
+        member!("vehicle_type_id"),
         vehicle_type.type_id().as_str(),
     );
-    text_member(json, out, "form_factor", vehicle_type.form().as_str());
-    text_member(json, out, "propulsion_type", propulsion.as_str());
-    range_member(json, out, propulsion, vehicle_type.max_range().get());
-    localized_member(json, out, "name", system, vehicle_type.name(), names);
     text_member(
         json,
         out,
-        "default_pricing_plan_id",
+        member!("form_factor"),
+        vehicle_type.form().as_str(),
+    );
+    text_member(json, out, member!("propulsion_type"), propulsion.as_str());
+    range_member(json, out, propulsion, vehicle_type.max_range().get());
+    localized_member(
+        json,
+        out,
+        member!("name"),
+        system,
+        vehicle_type.name(),
+        names,
+    );
+    text_member(
+        json,
+        out,
+        member!("default_pricing_plan_id"),
         vehicle_type.plan_id().as_str(),
     );
     json.end_object(out)

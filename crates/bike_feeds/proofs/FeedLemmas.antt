@@ -1,5 +1,5 @@
 -- A feed of the system that the desk has.
-use Rattle.std.proofs.Common.{◌≡◌, ℕ, List, ◌++◌, length, Bool, true, false, not, Option, Some, None, Result, Ok, Err, OnOk, OnErr, refl, sym, ap, ◌∙◌, subst, arith}
+use Rattle.std.proofs.Common.{◌≡◌, ℕ, List, ◌++◌, Bool, true, false, not, Option, Some, None, Result, Ok, Err, OnOk, OnErr, refl, sym, ap, ◌∙◌, subst, arith}
 use Rattle.std.specs.Prelude.{MatchOption}
 use Rattle.std.specs.Result.{IsErrAnd}
 use Rattle.std.specs.Io.KnownBytes.{Keeps, Appends}
@@ -25,16 +25,16 @@ use Rattle.bike_feeds.specs.declared.fault.FeedFault.TheVariants.{SystemMissing,
 use Rattle.bike_feeds.specs.Publishing.{LeavesDesk, feed_text, IsPublished, IsBegun}
 use Rattle.bike_feeds.specs.Listings.{elements, listing_text}
 use Rattle.bike_feeds.specs.declared.listing.Listing.{Listing}
-use Rattle.bike_feeds.specs.Walking.{StaysAt, WritesItems, WritesText, IsCounted}
+use Rattle.bike_feeds.specs.Walking.{StaysAt, WritesItems, WritesText}
 use Rattle.bike_feeds.proofs.DeskLemmas.{earlier, stays_still, stays_asked, leaves_ok, leaves_missing, leaves_then}
 use Rattle.bike_feeds.proofs.TextLemmas.{text_told, text_cut, text_passed}
 
 -- ---- one feed of a system
 
 -- the text of one list
-pub listed : {S A : Type 0} (g : Ghosts S) (x : SystemRow) (moment : ℕ) {list : Listing} (kind : Listing) (is : list ≡ kind) {d e : DeskValue S} {a b : OutputState} {count : ℕ} {result : Result A FeedFault}
-    → WritesText g d e a b count result (λ s. listing_text s x list moment) → WritesText g d e a b count result (λ s. listing_text s x kind moment)
-listed g x moment kind is {d} {e} {a} {b} {count} {result} w = subst (λ (l : Listing). WritesText g d e a b count result (λ s. listing_text s x l moment)) is w
+pub listed : {S A : Type 0} (g : Ghosts S) (x : SystemRow) (moment : ℕ) {list : Listing} (kind : Listing) (is : list ≡ kind) {d e : DeskValue S} {a b : OutputState} {result : Result A FeedFault}
+    → WritesText g d e a b result (λ s. listing_text s x list moment) → WritesText g d e a b result (λ s. listing_text s x kind moment)
+listed g x moment kind is {d} {e} {a} {b} {result} w = subst (λ (l : Listing). WritesText g d e a b result (λ s. listing_text s x l moment)) is w
 
 -- the elements of one list
 pub elements_as : {S A : Type 0} (g : Ghosts S) (x : SystemRow) {list : Listing} (kind : Listing) (is : list ≡ kind) {d e : DeskValue S} {p q : Place} {a b : OutputState} {result : Result A FeedFault}
@@ -45,19 +45,19 @@ value_wrote : {p t : Place} {a b : OutputState} {v : Tree} → p ≡ outset → 
 value_wrote {p} {t} {a} {b} {v} start w = Wrote_as (ap (λ (y : Place). comma (has_more y.top) ++ text_of v) start) w.are
 
 module _ {S : Type 0} (g : Ghosts S) (x : SystemRow) (moment : ℕ) {feed : Feed} (kind : Feed) (is : feed ≡ kind) where
-  pub feed_as : {A : Type 0} {d e : DeskValue S} {a b : OutputState} {count : ℕ} {result : Result A FeedFault}
-      → WritesText g d e a b count result (λ s. feed_text s x kind moment) → WritesText g d e a b count result (λ s. feed_text s x feed moment)
-  feed_as {A} {d} {e} {a} {b} {count} {result} w = subst (λ (f : Feed). WritesText g d e a b count result (λ s. feed_text s x f moment)) (sym is) w
+  pub feed_as : {A : Type 0} {d e : DeskValue S} {a b : OutputState} {result : Result A FeedFault}
+      → WritesText g d e a b result (λ s. feed_text s x kind moment) → WritesText g d e a b result (λ s. feed_text s x feed moment)
+  feed_as {A} {d} {e} {a} {b} {result} w = subst (λ (f : Feed). WritesText g d e a b result (λ s. feed_text s x f moment)) (sym is) w
 
   -- a feed that depends on no more than the system
   module _ {d : DeskValue S} {p t : Place} {a b : OutputState} (start : p ≡ outset) (going : d.is_stopped ≡ false)
       (wrote : (s : Operator) → WroteValue p t a b (feed_tree s x kind moment)) where
-    pub value_done : {A : Type 0} (v : A) → true ≡ not t.failed → WritesText g d d a b t.count (Ok v) (λ s. feed_text s x feed moment)
+    pub value_done : {A : Type 0} (v : A) → true ≡ not t.failed → WritesText g d d a b (Ok v) (λ s. feed_text s x feed moment)
     value_done v well =
         feed_as (text_told g (λ s. feed_text s x kind moment) v v start (leaves_ok g v (stays_still g d going)) (λ clean s at. value_wrote start (wrote s)) going well)
 
-    pub value_cut : {A : Type 0} {count : ℕ} (v : A) (result : Result A FeedFault) → IsErrAnd result (λ told. told ≡ Write) → false ≡ not t.failed
-        → WritesText g d d a b count result (λ s. feed_text s x feed moment)
+    pub value_cut : {A : Type 0} (v : A) (result : Result A FeedFault) → IsErrAnd result (λ told. told ≡ Write) → false ≡ not t.failed
+        → WritesText g d d a b result (λ s. feed_text s x feed moment)
     value_cut v result told failed = feed_as (text_passed g (λ s. feed_text s x kind moment) Write result told
         (text_cut g (λ s. feed_text s x kind moment) v start (leaves_ok g v (stays_still g d going)) (λ clean s at. value_wrote start (wrote s)) going failed))
 
@@ -82,10 +82,10 @@ was_going g {d} x q = go d.is_stopped refl where
   go true is = let it = (q.stays is).0 in absurd cc
   go false is = is
 
-counted : {A : Type 0} (s : Operator) (x : SystemRow) (feed : Feed) (moment : ℕ) (a b : Option (List ℕ)) (count : ℕ) (r : Result A FeedFault) → s.system ≡ Some x
-    → OnOk r (Appends a b (feed_text s x feed moment) × (count ≡ length (feed_text s x feed moment))) → OnOk r (IsCounted s feed moment a b count)
-counted s x feed moment a b count (Ok y) set h = (x, set, h.0, h.1)
-counted s x feed moment a b count (Err e) set h = tt
+published : {A : Type 0} (s : Operator) (x : SystemRow) (feed : Feed) (moment : ℕ) (a b : Option (List ℕ)) (r : Result A FeedFault) → s.system ≡ Some x
+    → OnOk r (Appends a b (feed_text s x feed moment)) → OnOk r (IsPublished s feed moment a b)
+published s x feed moment a b (Ok y) set h = (x, set, h)
+published s x feed moment a b (Err e) set h = tt
 
 begun : {A : Type 0} (s : Operator) (x : SystemRow) (feed : Feed) (moment : ℕ) (a b : Option (List ℕ)) (r : Result A FeedFault) → s.system ≡ Some x
     → OnErr r (AppendsFront a b (feed_text s x feed moment)) → OnErr r (IsBegun s feed moment a b)
@@ -102,16 +102,16 @@ module _ {S : Type 0} (g : Ghosts S) {d e : DeskValue S} (o : Option SystemRow) 
   has : (x : SystemRow) → o ≡ Some x → HasCleanDisk (desk_state g e) → (s : Operator) → IsAt g d s → s.system ≡ Some x
   has x is clean s at = sym (q.ok clean s at).0 ∙ is
 
-  pub publish_leaves : {A : Type 0} {f : DeskValue S} {a b : OutputState} {count : ℕ} {result : Result A FeedFault} {text : Operator → List ℕ}
-      → WritesText g e f a b count result text → LeavesDesk g d f result
+  pub publish_leaves : {A : Type 0} {f : DeskValue S} {a b : OutputState} {result : Result A FeedFault} {text : Operator → List ℕ}
+      → WritesText g e f a b result text → LeavesDesk g d f result
   publish_leaves w = leaves_then g asked w.desk
 
-  module _ {A : Type 0} {f : DeskValue S} (x : SystemRow) (is : o ≡ Some x) (feed : Feed) (moment : ℕ) {a b : OutputState} {count : ℕ} (result : Result A FeedFault)
-      (w : WritesText g e f a b count result (λ s. feed_text s x feed moment)) where
-    pub publish_whole : HasCleanDisk (desk_state g f) → (s : Operator) → IsAt g d s → OnOk result (IsCounted s feed moment a.bytes b.bytes count)
+  module _ {A : Type 0} {f : DeskValue S} (x : SystemRow) (is : o ≡ Some x) (feed : Feed) (moment : ℕ) {a b : OutputState} (result : Result A FeedFault)
+      (w : WritesText g e f a b result (λ s. feed_text s x feed moment)) where
+    pub publish_whole : HasCleanDisk (desk_state g f) → (s : Operator) → IsAt g d s → OnOk result (IsPublished s feed moment a.bytes b.bytes)
     publish_whole clean s at =
         let before = earlier g e f w.desk.clean clean in
-        counted s x feed moment a.bytes b.bytes count result (has x is before s at) (w.whole clean s (asked.same before s at))
+        published s x feed moment a.bytes b.bytes result (has x is before s at) (w.whole clean s (asked.same before s at))
 
     pub publish_front : HasCleanDisk (desk_state g f) → (s : Operator) → IsAt g d s → OnErr result (IsBegun s feed moment a.bytes b.bytes)
     publish_front clean s at =
@@ -139,10 +139,3 @@ pub leaves_unasked : {S A B : Type 0} (g : Ghosts S) {says : Operator → A → 
     → IsErrAnd result (λ told. told ≡ Desk fault) → Queries g d e (Err fault) says → LeavesDesk g d e result
 leaves_unasked g fault (Ok x) told q = absurd told
 leaves_unasked {B = B} g {d = d} {e = e} fault (Err other) told q = subst (λ (f : FeedFault). LeavesDesk g d e {A = B} (Err f)) (sym told) (leaves_first g fault q)
-
--- ---- what callers are told
-
-pub published : {A : Type 0} (s : Operator) (feed : Feed) (moment : ℕ) (a b : Option (List ℕ)) (count : ℕ) (r : Result A FeedFault) → OnOk r (IsCounted s feed moment a b count)
-    → OnOk r (IsPublished s feed moment a b)
-published s feed moment a b count (Ok x) h = (h.0, h.1, h.2)
-published s feed moment a b count (Err e) h = tt

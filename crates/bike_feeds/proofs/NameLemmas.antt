@@ -10,8 +10,8 @@ use Rattle.bike_catalogue.specs.Rows.{MoreNameRow, SystemRow}
 use Rattle.bike_json.specs.Outputs.{OutputState}
 use Rattle.bike_json.specs.Tree.{Tree}
 use Rattle.bike_json.specs.State.{Place, IsAt as IsIn, after_value}
-use Rattle.bike_attributes.specs.declared.name_kind.NameKind.{NameKind}
-use Rattle.bike_attributes.specs.declared.name_kind.NameKind.TheVariants as named
+use Rattle.bike_fields.specs.declared.name_kind.NameKind.{NameKind}
+use Rattle.bike_fields.specs.declared.name_kind.NameKind.TheVariants as named
 use Rattle.bike_operator.specs.Operator.{Operator, Station, text_cmp}
 use Rattle.bike_operator.specs.Names.{further_names}
 use Rattle.bike_feed_texts.specs.Trees.{names_by_language}

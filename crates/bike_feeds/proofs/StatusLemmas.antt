@@ -10,16 +10,16 @@ use Rattle.bike_json.specs.Outputs.{OutputState}
 use Rattle.bike_json.specs.State.{Place, IsAt as IsIn, after_value}
 use Rattle.bike_operator.specs.Operator.{Operator, Station}
 use Rattle.bike_operator.specs.Sound.{IsSound}
-use Rattle.bike_feed_texts.specs.declared.status.TypeCount.{TypeCount}
-use Rattle.bike_attributes.specs.declared.name_kind.NameKind.TheVariants as named
+use Rattle.bike_summaries.specs.declared.station.TypeCount.{TypeCount}
+use Rattle.bike_fields.specs.declared.name_kind.NameKind.TheVariants as named
 use Rattle.bike_operator.specs.Names.{further_names}
 use Rattle.bike_feed_texts.specs.Elements.{station_tree, status_tree}
 use Rattle.bike_feed_texts.specs.Trees.{report_of, counts_of}
-use Rattle.bike_feed_texts.specs.Writing.{WroteValue}
+use Rattle.bike_feed_texts.specs.Writing.{WroteValue, counts_row}
 use Rattle.bike_queries.specs.After.{station_of}
 use Rattle.bike_queries.specs.Pages.{IsNamedStation, IsStatusOf}
-use Rattle.bike_queries.proofs.TallyLemmas.{all_types}
-use Rattle.bike_queries.specs.declared.counts.Counts.{Counts}
+use Rattle.bike_queries.proofs.CountLemmas.{all_types}
+use Rattle.bike_summaries.specs.declared.station.Counts.{Counts}
 use Rattle.bike_queries.specs.declared.stations.NamedStation.{NamedStation}
 use Rattle.bike_queries.specs.declared.status.StationStatus.{StationStatus}
 use Rattle.bike_queries.specs.StationCounts.{AreCountsOf, type_count}
@@ -27,7 +27,6 @@ use Rattle.bike_desk.specs.declared.fault.DeskFault.{DeskFault}
 use Rattle.bike_desk.specs.Desk.{DeskValue, desk_state, IsAt}
 use Rattle.bike_desk.specs.Queries.{Queries}
 use Rattle.bike_desk.proofs.KeepLemmas.{kept_stores}
-use Rattle.bike_feeds.specs.Walking.{shown_counts}
 use Rattle.bike_feeds.proofs.After.{map_found}
 use Rattle.bike_feeds.proofs.DeskLemmas.{earlier}
 use Rattle.bike_feeds.proofs.WalkLemmas.{Walks, Passes, walk_writes}
@@ -43,7 +42,7 @@ module _ (s : Operator) (sound : IsSound s) (station : List ℕ) where
       ap₂ (λ (c : TypeCount) (cs : List TypeCount). c ∷ cs) (ap (type_count s station) same)
       (types_same (front ++ e ∷ []) es (split ∙ sym (append_assoc front (e ∷ []) es)))
 
-counts_same : (s : Operator) → IsSound s → (x : Station) (c : Counts) → AreCountsOf s x.row.station_id x c → shown_counts c ≡ counts_of s x
+counts_same : (s : Operator) → IsSound s → (x : Station) (c : Counts) → AreCountsOf s x.row.station_id x c → counts_row c ≡ counts_of s x
 counts_same s sound x c are =
     let by_type = are.by_type ∙ types_same s sound x.row.station_id [] (entries s.types) refl in
     λ i. record { available = are.available i; by_type = by_type i; disabled = are.disabled i; docks_available = are.docks_available i; docks_disabled = are.docks_disabled i }
@@ -63,7 +62,7 @@ module _ {S : Type 0} (g : Ghosts S) where
   -- a status is written from what was read of the station
   pub status_writes : {d e : DeskValue S} {p q r : Place} {a b c : OutputState} {ids : List (List ℕ)} {left : List StationStatus} (x : StationStatus)
       → Walks g statuses (Some (station_of x.info)) d e p q a b → KnowsTypes ids d e → Ahead g (λ s. IsStatusOf s ids) (Some x) left d e
-      → WroteValue q r b c (status_tree (report_of (station_of x.info)) (shown_counts x.counts)) → IsIn r (after_value q.top) q.round
+      → WroteValue q r b c (status_tree (report_of (station_of x.info)) (counts_row x.counts)) → IsIn r (after_value q.top) q.round
       → Passes g statuses (station_of x.info) d e p r a c
   status_writes {e = e} {q = q} {r = r} {b = b} {c = c} {ids = ids} x w known ahead wrote place =
       walk_writes g statuses (station_of x.info) w (λ clean s at.

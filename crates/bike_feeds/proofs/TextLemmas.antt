@@ -14,7 +14,7 @@ use Rattle.bike_feed_texts.specs.Writing.{list_head_text, list_end_text, informa
 use Rattle.bike_feed_texts.specs.declared.feed.Feed.TheVariants.{SystemInformation}
 use Rattle.bike_feed_texts.specs.Trees.{feed_tree}
 use Rattle.bike_feed_texts.proofs.Frames.{list_text, information_text}
-use Rattle.bike_attributes.specs.declared.name_kind.NameKind.TheVariants as named
+use Rattle.bike_fields.specs.declared.name_kind.NameKind.TheVariants as named
 use Rattle.bike_operator.specs.Operator.{Operator}
 use Rattle.bike_operator.specs.Names.{further_names}
 use Rattle.bike_desk.specs.Desk.{DeskValue, desk_state, IsAt}
@@ -42,22 +42,19 @@ module _ {S : Type 0} (g : Ghosts S) (text : Operator → List ℕ) where
   -- all was written from the outset, and the desk stays
   pub text_told : {A B : Type 0} {d e : DeskValue S} {p t : Place} {a b : OutputState} (x : A) (u : B) → p ≡ outset → LeavesDesk g d e (Ok u)
       → (HasCleanDisk (desk_state g e) → (s : Operator) → IsAt g d s → Wrote p t a b (text s)) → d.is_stopped ≡ false → true ≡ not t.failed
-      → WritesText g d e a b t.count (Ok x) text
-  text_told {p = p} {t = t} x u start leaves wrote going well = record {
+      → WritesText g d e a b (Ok x) text
+  text_told x u start leaves wrote going well = record {
     desk = leaves_ok g x (left_well g u going leaves);
     takes_none = λ is. absurd cc;
-    whole = λ clean s at.
-        let told = Wrote_ok {E = FeedFault} (Ok x) (wrote clean s at) (ap (λ (y : Place). y.failed) start) well in
-        let none : p.count ≡ 0 = ap (λ (y : Place). y.count) start in
-        (told.0, omega (arith, told.1, none));
+    whole = λ clean s at. (Wrote_ok {E = FeedFault} (Ok x) (wrote clean s at) (ap (λ (y : Place). y.failed) start) well).0;
     front = λ clean s at. tt;
     cause = λ clean s at is. absurd cc;
   }
 
   -- a write failed
-  pub text_cut : {A B : Type 0} {d e : DeskValue S} {p t : Place} {a b : OutputState} {count : ℕ} (u : B) → p ≡ outset → LeavesDesk g d e (Ok u)
+  pub text_cut : {A B : Type 0} {d e : DeskValue S} {p t : Place} {a b : OutputState} (u : B) → p ≡ outset → LeavesDesk g d e (Ok u)
       → (HasCleanDisk (desk_state g e) → (s : Operator) → IsAt g d s → Wrote p t a b (text s)) → d.is_stopped ≡ false → false ≡ not t.failed
-      → WritesText g d e a b count {A = A} (Err Write) text
+      → WritesText g d e a b {A = A} (Err Write) text
   text_cut {A} {a = a} u start leaves wrote going failed = record {
     desk = leaves_write g (left_well g u going leaves);
     takes_none = λ is. absurd cc;
@@ -68,10 +65,10 @@ module _ {S : Type 0} (g : Ghosts S) (text : Operator → List ℕ) where
   }
 
   -- the fault that a function hands on
-  pub text_passed : {A : Type 0} {d e : DeskValue S} {a b : OutputState} {count : ℕ} (fault : FeedFault) (result : Result A FeedFault) → IsErrAnd result (λ told. told ≡ fault)
-      → WritesText g d e a b count {A = A} (Err fault) text → WritesText g d e a b count result text
+  pub text_passed : {A : Type 0} {d e : DeskValue S} {a b : OutputState} (fault : FeedFault) (result : Result A FeedFault) → IsErrAnd result (λ told. told ≡ fault)
+      → WritesText g d e a b {A = A} (Err fault) text → WritesText g d e a b result text
   text_passed fault (Ok x) is w = absurd is
-  text_passed {A} {d} {e} {a} {b} {count} fault (Err told) is w = subst (λ (f : FeedFault). WritesText g d e a b count {A = A} (Err f) text) (sym is) w
+  text_passed {A} {d} {e} {a} {b} fault (Err told) is w = subst (λ (f : FeedFault). WritesText g d e a b {A = A} (Err f) text) (sym is) w
 
 -- What stands before the items of a list and behind them, and the whole text.
 pub record Parts : Type 0 where
@@ -115,12 +112,12 @@ module _ {S : Type 0} (g : Ghosts S) (t : Parts) where
 
   pub list_done : {A B : Type 0} {d e : DeskValue S} {p q r v : Place} {a b c f : OutputState} (x : B) (u : A) → p ≡ outset → Wrote p q a b t.head
       → WritesItems g d e q r b c (Ok u) t.them → (HasCleanDisk (desk_state g e) → (s : Operator) → IsAt g d s → Wrote r v c f (t.tail s)) → d.is_stopped ≡ false
-      → true ≡ not v.failed → WritesText g d e a f v.count (Ok x) t.text
+      → true ≡ not v.failed → WritesText g d e a f (Ok x) t.text
   list_done x u start head them end going well = text_told g t.text x u start them.desk (list_wrote u head them end) going well
 
   -- a write failed: in the head, or behind the elements
-  pub head_cut : {A : Type 0} {d : DeskValue S} {p q : Place} {a b : OutputState} {count : ℕ} (result : Result A FeedFault) → IsErrAnd result (λ told. told ≡ Write) → p ≡ outset
-      → Wrote p q a b t.head → d.is_stopped ≡ false → false ≡ not q.failed → WritesText g d d a b count result t.text
+  pub head_cut : {A : Type 0} {d : DeskValue S} {p q : Place} {a b : OutputState} (result : Result A FeedFault) → IsErrAnd result (λ told. told ≡ Write) → p ≡ outset
+      → Wrote p q a b t.head → d.is_stopped ≡ false → false ≡ not q.failed → WritesText g d d a b result t.text
   head_cut {A} {a = a} {b = b} result told start head going failed = text_passed g t.text Write result told (record {
     desk = leaves_write g (stays_still g _ going);
     takes_none = λ is. absurd cc;
@@ -134,14 +131,14 @@ module _ {S : Type 0} (g : Ghosts S) (t : Parts) where
         (subst (MayFail a _) (sym (t.is s)) (fails_first a _ t.head (items_of s ++ t.tail s) why));
   })
 
-  pub end_cut : {A B : Type 0} {d e : DeskValue S} {p q r v : Place} {a b c f : OutputState} {count : ℕ} (result : Result B FeedFault) (u : A) → IsErrAnd result (λ told. told ≡ Write)
+  pub end_cut : {A B : Type 0} {d e : DeskValue S} {p q r v : Place} {a b c f : OutputState} (result : Result B FeedFault) (u : A) → IsErrAnd result (λ told. told ≡ Write)
       → p ≡ outset → Wrote p q a b t.head → WritesItems g d e q r b c (Ok u) t.them
-      → (HasCleanDisk (desk_state g e) → (s : Operator) → IsAt g d s → Wrote r v c f (t.tail s)) → d.is_stopped ≡ false → false ≡ not v.failed → WritesText g d e a f count result t.text
+      → (HasCleanDisk (desk_state g e) → (s : Operator) → IsAt g d s → Wrote r v c f (t.tail s)) → d.is_stopped ≡ false → false ≡ not v.failed → WritesText g d e a f result t.text
   end_cut result u told start head them end going failed = text_passed g t.text Write result told (text_cut g t.text u start them.desk (list_wrote u head them end) going failed)
 
   -- a fault in the midst of the elements, or behind them
-  pub list_failed : {A B : Type 0} {d e : DeskValue S} {p q r : Place} {a b c : OutputState} {count : ℕ} (fault : FeedFault) (result : Result B FeedFault) → IsErrAnd result (λ told. told ≡ fault)
-      → p ≡ outset → Wrote p q a b t.head → WritesItems g d e q r b c {A = A} (Err fault) t.them → true ≡ not q.failed → WritesText g d e a c count result t.text
+  pub list_failed : {A B : Type 0} {d e : DeskValue S} {p q r : Place} {a b c : OutputState} (fault : FeedFault) (result : Result B FeedFault) → IsErrAnd result (λ told. told ≡ fault)
+      → p ≡ outset → Wrote p q a b t.head → WritesItems g d e q r b c {A = A} (Err fault) t.them → true ≡ not q.failed → WritesText g d e a c result t.text
   list_failed {p = p} {q = q} {a = a} {b = b} {c = c} fault result told start head them well = text_passed g t.text fault result told (record {
     desk = leaves_same g fault them.desk;
     takes_none = λ is. them.takes_none (same_fault is);

@@ -1,5 +1,5 @@
 -- What the functions owe of which a feed is made, and what holds between two questions to the desk.
-use Rattle.std.specs.Prelude.{◌≡◌, ◌≤◌, ◌+◌, ◌⊎◌, ℕ, List, length, false, IsTrue, Option, Some, Result, Err, OnOk, OnErr}
+use Rattle.std.specs.Prelude.{◌≡◌, ◌≤◌, ◌+◌, ◌⊎◌, ℕ, List, length, false, IsTrue, Result, Err, OnOk, OnErr}
 use Rattle.std.specs.Io.KnownBytes.{Appends}
 use Rattle.sqlite_trees.specs.View.{doubt}
 use Rattle.sqlite_trees.specs.declared.store.Store.{Ghosts}
@@ -8,16 +8,12 @@ use Rattle.bike_json.specs.Outputs.{OutputState}
 use Rattle.bike_json.specs.Tree.{Items, items_text}
 use Rattle.bike_json.specs.Rows.{WroteFront}
 use Rattle.bike_json.specs.State.{Place, Wrote, MayFail, greatest_count, takes_array_end}
-use Rattle.bike_catalogue.specs.Rows.{SystemRow}
 use Rattle.bike_operator.specs.Operator.{Operator}
-use Rattle.bike_feed_texts.specs.declared.feed.Feed.{Feed}
-use Rattle.bike_feed_texts.specs.Elements.{CountsRow}
-use Rattle.bike_queries.specs.declared.counts.Counts.{Counts}
 use Rattle.bike_schema.specs.Stands.{AllLeft}
 use Rattle.bike_desk.specs.Desk.{DeskValue, desk_state, IsAt, OfOperator, KeepsDatabase}
 use Rattle.bike_feeds.specs.declared.fault.FeedFault.{FeedFault}
 use Rattle.bike_feeds.specs.declared.fault.FeedFault.TheVariants.{Write}
-use Rattle.bike_feeds.specs.Publishing.{LeavesDesk, WantsNoMemory, feed_text}
+use Rattle.bike_feeds.specs.Publishing.{LeavesDesk, WantsNoMemory}
 
 -- the desk was asked, goes on, and is at the operator at which it was
 pub record StaysAt {S : Type 0} (g : Ghosts S) (old new : DeskValue S) : Type 0 where
@@ -44,26 +40,11 @@ pub record WritesItems {S : Type 0} (g : Ghosts S) (old new : DeskValue S) (from
   pub inside : IsTrue (takes_array_end to.top)
   pub round : to.round ≡ from.round
 
--- A WHOLE TEXT was written and counted, or at a fault a front of it and not all
-pub record WritesText {S : Type 0} (g : Ghosts S) (old new : DeskValue S) (before after : OutputState) (count : ℕ) {A : Type 0} (result : Result A FeedFault)
+-- A WHOLE TEXT was written, or at a fault a front of it and not all
+pub record WritesText {S : Type 0} (g : Ghosts S) (old new : DeskValue S) (before after : OutputState) {A : Type 0} (result : Result A FeedFault)
     (text : Operator → List ℕ) : Type 0 where
   pub desk : LeavesDesk g old new result
   pub takes_none : WantsNoMemory result
-  pub whole : OfOperator g old new (λ s.
-      OnOk result (Appends before.bytes after.bytes (text s) × (count ≡ length (text s))))
+  pub whole : OfOperator g old new (λ s. OnOk result (Appends before.bytes after.bytes (text s)))
   pub front : OfOperator g old new (λ s. OnErr result (AppendsFront before.bytes after.bytes (text s)))
   pub cause : OfOperator g old new (λ s. result ≡ Err Write → MayFail before 0 (text s))
-
--- the whole feed was written, and counted
-abbrev pub IsCounted : Operator → Feed → ℕ → Option (List ℕ) → Option (List ℕ) → ℕ → Type 0
-IsCounted s feed moment old new count = (x : SystemRow) × (s.system ≡ Some x) × Appends old new (feed_text s x feed moment) × (count ≡ length (feed_text s x feed moment))
-
--- the counts that were read of a station, as its status shows them
-abbrev pub shown_counts : Counts → CountsRow
-shown_counts c = record {
-  available = c.available;
-  by_type = c.by_type.items;
-  disabled = c.disabled;
-  docks_available = c.docks_available;
-  docks_disabled = c.docks_disabled;
-}

@@ -5,7 +5,7 @@ ghost use Rattle.std.specs.Io.KnownBytes.{Keeps};
 ghost use Rattle.bike_json.specs.State.{outset};
 ghost use Rattle.bike_desk.specs.Desk.{OfOperator};
 ghost use Rattle.bike_feeds.specs.Publishing.{feed_text, IsPublished, IsBegun, LeavesDesk, WantsNoMemory};
-ghost use Rattle.bike_feeds.specs.Walking.{IsCounted, WritesText};
+ghost use Rattle.bike_feeds.specs.Walking.{WritesText};
 
 use crate::fault::FeedFault;
 use crate::list::{write_listing, write_system_information};
@@ -31,7 +31,7 @@ fn write_of_system<S: Alter, W: Output>(
 ) -> Result<(), FeedFault>
     requires going { desk.old.is_stopped ≡ false }
     requires start { json.old ≡ outset }
-    ensures { WritesText S.Store desk.old desk.new (W.contents out.old) (W.contents out.new) json.new.count result
+    ensures { WritesText S.Store desk.old desk.new (W.contents out.old) (W.contents out.new) result
         (λ s. feed_text s system.now feed moment) }
 {
     let listing = match feed {
@@ -49,32 +49,6 @@ fn write_of_system<S: Alter, W: Output>(
         Feed::SystemRegions => Listing::Regions,
     };
     write_listing(alloc, desk, system, listing, moment, json, out)
-}
-
-/// Writes the feed of the system that the desk has, and counts what it writes.
-fn publish<S: Alter, W: Output>(
-    alloc: Global,
-    desk: &mut Desk<S>,
-    feed: Feed,
-    moment: Moment,
-    json: &mut JsonState,
-    out: &mut W,
-) -> Result<(), FeedFault>
-    requires { json.old ≡ outset }
-    // The desk.
-    ensures desk { LeavesDesk S.Store desk.old desk.new result }
-    ensures takes_none { WantsNoMemory result }
-    // The text: all of it, a front of it where it failed, nothing of a stopped desk.
-    ensures whole { OfOperator S.Store desk.old desk.new (λ s.
-        OnOk result (IsCounted s feed moment (W.contents out.old).bytes (W.contents out.new).bytes json.new.count)) }
-    ensures front { OfOperator S.Store desk.old desk.new (λ s.
-        OnErr result (IsBegun s feed moment (W.contents out.old).bytes (W.contents out.new).bytes)) }
-    ensures nothing { IsTrue desk.old.is_stopped → Keeps (W.contents out.old).bytes (W.contents out.new).bytes }
-{
-    let Some(system) = desk.system(alloc)? else {
-        return Err(FeedFault::SystemMissing);
-    };
-    write_of_system(alloc, desk, &system, feed, moment, json, out)
 }
 
 /// Writes the feed for a moment: the text of the operator for which the desk stands, and nothing else.
@@ -98,6 +72,9 @@ pub fn write_feed<S: Alter, W: Write>(
         OnErr result (IsBegun s feed moment (W.contents out.old) (W.contents out.new))) }
     ensures nothing { IsTrue desk.old.is_stopped → Keeps (W.contents out.old) (W.contents out.new) }
 {
+    let Some(system) = desk.system(alloc)? else {
+        return Err(FeedFault::SystemMissing);
+    };
     let mut json = JsonState::new();
-    publish(alloc, desk, feed, moment, &mut json, out)
+    write_of_system(alloc, desk, &system, feed, moment, &mut json, out)
 }

@@ -7,10 +7,10 @@ ghost use Rattle.bike_json.specs.State.{IsAt as IsIn, takes_value, after_value};
 ghost use Rattle.bike_json.specs.Tree.{text};
 ghost use Rattle.bike_feed_texts.specs.Elements.{station_tree, status_tree};
 ghost use Rattle.bike_feed_texts.specs.Trees.{report_of, further_languages};
-ghost use Rattle.bike_feed_texts.specs.Writing.{WroteValue, in_list};
+ghost use Rattle.bike_feed_texts.specs.Writing.{WroteValue, counts_row, in_list};
 ghost use Rattle.bike_queries.specs.After.{station_of};
 ghost use Rattle.bike_feeds.specs.Listings.{elements, statuses};
-ghost use Rattle.bike_feeds.specs.Walking.{WritesItems, shown_counts};
+ghost use Rattle.bike_feeds.specs.Walking.{WritesItems};
 ghost use Rattle.bike_feeds.specs.declared.listing.Listing.TheVariants.{Stations};
 
 use crate::fault::FeedFault;
@@ -20,7 +20,7 @@ use crate::names::is_translated;
 use crate::pages::{next_station, next_status};
 use bike_catalogue::{Plan, Region, System, VehicleType};
 use bike_desk::Desk;
-use bike_feed_texts::{Counts, StationReport, write_language, write_station, write_status};
+use bike_feed_texts::{write_language, write_station, write_status};
 use bike_json::{JsonState, Level, Output};
 use bike_queries::{NamedStation, StationStatus};
 use bike_stream::WriteFault;
@@ -112,26 +112,11 @@ fn write_report<W: Output>(
     requires value { IsTrue (takes_value json.old.top) }
     requires room { length json.old.round < 14 }
     ensures wrote { WroteValue json.old json.new (W.contents out.old) (W.contents out.new)
-        (status_tree (report_of (station_of status.now.info)) (shown_counts status.now.counts)) }
+        (status_tree (report_of (station_of status.now.info)) (counts_row status.now.counts)) }
     ensures place { IsIn json.new (after_value json.old.top) json.old.round }
     ensures outcome { is_ok result ≡ not json.new.failed }
 {
-    let StationStatus { info, counts } = status;
-    let report = StationReport {
-        station_id: info.station.station_id(),
-        is_installed: info.is_installed,
-        is_renting: info.is_renting,
-        is_returning: info.is_returning,
-        reported: info.reported,
-    };
-    let shown = Counts {
-        available: counts.available,
-        by_type: counts.by_type.as_slice(),
-        disabled: counts.disabled,
-        docks_available: counts.docks_available,
-        docks_disabled: counts.docks_disabled,
-    };
-    write_status(json, out, &report, &shown)
+    write_status(json, out, &status.info, &status.counts)
 }
 
 /// Writes the stations' statuses as items. The types' identifiers are read once, before the first station.

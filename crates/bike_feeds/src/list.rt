@@ -9,10 +9,10 @@ ghost use Rattle.bike_feeds.specs.Walking.{WritesText};
 use crate::fault::FeedFault;
 use crate::items::{write_elements, write_languages};
 use crate::listing::Listing;
-use bike_attributes::NameKind;
 use bike_catalogue::System;
 use bike_desk::Desk;
 use bike_feed_texts::{Feed, close_information, close_list, open_information, open_list};
+use bike_fields::NameKind;
 use bike_fixed::Moment;
 use bike_json::{JsonState, Output};
 use sqlite::Alter;
@@ -29,7 +29,7 @@ pub(crate) fn write_system_information<S: Alter, W: Output>(
 ) -> Result<(), FeedFault>
     requires going { desk.old.is_stopped ≡ false }
     requires start { json.old ≡ outset }
-    ensures { WritesText S.Store desk.old desk.new (W.contents out.old) (W.contents out.new) json.new.count result
+    ensures { WritesText S.Store desk.old desk.new (W.contents out.old) (W.contents out.new) result
         (λ s. feed_text s system.now Feed.SystemInformation moment) }
 {
     open_information(json, out, system, moment)?;
@@ -51,7 +51,7 @@ pub(crate) fn write_listing<S: Alter, W: Output>(
 ) -> Result<(), FeedFault>
     requires going { desk.old.is_stopped ≡ false }
     requires start { json.old ≡ outset }
-    ensures { WritesText S.Store desk.old desk.new (W.contents out.old) (W.contents out.new) json.new.count result
+    ensures { WritesText S.Store desk.old desk.new (W.contents out.old) (W.contents out.new) result
         (λ s. listing_text s system.now listing moment) }
 {
     open_list(json, out, system, moment, listing.name())?;

@@ -14,11 +14,10 @@ ghost use Rattle.bike_queries.specs.Pages.{IsTold};
 ghost use Rattle.bike_desk.specs.Queries.{Queries};
 
 use crate::names::find_names;
-use bike_attributes::NameKind;
 use bike_catalogue::{MoreName, Plan, Region, System, VehicleType};
 use bike_desk::{Desk, DeskFault};
 use bike_feed_texts::{write_plan, write_region, write_type};
-use bike_fields::Ident;
+use bike_fields::{Ident, NameKind};
 use bike_json::{JsonState, Output};
 use bike_stream::WriteFault;
 use sqlite::Alter;

@@ -3,6 +3,8 @@
 ghost use Rattle.std.specs.Prelude.{◌≡◌};
 ghost use Rattle.bike_feeds.specs.Listings.{list_name};
 
+use bike_json::{MemberName, member};
+
 /// What the one list of a feed's data holds.
 #[derive(Clone, Copy, Drop)]
 pub(crate) enum Listing {
@@ -20,14 +22,14 @@ pub(crate) enum Listing {
 
 impl Listing {
     /// The name of the list in GBFS.
-    pub(crate) fn name(self) -> &'static str
-        ensures { result.now ≡ list_name self }
+    pub(crate) fn name(self) -> MemberName
+        ensures { result.plain.now ≡ list_name self }
     {
         match self {
-            Listing::Types => "vehicle_types",
-            Listing::Stations | Listing::Statuses => "stations",
-            Listing::Plans => "plans",
-            Listing::Regions => "regions",
+            Listing::Types => member!("vehicle_types"),
+            Listing::Stations | Listing::Statuses => member!("stations"),
+            Listing::Plans => member!("plans"),
+            Listing::Regions => member!("regions"),
         }
     }
 }

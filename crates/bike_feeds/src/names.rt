@@ -5,10 +5,9 @@ ghost use Rattle.bike_operator.specs.Names.{further_names};
 ghost use Rattle.bike_queries.specs.Pages.{IsTold};
 ghost use Rattle.bike_desk.specs.Queries.{Queries};
 
-use bike_attributes::NameKind;
 use bike_catalogue::MoreName;
 use bike_desk::{Desk, DeskFault};
-use bike_fields::Ident;
+use bike_fields::{Ident, NameKind};
 use sqlite::Alter;
 use std::alloc::Global;
 

@@ -3,3 +3,7 @@ pub mod Fault
 pub mod Reads
 pub mod Texts
 pub mod Caller
+pub mod Values
+pub mod Faults
+pub mod Vehicle
+pub mod NameKinds

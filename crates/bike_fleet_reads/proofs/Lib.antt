@@ -3,3 +3,4 @@ mod ColumnLemmas
 mod FoundLemmas
 mod LoadLemmas
 mod LastLemmas
+mod BrokenLemmas

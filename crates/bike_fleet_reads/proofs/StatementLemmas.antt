@@ -1,23 +1,28 @@
 -- What each statement finds.
-use Rattle.std.proofs.Common.{ℕ, List, [], ◌∷◌, codes, length, Option, Some, slice_get, refl, subst}
+use Rattle.std.proofs.Common.{ℕ, List, [], ◌∷◌, codes, length, map, Option, Some, slice_get, refl, subst}
 use Rattle.sqlite_value.specs.declared.value.Value.TheVariants.{Text, Blob}
 use Rattle.sqlite_value.specs.Order.{Row}
 use Rattle.sqlite_sql.specs.Aggregate.{count}
+use Rattle.sqlite_sql.specs.Term.{Term, col}
 use Rattle.sqlite_tied.specs.Compute.{everything}
 use Rattle.sqlite.specs.Effect.{Database}
 use Rattle.bike_rows.specs.View.{row_with, rows_where, last_of}
 use Rattle.bike_rows.proofs.PageLaw.{map_same_list}
-use Rattle.bike_rows.proofs.SelectLaws.{counted_rows, first_with, last_row, every_column}
+use Rattle.bike_rows.specs.Answer.{HasOneAnswer}
+use Rattle.bike_rows.proofs.ListLemmas.{filter_all}
+use Rattle.bike_rows.proofs.SelectLaws.{first_with, last_row, rows_with_null, every_column}
 use Rattle.bike_rows.proofs.WalkLaw.{Finds}
 use Rattle.bike_book.specs.Tables.{Types, Regions, Stations, Docks, Bikes, Trucks, Orders, Counts}
 use Rattle.bike_book.specs.Rows.{number_value}
 use Rattle.bike_schema.specs.Layouts.{layout_of}
+use Rattle.bike_schema.specs.Tables.{tables_of}
 use Rattle.bike_schema.proofs.AnswerLemmas.{FindsIn, keyed_in, in_table}
 use Rattle.bike_schema.proofs.CountLemmas.{counted_in}
 use Rattle.bike_schema.proofs.KeyLemmas.{table_key}
 use Rattle.bike_schema.specs.Within.{rows_from, rows_within}
 use Rattle.bike_schema.proofs.ListedLemmas.{ListsIn}
 use Rattle.bike_schema.proofs.WithinLaw.{keyed_within, lists_within}
+use Rattle.bike_fleet_reads.specs.Holds.{order_column}
 
 -- ---- by the key
 
@@ -96,22 +101,24 @@ pub finds_last_bike : FindsIn (codes "SELECT * FROM bikes ORDER BY bike DESC LIM
 unfolding everything
 finds_last_bike = in_table Bikes (λ rows. slice_get (last_of rows) 0) (λ db has. last_row (table_key Bikes) (has Bikes) (λ tree. refl, refl))
 
--- ---- counts
+-- the order of each bicycle on a truck, where it is stored
+abbrev order_columns : List Term
+order_columns = col 1 8 ∷ []
+
+abbrev orders_text : List ℕ
+orders_text = codes "SELECT ord FROM bikes WHERE truck = ?1 ORDER BY bike"
+
+pub lists_orders : (truck : ℕ) → ListsIn orders_text (number_value truck ∷ []) (λ t. map order_column (rows_where (6 ∷ []) (number_value truck ∷ []) t.bikes))
+unfolding everything
+lists_orders truck = record {
+  lists = λ db has. subst (λ rows. HasOneAnswer db orders_text (number_value truck ∷ []) (map order_column rows)) (filter_all (rows_where (6 ∷ []) (number_value truck ∷ []) (tables_of db).bikes))
+      (rows_with_null (table_key Bikes) (has Bikes) {params = number_value truck ∷ []} order_columns order_column (λ r. refl) 0 (6 ∷ []) [] (λ tree. refl, refl) refl (λ r. refl) (λ r. refl));
+}
+
+-- ---- counts of all rows
 
 abbrev count_row_of : List Row → Option Row
 count_row_of rows = Some (count (length rows) ∷ [])
-
-pub counts_on_truck : (truck : ℕ) → FindsIn (codes "SELECT count(*) FROM bikes WHERE truck = ?1") (number_value truck ∷ []) (λ t. count_row_of (rows_where (6 ∷ []) (number_value truck ∷ []) t.bikes))
-unfolding everything
-counts_on_truck truck = in_table Bikes (λ rows. count_row_of (rows_where (6 ∷ []) (number_value truck ∷ []) rows)) (λ db has. counted_rows (table_key Bikes) (has Bikes) 0 (6 ∷ []) (λ tree. refl, refl) refl (λ r. refl))
-
-pub counts_on_truck_for : (truck order : ℕ)
-    → FindsIn (codes "SELECT count(*) FROM bikes WHERE truck = ?1 AND ord = ?2") (number_value truck ∷ number_value order ∷ []) (λ t. count_row_of (rows_where (6 ∷ 7 ∷ []) (number_value truck ∷ number_value order ∷ []) t.bikes))
-unfolding everything
-counts_on_truck_for truck order =
-    in_table Bikes (λ rows. count_row_of (rows_where (6 ∷ 7 ∷ []) (number_value truck ∷ number_value order ∷ []) rows)) (λ db has. counted_rows (table_key Bikes) (has Bikes) 0 (6 ∷ 7 ∷ []) (λ tree. refl, refl) refl (λ r. refl))
-
--- of all rows
 
 pub counts_stations : FindsIn (codes "SELECT count(*) FROM stations_3") [] (λ t. count_row_of t.stations)
 unfolding everything

@@ -1,16 +1,19 @@
 -- What is read of the fleet, as facts of the operator.
-use Rattle.std.specs.Prelude.{◌≡◌, ℕ, List, Bool, false, Option, option_map, is_some, unwrap_or}
+use Rattle.std.specs.Prelude.{◌≡◌, ◌==◌, ℕ, List, Bool, false, not, Option, Some, None, option_map, is_some, unwrap_or}
 use Rattle.std.specs.FinMap as map
 use Rattle.bike_operator.specs.declared.records.Bike.{Bike}
-use Rattle.bike_operator.specs.Operator.{Operator, Station, key_of, dock_key}
-use Rattle.bike_operator.specs.Counts.{available_of, docks_available, docks_broken, is_broken}
+use Rattle.bike_operator.specs.declared.records.Order.{Order}
+use Rattle.bike_operator.specs.Operator.{Operator, Station, item_numbered, key_of, dock_key}
+use Rattle.bike_operator.specs.Counts.{available_of, docks_available, docks_broken, is_broken, order_load, truck_load}
+use Rattle.bike_operator.specs.Sound.{IsSound}
 use Rattle.bike_operator.specs.View.{station_at}
-use Rattle.bike_places.specs.Numbers.{disabled_of}
+use Rattle.bike_laws.specs.SingleSteps.Numbers.{disabled_of}
 use Rattle.bike_book.specs.Stored.{Listed}
 use Rattle.bike_fleet_reads.specs.declared.stations.DockNumbers.{DockNumbers}
 use Rattle.bike_fleet_reads.specs.declared.stations.StationRow.{StationRow}
 use Rattle.bike_fleet_reads.specs.declared.counts.TypeCounts.{TypeCounts}
 use Rattle.bike_fleet_reads.specs.declared.bikes.NumberedBike.{NumberedBike}
+use Rattle.bike_fleet_reads.specs.declared.bikes.TruckLoad.{TruckLoad}
 
 -- the docks of a station that are available, and those that are broken
 abbrev pub dock_numbers_of : Operator → List ℕ → Station → DockNumbers
@@ -19,6 +22,17 @@ dock_numbers_of s station x =
 
 abbrev pub dock_numbers_at : Operator → List ℕ → Option DockNumbers
 dock_numbers_at s station = option_map (dock_numbers_of s station) (map.get s.stations station)
+
+-- some dock of a station is broken, by its numbers
+abbrev pub has_broken : Option DockNumbers → Bool
+has_broken None = false
+has_broken (Some n) = not (n.broken == 0)
+
+-- Of each sound operator's station that has these numbers, or isn't there, no dock is broken.
+abbrev pub NoDockIsBroken : Option DockNumbers → Type 0
+NoDockIsBroken numbers =
+    (s : Operator) (station : List ℕ) → IsSound s → numbers ≡ dock_numbers_at s station
+    → (dock : ℕ) → is_broken s station dock ≡ false
 
 -- a station as a command sees it, and the numbers of its docks
 abbrev pub station_row_at : Operator → List ℕ → StationRow
@@ -46,3 +60,10 @@ AreCounts s m station type_id counts =
 -- a bicycle with its number, as a pair
 abbrev pub numbered_pair : NumberedBike → ℕ × Bike
 numbered_pair x = (x.number, x.bike)
+
+-- The bicycles on a truck, and those for an order, where that is there and the truck is its own.
+abbrev pub IsTruckLoad : Operator → ℕ → ℕ → TruckLoad → Type 0
+IsTruckLoad s truck order load =
+    (load.all ≡ truck_load s truck)
+    × ((row : Order) → item_numbered order s.orders ≡ Some row → row.truck ≡ truck
+    → load.for_order ≡ order_load s order)

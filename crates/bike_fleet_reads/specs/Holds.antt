@@ -1,6 +1,7 @@
 -- When the columns of a stored row hold a record.
-use Rattle.std.specs.Prelude.{◌≡◌, ℕ, List, [], ◌∷◌, Bool, Option, Some, None, map}
+use Rattle.std.specs.Prelude.{◌≡◌, ℕ, pos, List, [], ◌∷◌, Bool, false, Option, Some, None, map}
 use Rattle.std.specs.List.{range_with_len}
+use Rattle.std.specs.Ordering.{int_eq}
 use Rattle.sqlite_value.specs.declared.value.Value.{Value}
 use Rattle.sqlite_value.specs.declared.value.Value.TheVariants.{Int, Text}
 use Rattle.sqlite_value.specs.Order.{Row, column}
@@ -77,6 +78,18 @@ pub record HoldsOrderNumbers (row : Row) (n : OrderNumbers) : Type 0 where
   pub count : column row 5 ≡ number_value n.count
   pub delivered : column row 6 ≡ number_value n.delivered
   pub is_open : column row 7 ≡ Int (truth n.is_open)
+
+-- the order of a bicycle that is on a truck, alone
+abbrev pub order_column : Row → Row
+order_column row = column row 7 ∷ []
+
+abbrev pub is_number : ℕ → Value → Bool
+is_number n (Int z) = int_eq z (pos n)
+is_number n _ = false
+
+-- a row that holds the order alone
+abbrev pub is_for : ℕ → Row → Bool
+is_for order row = is_number order (column row 0)
 
 -- A row of `orders` holds the order, but for its number.
 pub record HoldsOrder (row : Row) (o : Order) : Type 0 where

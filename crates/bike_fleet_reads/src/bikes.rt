@@ -1,26 +1,27 @@
 //! The statements on `bikes`.
 
-ghost use Rattle.std.specs.Prelude.{◌≡◌, [], ◌∷◌, IfOk, Some, option_map, slice_get, length, ◌≤◌};
+ghost use Rattle.std.specs.Prelude.{◌≡◌, [], ◌∷◌, IfOk, Some, option_map, slice_get, length, map, count_by, ◌≤◌};
 ghost use Rattle.std.specs.FinMap.{get, len};
 ghost use Rattle.sqlite.specs.declared.types.Value.TheVariants.{Text};
 ghost use Rattle.sqlite_sql.specs.Aggregate.{count};
 ghost use Rattle.bike_operator.specs.declared.limits.TheConstants.{MOST_BIKES};
-ghost use Rattle.bike_operator.specs.Counts.{docked_at, truck_load};
+ghost use Rattle.bike_operator.specs.Counts.{docked_at};
 ghost use Rattle.bike_operator.specs.View.{is_at_limit};
 ghost use Rattle.bike_book.specs.Tables.{Bikes};
 ghost use Rattle.bike_book.specs.Rows.{number_value};
 ghost use Rattle.bike_book.specs.Found.{last_row, row_count, row_under, rows_by};
 ghost use Rattle.bike_schema.specs.Answers.{Answers};
-ghost use Rattle.bike_fleet_reads.specs.Fleet.{numbered_pair};
-ghost use Rattle.bike_fleet_reads.specs.Holds.{HoldsAny, HoldsBike, HoldsNumbered};
+ghost use Rattle.bike_fleet_reads.specs.Fleet.{IsTruckLoad, numbered_pair};
+ghost use Rattle.bike_fleet_reads.specs.Holds.{HoldsAny, HoldsBike, HoldsNumbered, is_for, order_column};
 
-use crate::columns::{count_of, is_full, last_of};
+use crate::columns::{is_full, last_of};
 use crate::places::place_at;
 use bike_book::columns::bikes;
-use bike_fields::{BicycleNumber, Ident, TruckNumber};
+use bike_fields::{BicycleNumber, Ident, OrderNumber, TruckNumber};
 use bike_operator::{Bike, MOST_BIKES};
 use bike_rows::lookup::first_row;
 use bike_schema::{StatementFault, ident_at, number_at, state_at};
+use sqlite::types::ValueRef;
 use sqlite::{Alter, Connection, Row, params};
 use std::alloc::Global;
 
@@ -31,6 +32,15 @@ pub struct NumberedBike {
     pub number: BicycleNumber,
     /// The bicycle.
     pub bike: Bike,
+}
+
+/// How many bicycles are on a truck.
+#[derive(Clone, Copy)]
+pub struct TruckLoad {
+    /// All of them.
+    pub all: u32,
+    /// Those for an order.
+    pub for_order: u32,
 }
 
 /// The bicycle's row.
@@ -78,19 +88,49 @@ fn count_bikes<S: Alter>(conn: &mut Connection<S>) -> Result<Option<Row>, Statem
     first_row(conn, "SELECT count(*) FROM bikes", &[])
 }
 
-/// How many bicycles are on a truck, as the database answers it.
-fn count_on_truck<S: Alter>(
+/// The order of each bicycle on a truck, in the order of the bicycles' numbers.
+fn select_orders<S: Alter>(
     conn: &mut Connection<S>,
     truck: TruckNumber,
-) -> Result<Option<Row>, StatementFault>
-    ensures { Answers S.Store conn.old conn.new result (λ s m row.
-        row ≡ Some (count (length (rows_by s m Bikes (6 ∷ []) (number_value truck ∷ []))) ∷ [])) }
+) -> Result<Vec<Row>, StatementFault>
+    ensures { Answers S.Store conn.old conn.new result
+        (λ s m rows. rows.items ≡ map order_column (rows_by s m Bikes (6 ∷ []) (number_value truck ∷ []))) }
 {
-    first_row(
-        conn,
-        "SELECT count(*) FROM bikes WHERE truck = ?1",
+    let rows = conn.query_all(
+        "SELECT ord FROM bikes WHERE truck = ?1 ORDER BY bike",
         params![truck.get()],
-    )
+    )?;
+    Ok(rows)
+}
+
+/// Whether the row holds this order alone.
+fn is_for(row: &Row, order: OrderNumber) -> bool
+    ensures { result ≡ is_for order row.now }
+{
+    match row.get_ref(0) {
+        Ok(ValueRef::Int(number)) => number == i64::from(order.get()),
+        _ => false,
+    }
+}
+
+/// How many of the rows hold this order alone.
+fn count_for(rows: &[Row], order: OrderNumber) -> usize
+    ensures { result ≡ count_by (is_for order) rows.now }
+{
+    rows.iter().filter(|row| is_for(row, order)).count()
+}
+
+/// How many rows there are, and how many of them hold this order alone. More than 4,294,967,295 are `StoreFailed`.
+fn load_of(rows: &[Row], order: OrderNumber) -> Result<TruckLoad, StatementFault>
+    ensures { IfOk result (λ load. (load.all ≡ length rows.now) × (load.for_order ≡ count_by (is_for order) rows.now)) }
+{
+    let Ok(all) = u32::try_from(rows.len()) else {
+        return Err(StatementFault::StoreFailed);
+    };
+    let Ok(for_order) = u32::try_from(count_for(rows, order)) else {
+        return Err(StatementFault::StoreFailed);
+    };
+    Ok(TruckLoad { all, for_order })
 }
 
 /// The stored row as a bicycle.
@@ -191,13 +231,15 @@ pub fn are_bikes_full<S: Alter>(conn: &mut Connection<S>) -> Result<bool, Statem
     is_count_full(conn)
 }
 
-/// How many bicycles are on a truck.
-pub fn truck_load<S: Alter>(
+/// How many bicycles are on a truck, and how many of them for an order, by one read. Where the order is there and the
+/// truck is its own, these are all of the order's: no bicycle of an order is on another truck.
+pub fn find_truck_load<S: Alter>(
     conn: &mut Connection<S>,
     truck: TruckNumber,
-) -> Result<u32, StatementFault>
-    ensures { Answers S.Store conn.old conn.new result (λ s m x. x ≡ truck_load s truck) }
+    order: OrderNumber,
+) -> Result<TruckLoad, StatementFault>
+    ensures { Answers S.Store conn.old conn.new result (λ s m load. IsTruckLoad s truck order load) }
 {
-    let answer = count_on_truck(conn, truck)?;
-    count_of(&answer)
+    let rows = select_orders(conn, truck)?;
+    load_of(rows.as_slice(), order)
 }

@@ -17,15 +17,15 @@ mod stations;
 mod trucks;
 mod types;
 
-pub use bikes::{NumberedBike, are_bikes_full, find_bike, find_docked, truck_load};
+pub use bikes::{NumberedBike, TruckLoad, are_bikes_full, find_bike, find_docked, find_truck_load};
 pub use columns::dock_total_at;
 pub use counts::{TypeCounts, find_counts};
 pub use docks::find_mark;
-pub use orders::{find_order, order_count, order_load};
+pub use orders::{find_order, order_count};
 pub use regions::{are_regions_full, find_region_row_from, has_region};
 pub use stations::{
     DockNumbers, StationRow, are_stations_full, find_dock_numbers, find_station, find_station_row,
-    has_station,
+    has_broken, has_station,
 };
 pub use trucks::{are_trucks_full, find_truck};
 pub use types::{are_types_full, find_default_plan, find_type_row_from, has_type, select_types};

@@ -1,18 +1,16 @@
-//! The statements on `orders`, and the count of an order's bicycles.
+//! The statements on `orders`.
 
-ghost use Rattle.std.specs.Prelude.{◌≡◌, [], ◌∷◌, true, IfOk, Some, codes, length};
+ghost use Rattle.std.specs.Prelude.{◌≡◌, [], ◌∷◌, true, IfOk, codes, length};
 ghost use Rattle.sqlite.specs.declared.types.Value.TheVariants.{Text};
 ghost use Rattle.sqlite.specs.Order.{column};
-ghost use Rattle.sqlite_sql.specs.Aggregate.{count};
 ghost use Rattle.bike_operator.specs.Operator.{item_numbered};
-ghost use Rattle.bike_operator.specs.Counts.{order_load};
-ghost use Rattle.bike_book.specs.Tables.{Bikes, Orders};
-ghost use Rattle.bike_book.specs.Rows.{number_value, end_text};
-ghost use Rattle.bike_book.specs.Found.{row_under, rows_by, last_row};
+ghost use Rattle.bike_book.specs.Tables.{Orders};
+ghost use Rattle.bike_book.specs.Rows.{number_value};
+ghost use Rattle.bike_book.specs.Found.{row_under, last_row};
 ghost use Rattle.bike_schema.specs.Answers.{Answers};
 ghost use Rattle.bike_fleet_reads.specs.Holds.{HoldsAny, HoldsEnd, HoldsOrder, HoldsOrderNumbers};
 
-use crate::columns::{count_of, last_of, whole_at};
+use crate::columns::{last_of, whole_at};
 use bike_book::columns::orders;
 use bike_fields::{OrderNumber, OrderQuantity, TruckNumber};
 use bike_fixed::Within;
@@ -53,22 +51,6 @@ fn select_last_order<S: Alter>(conn: &mut Connection<S>) -> Result<Option<Row>, 
     ensures { Answers S.Store conn.old conn.new result (λ s m row. row ≡ last_row s m Orders) }
 {
     first_row(conn, "SELECT * FROM orders ORDER BY ord DESC LIMIT 1", &[])
-}
-
-/// How many bicycles are on a truck for an order, as the database answers it.
-fn count_on_truck_for<S: Alter>(
-    conn: &mut Connection<S>,
-    truck: TruckNumber,
-    order: OrderNumber,
-) -> Result<Option<Row>, StatementFault>
-    ensures { Answers S.Store conn.old conn.new result (λ s m row. row ≡ Some (count (length
-        (rows_by s m Bikes (6 ∷ 7 ∷ []) (number_value truck ∷ number_value order ∷ []))) ∷ [])) }
-{
-    first_row(
-        conn,
-        "SELECT count(*) FROM bikes WHERE truck = ?1 AND ord = ?2",
-        params![truck.get(), order.get()],
-    )
 }
 
 /// Whether the column is `*`, which stands for the depot.
@@ -158,18 +140,4 @@ pub fn order_count<S: Alter>(conn: &mut Connection<S>) -> Result<u32, StatementF
 {
     let row = select_last_order(conn)?;
     last_of(&row)
-}
-
-/// How many bicycles are on a truck for an order that is there, of which it is the truck. All bicycles of an order are
-/// on its truck, by which they are counted: there is an index by truck and none by order.
-pub fn order_load<S: Alter>(
-    conn: &mut Connection<S>,
-    order: OrderNumber,
-    truck: TruckNumber,
-) -> Result<u32, StatementFault>
-    ensures { Answers S.Store conn.old conn.new result (λ s m x. (row : Order) → item_numbered order s.orders ≡ Some row
-        → row.truck ≡ truck → x ≡ order_load s order) }
-{
-    let answer = count_on_truck_for(conn, truck, order)?;
-    count_of(&answer)
 }

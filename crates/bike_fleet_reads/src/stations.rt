@@ -1,6 +1,6 @@
 //! The statements on `stations_3`.
 
-ghost use Rattle.std.specs.Prelude.{◌≡◌, [], ◌∷◌, IfOk, Some};
+ghost use Rattle.std.specs.Prelude.{◌≡◌, [], ◌∷◌, false, IfOk, Some};
 ghost use Rattle.std.specs.FinMap.{contains_key};
 ghost use Rattle.sqlite.specs.declared.types.Value.TheVariants.{Text};
 ghost use Rattle.sqlite_sql.specs.Aggregate.{count};
@@ -9,7 +9,7 @@ ghost use Rattle.bike_operator.specs.View.{is_at_limit, station_at};
 ghost use Rattle.bike_book.specs.Tables.{Stations};
 ghost use Rattle.bike_book.specs.Found.{row_count, row_under};
 ghost use Rattle.bike_schema.specs.Answers.{Answers};
-ghost use Rattle.bike_fleet_reads.specs.Fleet.{dock_numbers_at, station_row_at};
+ghost use Rattle.bike_fleet_reads.specs.Fleet.{NoDockIsBroken, dock_numbers_at, has_broken, station_row_at};
 ghost use Rattle.bike_fleet_reads.specs.Holds.{HoldsAny, HoldsStation, HoldsDockNumbers};
 
 use crate::columns::{dock_total_at, is_full, no_docks};
@@ -38,6 +38,17 @@ impl DockNumbers {
             free: no_docks(),
             broken: no_docks(),
         }
+    }
+}
+
+/// Whether some dock of the station is broken whose numbers these are. Where there is no such station, none is.
+pub fn has_broken(numbers: &Option<DockNumbers>) -> bool
+    ensures value { result ≡ has_broken numbers.now }
+    ensures works { result ≡ false → NoDockIsBroken numbers.now }
+{
+    match numbers {
+        Some(numbers) => numbers.broken.get() != 0,
+        None => false,
     }
 }
 

@@ -18,7 +18,7 @@ use Rattle.sqlite_rules.specs.Lists.{Has}
 use Rattle.sqlite_trees.specs.Tree.{IsAscending}
 use Rattle.bike_rows.proofs.OrderLemmas.{all_has}
 use Rattle.bike_operator.specs.Operator.{text_cmp}
-use Rattle.bike_places.proofs.MapLemmas.{text_order, number_order}
+use Rattle.bike_laws.proofs.SingleSteps.MapLemmas.{text_order, number_order}
 use Rattle.bike_book.specs.Rows.{number_value}
 use Rattle.bike_book.proofs.Keys.{value_cmp-number_value}
 use Rattle.bike_fleet_rules.specs.Docks.{Docked, is_shared, lesser_number, found_with, shared_pass}

@@ -18,7 +18,7 @@ use Rattle.bike_operator.specs.declared.records.Bike.{Bike}
 use Rattle.bike_operator.specs.Counts.{count, is_on_truck, is_for_order, truck_load, order_load}
 use Rattle.bike_operator.specs.Operator.{Operator}
 use Rattle.bike_book.specs.Tables.{Tables}
-use Rattle.bike_places.proofs.CountLemmas.{count-cons, one}
+use Rattle.bike_laws.proofs.SingleSteps.CountLemmas.{count-cons, one}
 use Rattle.bike_book.specs.Rows.{number_value}
 use Rattle.bike_readings.specs.ColumnReaders.{serial_in}
 use Rattle.bike_readings.proofs.ColumnLaws.{number_column}

@@ -1,21 +1,21 @@
 -- A request that was accepted and comes again: its response is the first one, and nothing changes.
-use Rattle.std.proofs.Common.{◌≡◌, inl, inr, ℕ, ◌<◌, List, [], length, Option, Some, IfSome, Result, Ok, Err, true, false, refl, sym, ap, subst, ◌∙◌, arith}
+use Rattle.std.proofs.Common.{◌≡◌, inl, inr, ℕ, List, [], length, Option, Some, IfSome, Result, Ok, Err, true, false, refl, sym, ap, subst, ◌∙◌, arith}
 use Rattle.std.specs.Str.{bytes_eq}
 use Rattle.std.proofs.lemmas.Slice.Eq.{bytes_eq-Decides}
 use Rattle.sqlite_trees.specs.declared.store.Store.{Ghosts}
 use Rattle.bike_commands.specs.declared.reply.Reply.{Reply}
 use Rattle.bike_operator.specs.Operator.{Operator}
 use Rattle.bike_commands.specs.Commands.{text_of}
-use Rattle.bike_operator.specs.Runs.{step, after}
+use Rattle.bike_operator.specs.Runs.{step}
 use Rattle.bike_laws.proofs.RetryLemmas.{answered_again}
 use Rattle.bike_feeds.specs.Desk.{DeskValue, IsAt}
-use Rattle.bike_incoming.specs.declared.asked.Asked.{Asked}
-use Rattle.bike_incoming.specs.declared.asked.Asked.TheVariants.{Apply}
-use Rattle.bike_incoming.specs.Received.{Received}
-use Rattle.bike_incoming.proofs.Once.{asks_once}
-use Rattle.bike_answers.specs.declared.answer.Answer.TheVariants as answer
+use Rattle.bike_http_request.specs.declared.action.Action.{Action}
+use Rattle.bike_http_request.specs.declared.action.Action.TheVariants.{Apply}
+use Rattle.bike_http_request.specs.Received.{Received}
+use Rattle.bike_http_request.proofs.Once.{asks_once}
+use Rattle.bike_http_response.specs.declared.answer.Answer.TheVariants as answer
 use Rattle.bike_http.specs.Exchange.{Response, answered, response_of, operator_after, Answers}
-use Rattle.bike_http.specs.Telling.{Tells, TellsFor, Serves, unavailable}
+use Rattle.bike_http.specs.Telling.{Tells, TellsFor, Serves}
 use Rattle.bike_http.proofs.Told.{tells_any}
 use Rattle.bike_http.specs.Again.{CameBefore, IsFirstOrNone, SendsAgain}
 use Rattle.bike_http.specs.declared.exchange.Served.{Served}
@@ -35,7 +35,7 @@ module _ (input : Option (List ℕ)) (s : Operator) (first : Response) (came : C
       (answered_again came.earlier came.moment t came.request came.request came.since came.accepted refl (same_command (text_of came.request.command)))
 
   -- what the input asks for is that request
-  asks_again : (asked : Asked) → IfSome input (λ bytes. Received bytes (Some asked)) → asked ≡ Apply came.request
+  asks_again : (asked : Action) → IfSome input (λ bytes. Received bytes (Some asked)) → asked ≡ Apply came.request
   asks_again asked received =
       let known : Received came.bytes (Some asked) = subst (λ (o : Option (List ℕ)). IfSome o (λ bytes. Received bytes (Some asked))) came.known received in
       asks_once came.bytes asked (Apply came.request) known.1 came.asks.1

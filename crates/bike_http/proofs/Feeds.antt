@@ -1,12 +1,12 @@
 -- What is told of a feed.
-use Rattle.std.proofs.Common.{◌≡◌, inl, ℕ, ◌<◌, ◌++◌, List, [], Option, Some, true, false, Result, Ok, Err, OnOk, OnErr, length, take, refl, sym, ap, ◌∙◌, subst, arith, length-append}
+use Rattle.std.proofs.Common.{◌≡◌, inl, ℕ, ◌<◌, ◌++◌, List, [], Option, Some, Result, Ok, Err, IsErrAnd, length, take, refl, sym, ap, ◌∙◌, arith, length-append}
 use Rattle.std.proofs.lemmas.Bool.{both_ways}
 use Rattle.std.proofs.lemmas.List.{take-append-le}
-use Rattle.std.specs.Prelude.{is_err}
-use Rattle.std.specs.Io.KnownBytes.{Appends}
 use Rattle.sqlite_trees.specs.declared.store.Store.{Ghosts}
 use Rattle.sqlite.specs.State.{HasCleanDisk}
 use Rattle.bike_stream.specs.Writing.{AppendsFront}
+use Rattle.bike_stream.specs.declared.write.WriteFault.{WriteFault}
+use Rattle.bike_http_response.specs.declared.status.Status.{Status}
 use Rattle.bike_operator.specs.Operator.{Operator}
 use Rattle.bike_feed_texts.specs.declared.feed.Feed.{Feed}
 use Rattle.bike_feeds.specs.DeskFault.TheVariants.{NoMemory, StoreFailed, Stopped}
@@ -14,10 +14,8 @@ use Rattle.bike_feeds.specs.Desk.{DeskValue, desk_state, IsAt}
 use Rattle.bike_feeds.specs.Publishing.{feed_text, IsPublished, LeavesDesk}
 use Rattle.bike_feeds.specs.declared.fault.FeedFault.{FeedFault}
 use Rattle.bike_feeds.specs.declared.fault.FeedFault.TheVariants.{SystemMissing, Write, Desk}
-use Rattle.bike_http.specs.Exchange.{published, feed_response}
+use Rattle.bike_http.specs.Exchange.{published, feed_head, feed_response}
 use Rattle.bike_http.specs.Telling.{IsUndone, SendsText, Responds}
-use Rattle.bike_http.specs.declared.respond.SendFault.{SendFault}
-use Rattle.bike_http.specs.declared.respond.SendFault.TheVariants as fault
 use Rattle.bike_http.proofs.Told.{at_first}
 
 pub front_of_first : (a b : Option (List ℕ)) (x y : List ℕ) → AppendsFront a b x → AppendsFront a b (x ++ y)
@@ -26,15 +24,11 @@ front_of_first a b x y h =
     let same : take h.0 (x ++ y) ≡ take h.0 x = take-append-le h.0 x y (omega (arith, h.1)) in
     (h.0, low, rw same h.2)
 
-module _ {A E : Type 0} (before mid : Option (List ℕ)) (bytes head : List ℕ) where
-  -- the head was written whole, or a front of it
-  pub head_whole : (r : Result A E) → bytes ≡ head → is_err r ≡ false → OnOk r (Appends before mid bytes) → Appends before mid head
-  head_whole (Ok x) same is h = subst (λ (x : List ℕ). Appends before mid x) same h
-  head_whole (Err e) same is h = absurd (let wrong : true ≡ false = is in cc)
-
-  pub head_front : (r : Result A E) → bytes ≡ head → is_err r ≡ true → OnErr r (AppendsFront before mid bytes) → AppendsFront before mid head
-  head_front (Ok x) same is h = absurd (let wrong : false ≡ true = is in cc)
-  head_front (Err e) same is h = subst (λ (x : List ℕ). AppendsFront before mid x) same h
+-- a write that failed cuts the text off
+pub cut_off : (before after : Option (List ℕ)) (text : List ℕ) (fault : WriteFault) (r : Result Status WriteFault) → IsErrAnd r (λ told. told ≡ fault)
+    → AppendsFront before after (feed_head text ++ text) → SendsText before after text r
+cut_off before after text fault (Ok status) told front = absurd told
+cut_off before after text fault (Err other) told front = front
 
 -- the desk after a feed that failed
 pub feed_undone : {S A : Type 0} (g : Ghosts S) (old new : DeskValue S) (s next : Operator) (e : FeedFault) → HasCleanDisk (desk_state g new) → IsAt g old s
@@ -54,7 +48,7 @@ module _ {S : Type 0} (g : Ghosts S) (d : DeskValue S) (s : Operator) (feed : Fe
   is_response : feed_response s t feed s.system ≡ published held
   is_response = ap (feed_response s t feed) published_to.1 ∙ ap published (sym is_held)
 
-  pub held_feed : (before after : Option (List ℕ)) (r : Result ℕ SendFault) → SendsText before after held r → IsAt g d s
+  pub held_feed : (before after : Option (List ℕ)) (r : Result Status WriteFault) → SendsText before after held r → IsAt g d s
       → Responds g d s (feed_response s t feed s.system) s before after r
   held_feed before after (Ok status) h at = (published held, inl (sym is_response, at), h.0, h.1)
-  held_feed before after (Err fault.Write) h at = (published held, inl (sym is_response, at), h)
+  held_feed before after (Err fault) h at = (published held, inl (sym is_response, at), h)

@@ -1,21 +1,20 @@
 -- What queries tell of an operator is shown as its rows.
-use Rattle.std.proofs.Common.{◌≡◌, ℕ, ℤ, Option, Some, None, Ok, Err, refl, ap, ◌∙◌}
+use Rattle.std.proofs.Common.{◌≡◌, ℕ, Option, Some, None, Ok, Err, refl, ap}
 use Rattle.std.specs.Prelude.{option_map}
 use Rattle.sqlite_trees.specs.declared.store.Store.{Ghosts}
 use Rattle.bike_operator.specs.declared.records.Bike.{Bike}
-use Rattle.bike_operator.specs.declared.records.Closing.{Closing}
 use Rattle.bike_operator.specs.declared.records.Order.{Order}
 use Rattle.bike_operator.specs.declared.records.Rental.{Rental}
 use Rattle.bike_operator.specs.Operator.{Operator, Rider}
-use Rattle.bike_queries.specs.Infos.{rider_info, closing_info, rental_info}
+use Rattle.bike_queries.specs.Infos.{rider_info, rental_info}
 use Rattle.bike_ledger.specs.Ledger.{refunded_of}
-use Rattle.bike_answers.specs.declared.answer.Answer.TheVariants as answer
+use Rattle.bike_http_response.specs.declared.answer.Answer.TheVariants as answer
 use Rattle.bike_feeds.specs.DeskFault.{DeskFault}
 use Rattle.bike_feeds.specs.DeskFault.TheVariants.{NoMemory, StoreFailed, Stopped}
 use Rattle.bike_feeds.specs.Desk.{DeskValue}
 use Rattle.bike_feeds.specs.Queries.{Queries}
-use Rattle.bike_http.specs.Shown.{shown_or_not_found, shown_rider, shown_rental, refunds}
-use Rattle.bike_http.specs.Rows.{rider_answer, bike_answer, rental_answer, order_answer, closing_in, refunds_in}
+use Rattle.bike_http.specs.Shown.{shown_or_not_found, shown_rider, shown_rental}
+use Rattle.bike_http.specs.Rows.{rider_answer, bike_answer, rental_answer, order_answer}
 
 pub rider_shown : (s : Operator) (n : ℕ) (o : Option Rider) → rider_answer n (option_map (rider_info s n) o) ≡ shown_or_not_found (shown_rider s n) o
 rider_shown s n None = refl
@@ -29,20 +28,9 @@ pub order_shown : (n : ℕ) (o : Option Order) → order_answer n o ≡ shown_or
 order_shown n None = refl
 order_shown n (Some order) = refl
 
-closed_again : (refunded : ℤ) (o : Option Closing) → option_map closing_in (option_map (closing_info refunded) o) ≡ o
-closed_again refunded None = refl
-closed_again refunded (Some c) = refl
-
-refunds_again : (refunded : ℤ) (o : Option Closing) → refunds_in (option_map (closing_info refunded) o) ≡ refunds refunded o
-refunds_again refunded None = refl
-refunds_again refunded (Some c) = refl
-
 pub rental_shown : (s : Operator) (n : ℕ) (o : Option Rental) → rental_answer n (option_map (rental_info (refunded_of n s.entries)) o) ≡ shown_or_not_found (shown_rental s n) o
 rental_shown s n None = refl
-rental_shown s n (Some r) =
-    let refunded = refunded_of n s.entries in
-    ap (λ (o : Option Closing). answer.Rental n (record r { closing = o }) (refunds_in (option_map (closing_info refunded) r.closing))) (closed_again refunded r.closing)
-    ∙ ap (λ (z : ℤ). answer.Rental n r z) (refunds_again refunded r.closing)
+rental_shown s n (Some r) = refl
 
 -- a query's answer, told in other words
 module _ {S : Type 0} (g : Ghosts S) (old new : DeskValue S) {A B : Type 0} (says : Operator → A → Type 0) (tells : Operator → B → Type 0) where

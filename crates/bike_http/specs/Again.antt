@@ -8,8 +8,8 @@ use Rattle.bike_operator.specs.Operator.{Operator}
 use Rattle.bike_operator.specs.Runs.{Call, step, after}
 use Rattle.bike_laws.specs.Retries.{is_accepted}
 use Rattle.bike_feeds.specs.Desk.{DeskValue, IsAt}
-use Rattle.bike_incoming.specs.declared.asked.Asked.TheVariants.{Apply}
-use Rattle.bike_incoming.specs.Received.{Received}
+use Rattle.bike_http_request.specs.declared.action.Action.TheVariants.{Apply}
+use Rattle.bike_http_request.specs.Received.{Received}
 use Rattle.bike_http.specs.Exchange.{Response, bytes_of, response_of, response_status}
 use Rattle.bike_http.specs.Telling.{unavailable}
 use Rattle.bike_http.specs.declared.exchange.Served.{Served}

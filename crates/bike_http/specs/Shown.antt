@@ -1,16 +1,16 @@
 -- What an operator shows: the row that is asked for.
-use Rattle.std.specs.Prelude.{ℕ, ℤ, pos, Option, Some, None}
+use Rattle.std.specs.Prelude.{ℕ, Option, Some, None}
 use Rattle.std.specs.FinMap as map
 use Rattle.bike_ledger.specs.Ledger.{balance_of, refunded_of}
-use Rattle.bike_operator.specs.declared.records.Closing.{Closing}
 use Rattle.bike_operator.specs.declared.records.Rental.{Rental}
 use Rattle.bike_operator.specs.Operator.{Operator, Rider, item_numbered}
 use Rattle.bike_office_reads.specs.Newest.{open_number}
-use Rattle.bike_heads.specs.declared.rejection.Rejection.TheVariants.{NotFound}
-use Rattle.bike_heads.specs.declared.shown.Shown.{Shown}
-use Rattle.bike_heads.specs.declared.shown.Shown.TheVariants as shown
-use Rattle.bike_answers.specs.declared.answer.Answer.{Answer}
-use Rattle.bike_answers.specs.declared.answer.Answer.TheVariants as answer
+use Rattle.bike_queries.specs.Infos.{rental_info}
+use Rattle.bike_http_head.specs.declared.rejection.Rejection.TheVariants.{NotFound}
+use Rattle.bike_http_head.specs.declared.row_key.RowKey.{RowKey}
+use Rattle.bike_http_head.specs.declared.row_key.RowKey.TheVariants as shown
+use Rattle.bike_http_response.specs.declared.answer.Answer.{Answer}
+use Rattle.bike_http_response.specs.declared.answer.Answer.TheVariants as answer
 
 abbrev pub not_found : Answer
 not_found = answer.Rejected NotFound
@@ -23,16 +23,12 @@ shown_or_not_found show (Some x) = show x
 abbrev pub shown_rider : Operator → ℕ → Rider → Answer
 shown_rider s n r = answer.Rider (record { rider = n; blocked = r.is_blocked; balance = balance_of n s.entries; rental = open_number s n })
 
--- refunds are shown of a closed rental alone
-abbrev pub refunds : ℤ → Option Closing → ℤ
-refunds refunded None = pos 0
-refunds refunded (Some c) = refunded
-
+-- a closed rental is shown with its refunds
 abbrev pub shown_rental : Operator → ℕ → Rental → Answer
-shown_rental s n r = answer.Rental n r (refunds (refunded_of n s.entries) r.closing)
+shown_rental s n r = answer.Rental n (rental_info (refunded_of n s.entries) r)
 
 -- the row that is shown of an operator
-abbrev pub shown_of : Operator → Shown → Answer
+abbrev pub shown_of : Operator → RowKey → Answer
 shown_of s (shown.Rider n) = shown_or_not_found (shown_rider s n) (map.get s.riders n)
 shown_of s (shown.Bike n) = shown_or_not_found (λ bike. answer.Bike n bike) (map.get s.bikes n)
 shown_of s (shown.Rental n) = shown_or_not_found (shown_rental s n) (item_numbered n s.rentals)

@@ -7,12 +7,13 @@ ghost use Rattle.bike_http.specs.Exchange.{Response};
 ghost use Rattle.bike_http.specs.Again.{CameBefore, SendsAgain};
 ghost use Rattle.bike_http.specs.Telling.{end_of_sending, Serves, LeavesTables, Rests, Refuses, IsDone};
 
-use crate::respond::{SendFault, respond, send};
-use bike_answers::Answer;
+use crate::respond::respond;
 use bike_feeds::Desk;
 use bike_fixed::Moment;
-use bike_heads::Routes;
-use bike_incoming::{ReceiveFault, receive};
+use bike_http_head::Routes;
+use bike_http_request::{ReceiveFault, receive};
+use bike_http_response::{Answer, Status, write_answer};
+use bike_stream::WriteFault;
 use sqlite::Alter;
 use std::alloc::Global;
 use std::io::{Read, Write};
@@ -43,12 +44,12 @@ pub enum ServeFault {
 }
 
 /// How an exchange ends, as the sending of its response ended.
-fn ended(sent: Result<u16, SendFault>) -> Result<Served, ServeFault>
+fn ended(sent: Result<Status, WriteFault>) -> Result<Served, ServeFault>
     ensures { result ≡ end_of_sending sent }
 {
     match sent {
-        Ok(status) => Ok(Served::Status(status)),
-        Err(SendFault::Write) => Err(ServeFault::Write),
+        Ok(status) => Ok(Served::Status(status.code())),
+        Err(WriteFault) => Err(ServeFault::Write),
     }
 }
 
@@ -93,7 +94,7 @@ pub fn serve_one<S: Alter, R: Read, W: Write>(
     match receive(alloc, routes, reader) {
         Ok(None) => Ok(Served::Empty),
         Ok(Some(asked)) => ended(respond(alloc, desk, moment, asked, writer)),
-        Err(ReceiveFault::NoMemory) => ended(send(writer, &Answer::Unavailable)),
+        Err(ReceiveFault::NoMemory) => ended(write_answer(writer, &Answer::Unavailable)),
         Err(ReceiveFault::Read) => Err(ServeFault::Read),
     }
 }

@@ -11,6 +11,6 @@ mod respond;
 mod rows;
 
 pub use bike_feeds::Desk;
-pub use bike_heads::Routes;
+pub use bike_http_head::Routes;
 pub use exchange::{ServeFault, Served, serve_one};
 pub use laws::answered_once;

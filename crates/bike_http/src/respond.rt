@@ -7,38 +7,22 @@ ghost use Rattle.bike_feeds.specs.Desk.{desk_state, OfOperator, KeepsWhereGoing}
 ghost use Rattle.bike_feeds.specs.Queries.{Queries};
 ghost use Rattle.bike_http.specs.Shown.{shown_of};
 ghost use Rattle.bike_http.specs.Exchange.{answered, IsGood};
-ghost use Rattle.bike_http.specs.Telling.{Tells, TellsReply, RestsAfter, SendsAnswer, SendsText, Publishes, RespondsTo};
+ghost use Rattle.bike_http_response.specs.Sent.{Sends};
+ghost use Rattle.bike_http.specs.Telling.{Tells, TellsReply, RestsAfter, SendsText, Publishes, RespondsTo};
 ghost use Rattle.bike_http.specs.Telling.{refusal_of};
 
 use crate::rows::{bike_answer, order_answer, rental_answer, rider_answer};
-use bike_answers::{Answer, head_text, write_answer};
 use bike_commands::Request;
 use bike_feed_texts::Feed;
 use bike_feeds::{Desk, DeskFault, FeedFault, write_feed};
 use bike_fixed::Moment;
-use bike_heads::{Rejection, Shown};
-use bike_incoming::Asked;
-use bike_stream::write_whole;
+use bike_http_head::{Rejection, RowKey};
+use bike_http_request::Action;
+use bike_http_response::{Answer, Status, head_text, write_answer};
+use bike_stream::{WriteFault, write_whole};
 use sqlite::Alter;
 use std::alloc::Global;
 use std::io::Write;
-
-/// Why a response wasn't sent whole.
-#[derive(Clone, Copy, Debug, PartialEq, Eq)]
-pub(crate) enum SendFault {
-    /// A write failed.
-    Write,
-}
-
-/// Sends an answer.
-pub(crate) fn send<W: Write>(writer: &mut W, answer: &Answer) -> Result<u16, SendFault>
-    ensures { SendsAnswer (W.contents writer.old) (W.contents writer.new) answer.now result }
-{
-    match write_answer(writer, answer) {
-        Ok(status) => Ok(status),
-        Err(_) => Err(SendFault::Write),
-    }
-}
 
 /// Asks the desk to act.
 fn act<S: Alter>(alloc: Global, desk: &mut Desk<S>, moment: Moment, request: &Request) -> Answer
@@ -47,7 +31,7 @@ fn act<S: Alter>(alloc: Global, desk: &mut Desk<S>, moment: Moment, request: &Re
     ensures told { OfOperator S.Store desk.old desk.new (λ s.
         TellsReply S.Store desk.new s moment request.now result) }
     ensures rests { OfOperator S.Store desk.old desk.new (λ s.
-        RestsAfter S.Store desk.old desk.new s moment (Asked.Apply request.now)) }
+        RestsAfter S.Store desk.old desk.new s moment (Action.Apply request.now)) }
     // What was asked is a good request.
     ensures good { IsCall (moment, request.now) }
     // A stopped desk.
@@ -64,19 +48,19 @@ fn act<S: Alter>(alloc: Global, desk: &mut Desk<S>, moment: Moment, request: &Re
 }
 
 /// Asks the desk for a row.
-fn find_row<S: Alter>(alloc: Global, desk: &mut Desk<S>, row: Shown) -> Result<Answer, DeskFault>
+fn find_row<S: Alter>(alloc: Global, desk: &mut Desk<S>, row: RowKey) -> Result<Answer, DeskFault>
     ensures { Queries S.Store desk.old desk.new result (λ s answer. answer ≡ shown_of s row) }
 {
     match row {
-        Shown::Rider(rider) => Ok(rider_answer(rider, desk.rider(rider)?)),
-        Shown::Bike(bike) => Ok(bike_answer(bike, desk.bike(alloc, bike)?)),
-        Shown::Rental(rental) => Ok(rental_answer(rental, desk.rental(alloc, rental)?)),
-        Shown::Order(order) => Ok(order_answer(order, desk.order(alloc, order)?)),
+        RowKey::Rider(rider) => Ok(rider_answer(rider, desk.rider(rider)?)),
+        RowKey::Bike(bike) => Ok(bike_answer(bike, desk.bike(alloc, bike)?)),
+        RowKey::Rental(rental) => Ok(rental_answer(rental, desk.rental(alloc, rental)?)),
+        RowKey::Order(order) => Ok(order_answer(order, desk.order(alloc, order)?)),
     }
 }
 
 /// Asks the desk to show a row.
-fn show<S: Alter>(alloc: Global, desk: &mut Desk<S>, row: Shown) -> Answer
+fn show<S: Alter>(alloc: Global, desk: &mut Desk<S>, row: RowKey) -> Answer
     ensures clean { doubt (desk_state S.Store desk.old).is_clean ≤ doubt (desk_state S.Store desk.new).is_clean }
     ensures told { OfOperator S.Store desk.old desk.new (λ s.
         Tells S.Store desk.new s (answered (shown_of s row)) s (answered result)) }
@@ -91,17 +75,13 @@ fn show<S: Alter>(alloc: Global, desk: &mut Desk<S>, row: Shown) -> Answer
 }
 
 /// Sends a feed's text behind its head.
-fn send_text<W: Write>(writer: &mut W, text: &[u8]) -> Result<u16, SendFault>
+fn send_text<W: Write>(writer: &mut W, text: &[u8]) -> Result<Status, WriteFault>
     ensures { SendsText (W.contents writer.old) (W.contents writer.new) text.now result }
 {
-    let head = head_text(200, None, text.len() as u64);
-    if write_whole(writer, head.as_str().as_bytes()).is_err() {
-        return Err(SendFault::Write);
-    }
-    match write_whole(writer, text) {
-        Ok(()) => Ok(200),
-        Err(_) => Err(SendFault::Write),
-    }
+    let head = head_text(Status::Ok, None, text.len() as u64);
+    write_whole(writer, head.as_str().as_bytes())?;
+    write_whole(writer, text)?;
+    Ok(Status::Ok)
 }
 
 /// Publishes a feed for a moment: its text is held as it is made, and sent once its length is known. Where there is no
@@ -112,20 +92,23 @@ fn publish_at<S: Alter, W: Write>(
     feed: Feed,
     moment: Moment,
     writer: &mut W,
-) -> Result<u16, SendFault>
+) -> Result<Status, WriteFault>
     ensures clean { doubt (desk_state S.Store desk.old).is_clean ≤ doubt (desk_state S.Store desk.new).is_clean }
     ensures sent { OfOperator S.Store desk.old desk.new (λ s.
         Publishes S.Store desk.new s moment feed (W.contents writer.old) (W.contents writer.new) result) }
     ensures rests { KeepsWhereGoing S.Store desk.old desk.new }
     ensures stays { IsTrue desk.old.is_stopped → desk.new ≡ desk.old }
     ensures refuses { IsTrue desk.old.is_stopped
-        → SendsAnswer (W.contents writer.old) (W.contents writer.new) Answer.Unavailable result }
+        → Sends (W.contents writer.old) (W.contents writer.new) Answer.Unavailable result }
 {
     let mut text = Vec::new(alloc);
     match write_feed(alloc, desk, feed, moment, &mut text) {
         Ok(()) => send_text(writer, text.as_slice()),
-        Err(FeedFault::SystemMissing) => send(writer, &Answer::Rejected(Rejection::NotFound)),
-        Err(_) => send(writer, &Answer::Unavailable),
+        Err(FeedFault::SystemMissing) => write_answer(
+            writer,
+            &Answer::Rejected(Rejection::NotFound),
+        ),
+        Err(_) => write_answer(writer, &Answer::Unavailable),
     }
 }
 
@@ -137,18 +120,18 @@ fn publish<S: Alter, W: Write>(
     feed: Feed,
     moment: Moment,
     writer: &mut W,
-) -> Result<u16, SendFault>
+) -> Result<Status, WriteFault>
     ensures clean { doubt (desk_state S.Store desk.old).is_clean ≤ doubt (desk_state S.Store desk.new).is_clean }
     ensures sent { OfOperator S.Store desk.old desk.new (λ s.
         Publishes S.Store desk.new s (max moment s.now) feed (W.contents writer.old) (W.contents writer.new) result) }
     ensures rests { KeepsWhereGoing S.Store desk.old desk.new }
     ensures stays { IsTrue desk.old.is_stopped → desk.new ≡ desk.old }
     ensures refuses { IsTrue desk.old.is_stopped
-        → SendsAnswer (W.contents writer.old) (W.contents writer.new) Answer.Unavailable result }
+        → Sends (W.contents writer.old) (W.contents writer.new) Answer.Unavailable result }
 {
     match desk.now() {
         Ok(now) => publish_at(alloc, desk, feed, moment.later(&now), writer),
-        Err(_) => send(writer, &Answer::Unavailable),
+        Err(_) => write_answer(writer, &Answer::Unavailable),
     }
 }
 
@@ -157,9 +140,9 @@ pub(crate) fn respond<S: Alter, W: Write>(
     alloc: Global,
     desk: &mut Desk<S>,
     moment: Moment,
-    asked: Asked,
+    asked: Action,
     writer: &mut W,
-) -> Result<u16, SendFault>
+) -> Result<Status, WriteFault>
     // What is sent, and where the desk is then.
     ensures clean { doubt (desk_state S.Store desk.old).is_clean ≤ doubt (desk_state S.Store desk.new).is_clean }
     ensures sent { OfOperator S.Store desk.old desk.new (λ s.
@@ -170,19 +153,19 @@ pub(crate) fn respond<S: Alter, W: Write>(
     // A stopped desk.
     ensures stays { IsTrue desk.old.is_stopped → desk.new ≡ desk.old }
     ensures refuses { IsTrue desk.old.is_stopped
-        → SendsAnswer (W.contents writer.old) (W.contents writer.new) (refusal_of asked) result }
+        → Sends (W.contents writer.old) (W.contents writer.new) (refusal_of asked) result }
 {
     match asked {
-        Asked::Reject(rejection) => send(writer, &Answer::Rejected(rejection)),
-        Asked::Apply(request) => {
+        Action::Reject(rejection) => write_answer(writer, &Answer::Rejected(rejection)),
+        Action::Apply(request) => {
             let answer = act(alloc, desk, moment, &request);
             drop(request);
-            send(writer, &answer)
+            write_answer(writer, &answer)
         }
-        Asked::Show(row) => {
+        Action::Show(row) => {
             let answer = show(alloc, desk, row);
-            send(writer, &answer)
+            write_answer(writer, &answer)
         }
-        Asked::Publish(feed) => publish(alloc, desk, feed, moment, writer),
+        Action::Publish(feed) => publish(alloc, desk, feed, moment, writer),
     }
 }

@@ -1,6 +1,6 @@
 -- The escapes of a text, run by run.
-use Rattle.std.proofs.Common.{◌≡◌, ℕ, ◌+◌, ◌-◌, ◌<◌, ◌≤◌, List, [], ◌∷◌, ◌++◌, length, get_or, take, drop, slice_range, sym, ap, ◌∙◌, arith, append-nil, append_assoc, length-drop, take-append-drop}
-use Rattle.std.proofs.lemmas.List.{take_more, take_rest, get_or-drop}
+use Rattle.std.proofs.Common.{◌≡◌, ℕ, ◌+◌, ◌-◌, ◌<◌, ◌≤◌, List, [], ◌∷◌, ◌++◌, length, get_or, set, take, drop, slice_range, sym, ap, ◌∙◌, arith, append-nil, length-drop, take-append-drop}
+use Rattle.std.proofs.lemmas.List.{take_more, take_more_set, take_all, take_rest, get_or-drop}
 use Rattle.std.proofs.lemmas.Grind.{flat_map-append}
 use Rattle.std.proofs.Math.Seq.{take-add}
 use Rattle.bike_json.specs.Escapes.{escaped_byte, json_escapes, string_text}
@@ -51,10 +51,18 @@ run_none s k =
     let none : k - k ≡ 0 = omega arith in
     ap (λ n. json_escapes (take n (drop k s))) none ∙ ap (λ n. take n (drop k s)) (sym none)
 
--- a string with what comes before and behind it, written in three parts
-pub string_in_parts : (before text tail : List ℕ) → ((before ++ 34 ∷ []) ++ json_escapes text) ++ 34 ∷ tail ≡ (before ++ string_text text) ++ tail
+-- a string as far as it is put, and one byte more
+pub string_goes_on : (text buf : List ℕ) (i : ℕ) → i < length text → i + 1 < length buf → escaped_byte (get_or text i 0) ≡ get_or text i 0 ∷ []
+    → take (i + 1) buf ≡ 34 ∷ json_escapes (take i text) → take (i + 1 + 1) (set buf (i + 1) (get_or text i 0)) ≡ 34 ∷ json_escapes (take (i + 1) text)
+string_goes_on text buf i lt room plain so_far =
+    let b = get_or text i 0 in
+    let more = ap json_escapes (take_more text i 0 lt) ∙ (flat_map-append escaped_byte (take i text) (b ∷ []) ∙ ap (λ l. json_escapes (take i text) ++ l) (append-nil (escaped_byte b) ∙ plain)) in
+    take_more_set buf (i + 1) b room ∙ (ap (λ l. l ++ b ∷ []) so_far ∙ ap (λ l. 34 ∷ l) (sym more))
+
+-- the whole string
+pub string_ends : (text buf : List ℕ) → length text + 1 < length buf → take (length text + 1) buf ≡ 34 ∷ json_escapes (take (length text) text)
+    → take (length text + 1 + 1) (set buf (length text + 1) 34) ≡ string_text text
 unfolding string_text
-string_in_parts before text tail =
-    append_assoc (before ++ 34 ∷ []) (json_escapes text) (34 ∷ tail)
-    ∙ (append_assoc before (34 ∷ []) (json_escapes text ++ 34 ∷ tail)
-    ∙ (ap (λ l. before ++ 34 ∷ l) (sym (append_assoc (json_escapes text) (34 ∷ []) tail)) ∙ sym (append_assoc before (string_text text) tail)))
+string_ends text buf room so_far =
+    take_more_set buf (length text + 1) 34 room
+    ∙ (ap (λ l. l ++ 34 ∷ []) so_far ∙ ap (λ l. 34 ∷ (json_escapes l ++ 34 ∷ [])) (take_all (length text) text (omega arith)))

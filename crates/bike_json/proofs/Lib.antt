@@ -1,5 +1,6 @@
 pub mod Escaping
 pub mod Levels
+pub mod Names
 pub mod OneText
 pub mod Reading
 pub mod Rows

@@ -1,4 +1,5 @@
 pub mod Escapes
+pub mod Names
 pub mod Front
 pub mod Strings
 pub mod Tree

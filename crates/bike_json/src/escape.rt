@@ -1,18 +1,29 @@
 //! The escapes of a JSON string (RFC 8259, section 7).
 
 ghost use Rattle.std.specs.Prelude.{◌≡◌, ◌<◌, ◌≤◌, ◌∷◌, [], take, true};
-ghost use Rattle.bike_json.specs.Escapes.{escaped_byte, json_escapes, hex_digit as hex_digit_of};
+ghost use Rattle.bike_json.specs.Escapes.{escaped_byte, string_text, hex_digit as hex_digit_of};
 
-/// Whether each of the bytes stands for itself.
-pub(crate) fn is_plain(bytes: &[u8]) -> bool
-    ensures { result ≡ true → json_escapes bytes.now ≡ bytes.now }
+/// Room for a string that is written in one piece, in bytes.
+pub(crate) const STRING_ROOM: usize = 64;
+
+/// Puts the string of a text at the front of `buf` and gives its length, where the text has no escape and its string
+/// has room; else gives 0.
+pub(crate) fn quote(text: &[u8], buf: &mut [u8; STRING_ROOM]) -> usize
+    ensures within { result ≤ STRING_ROOM }
+    ensures string { 0 < result → take result buf.new ≡ string_text text.now }
 {
-    for i in 0..bytes.len() {
-        if !stands_for_itself(bytes[i]) {
-            return false;
-        }
+    if text.len() > STRING_ROOM - 2 {
+        return 0;
     }
-    true
+    buf[0] = b'"';
+    for i in 0..text.len() {
+        if !stands_for_itself(text[i]) {
+            return 0;
+        }
+        buf[i + 1] = text[i];
+    }
+    buf[text.len() + 1] = b'"';
+    text.len() + 2
 }
 
 /// Whether the byte stands for itself. Most bytes of a name are above the backslash, so that is asked first.

@@ -8,12 +8,14 @@
 mod escape;
 mod laws;
 mod level;
+mod member;
 mod output;
 mod state;
 mod writer;
 
 pub use laws::{string_laws, text_laws};
 pub use level::Level;
+pub use member::MemberName;
 pub use output::{Discard, Output};
 pub use state::JsonState;
 pub use writer::JsonWriter;

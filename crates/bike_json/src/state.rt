@@ -8,8 +8,9 @@ ghost use Rattle.bike_json.specs.Tree.{comma, flag_text};
 ghost use Rattle.bike_json.specs.State.{Wrote, WroteNext, IsAt, outset, takes_value, takes_name, takes_array_end};
 ghost use Rattle.bike_json.specs.State.{has_more, after_value};
 
-use crate::escape::{escape, is_plain};
+use crate::escape::{STRING_ROOM, escape, quote};
 use crate::level::Level;
+use crate::member::MemberName;
 use crate::output::Output;
 use bike_fixed::{Cents, Micro};
 use bike_stream::WriteFault;
@@ -130,9 +131,24 @@ impl JsonState {
         ensures outcome { is_ok result ≡ not self.new.failed }
     {
         let before = self.count;
-        self.open_quote(out);
-        self.escaped(out, name.as_bytes());
-        self.emit(out, b"\":");
+        self.separate(out);
+        self.put_string(out, name.as_bytes());
+        self.emit(out, b":");
+        self.top = Level::NamedObject;
+        self.settle(before)
+    }
+
+    /// A member's name that is known beforehand; its value comes next.
+    pub fn member<W: Output>(&mut self, out: &mut W, name: MemberName) -> Result<(), WriteFault>
+        requires { IsTrue (takes_name self.old.top) }
+        ensures wrote { Wrote self.old self.new (W.contents out.old) (W.contents out.new)
+            (comma (has_more self.old.top) ++ string_text name.plain.now ++ 58 ∷ []) }
+        ensures place { IsAt self.new Level.NamedObject self.old.round }
+        ensures count { self.new.failed ≡ true → self.new.count ≡ self.old.count }
+        ensures outcome { is_ok result ≡ not self.new.failed }
+    {
+        let before = self.count;
+        self.put_name(out, name);
         self.top = Level::NamedObject;
         self.settle(before)
     }
@@ -146,9 +162,8 @@ impl JsonState {
         ensures outcome { is_ok result ≡ not self.new.failed }
     {
         let before = self.count;
-        self.open_quote(out);
-        self.escaped(out, text.as_bytes());
-        self.emit(out, b"\"");
+        self.separate(out);
+        self.put_string(out, text.as_bytes());
         self.end_value();
         self.settle(before)
     }
@@ -255,31 +270,38 @@ impl JsonState {
         }
     }
 
-    /// The quotation mark that begins a string, behind the comma of a part that isn't the first.
-    fn open_quote<W: Output>(&mut self, out: &mut W)
-        ensures wrote { WroteNext self.old self.new (W.contents out.old) (W.contents out.new) (34 ∷ []) }
+    /// The name and its colon, behind the comma of a part that isn't the first.
+    fn put_name<W: Output>(&mut self, out: &mut W, name: MemberName)
+        requires { IsTrue (takes_name self.old.top) }
+        ensures wrote { WroteNext self.old self.new (W.contents out.old) (W.contents out.new)
+            (string_text name.plain.now ++ 58 ∷ []) }
         ensures place { IsAt self.new self.old.top self.old.round }
     {
+        let text = name.text.as_bytes();
         match self.top {
-            Level::FilledArray | Level::FilledObject => self.emit(out, b",\""),
-            _ => self.emit(out, b"\""),
+            Level::FilledObject => self.emit(out, text),
+            _ => self.emit(out, &text[1..]),
         }
     }
 
-    /// The bytes with their escapes.
-    fn escaped<W: Output>(&mut self, out: &mut W, bytes: &[u8])
-        ensures wrote { Wrote self.old self.new (W.contents out.old) (W.contents out.new) (json_escapes bytes.now) }
+    /// The string of a text: nearly always one piece.
+    fn put_string<W: Output>(&mut self, out: &mut W, text: &[u8])
+        ensures wrote { Wrote self.old self.new (W.contents out.old) (W.contents out.new) (string_text text.now) }
         ensures place { IsAt self.new self.old.top self.old.round }
     {
-        if is_plain(bytes) {
-            self.emit(out, bytes);
-        } else {
-            self.escaped_runs(out, bytes);
+        let mut buf = [0u8; STRING_ROOM];
+        let length = quote(text, &mut buf);
+        if length > 0 {
+            self.emit(out, &buf[..length]);
+            return;
         }
+        self.emit(out, b"\"");
+        self.escaped_runs(out, text);
+        self.emit(out, b"\"");
     }
 
-    /// The bytes with their escapes, in as few runs as there are. Hardly a text has an escape, so this is no part of
-    /// the function above, which is inlined.
+    /// The bytes with their escapes, in as few runs as there are. Hardly a text needs this, so it is no part of the
+    /// function above, which is inlined.
     #[inline(never)]
     fn escaped_runs<W: Output>(&mut self, out: &mut W, bytes: &[u8])
         ensures wrote { Wrote self.old self.new (W.contents out.old) (W.contents out.new) (json_escapes bytes.now) }

@@ -9,6 +9,7 @@ ghost use Rattle.bike_json.specs.State.{Wrote, WroteNext, IsAt, outset, takes_va
 ghost use Rattle.bike_json.specs.State.{has_more, after_value};
 
 use crate::level::Level;
+use crate::member::MemberName;
 use crate::output::Output;
 use crate::state::JsonState;
 use bike_fixed::{Cents, Micro};
@@ -118,6 +119,18 @@ impl<W: Output + Drop> JsonWriter<W> {
         ensures outcome { is_ok result ≡ not self.new.place.failed }
     {
         self.state.name(&mut self.out, name)
+    }
+
+    /// A member's name that is known beforehand; its value comes next.
+    pub fn member(&mut self, name: MemberName) -> Result<(), WriteFault>
+        requires { IsTrue (takes_name self.old.place.top) }
+        ensures wrote { Wrote self.old.place self.new.place self.old.contents self.new.contents
+            (comma (has_more self.old.place.top) ++ string_text name.plain.now ++ 58 ∷ []) }
+        ensures place { IsAt self.new.place Level.NamedObject self.old.place.round }
+        ensures count { self.new.place.failed ≡ true → self.new.place.count ≡ self.old.place.count }
+        ensures outcome { is_ok result ≡ not self.new.place.failed }
+    {
+        self.state.member(&mut self.out, name)
     }
 
     /// A string.

@@ -20,8 +20,8 @@ use Rattle.bike_operator.specs.Operator.{Operator, Kept, texts_cmp, item_numbere
 use Rattle.bike_operator.specs.Counts.{count, open_rentals, is_open}
 use Rattle.bike_operator.specs.Steps.{fare_now, with_fare, after_end, after_recovery, key_changed}
 use Rattle.bike_operator.specs.Sound.{IsOut, IsStop, IsOpenOrClosed, fares_of, fares_in, most_refunded, IsRentalAt, AreRentalsSound, IsSound}
-use Rattle.bike_places.proofs.ItemLemmas.{number_apart, length-number_changed}
-use Rattle.bike_places.proofs.Moment.{at_moment}
+use Rattle.bike_laws.proofs.SingleSteps.ItemLemmas.{number_apart, length-number_changed}
+use Rattle.bike_laws.proofs.SingleSteps.Moment.{at_moment}
 use Rattle.bike_laws.proofs.NumberLemmas.{number_same, count_changed}
 use Rattle.bike_laws.proofs.EntryLemmas.{refunded_added, fares_added, fares_apart, same_either, other_number}
 use Rattle.bike_laws.proofs.FoundLemmas.{IsViewOf, IsRentalOf, nothing, closing_now, closed_by}

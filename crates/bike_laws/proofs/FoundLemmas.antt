@@ -22,7 +22,7 @@ use Rattle.bike_operator.specs.View.{station_view, rider_view, planned_rental, r
 use Rattle.bike_operator.specs.Steps.{on, fare_now}
 use Rattle.bike_operator.specs.declared.records.Closing.{Closing}
 use Rattle.bike_operator.specs.Sound.{AreBikesSound, IsPlace}
-use Rattle.bike_places.proofs.TestLemmas.{holds}
+use Rattle.bike_laws.proofs.SingleSteps.TestLemmas.{holds}
 
 -- ---- options and tests
 

@@ -10,8 +10,8 @@ use Rattle.bike_operator.specs.View.{view_of, rental_view, rental_of, docked_vie
 use Rattle.bike_operator.specs.declared.limits.TheConstants.{MOST_RIDERS, MOST_ENTRIES}
 use Rattle.bike_operator.specs.Steps.{tests, effect}
 use Rattle.bike_operator.specs.Sound.{IsLedgerSound}
-use Rattle.bike_places.specs.Accepted.{AcceptedKeeps}
-use Rattle.bike_places.proofs.TestLemmas.{none_holds, holds}
+use Rattle.bike_laws.specs.SingleSteps.Accepted.{AcceptedKeeps}
+use Rattle.bike_laws.proofs.SingleSteps.TestLemmas.{none_holds, holds}
 use Rattle.bike_laws.proofs.FoundLemmas.{below_of, view_is, rental_is, rider_there, open_of, closed_of}
 use Rattle.bike_laws.proofs.QuietLaw.{quiet_kind, same_riders}
 use Rattle.bike_laws.proofs.LedgerLemmas.{ledger_quiet, ledger_rider, ledger_ended, ledger_recovered, ledger_started, is_payment, ledger_paid, ledger_refunded}

@@ -16,8 +16,8 @@ use Rattle.bike_operator.specs.Counts.{count, open_rentals, is_open}
 use Rattle.bike_operator.specs.declared.limits.TheConstants.{MOST_RIDERS, MOST_ENTRIES}
 use Rattle.bike_operator.specs.Steps.{fare_now, with_entry, with_fare, after_start, after_end, after_recovery, refunded_by}
 use Rattle.bike_operator.specs.Sound.{IsPayment, IsRiderNumber, IsOfRental, IsBooking, IsEntryAt, IsLedgerSound, IsSound}
-use Rattle.bike_places.proofs.ItemLemmas.{number_stays, number_or_last, number_apart}
-use Rattle.bike_places.proofs.Moment.{at_moment}
+use Rattle.bike_laws.proofs.SingleSteps.ItemLemmas.{number_stays, number_or_last, number_apart}
+use Rattle.bike_laws.proofs.SingleSteps.Moment.{at_moment}
 use Rattle.bike_laws.proofs.NumberLemmas.{number_same, count_added, count_changed}
 use Rattle.bike_laws.proofs.FoundLemmas.{IsViewOf, IsRentalOf, closing_now, closed_by}
 use Rattle.bike_laws.proofs.NameLemmas.{get_other, Either, either}

@@ -18,3 +18,6 @@ pub mod RentalLaw
 pub mod NoOperatorLemmas
 pub mod OrderLemmas
 pub mod MoneyLemmas
+pub mod SingleSteps
+pub mod SessionLemmas
+pub mod HistoryLemmas

@@ -6,11 +6,11 @@ use Rattle.std.specs.Ordering.{nat_cmp}
 use Rattle.bike_catalogue.specs.Rows.{PlanRow, TypeRow, RegionRow}
 use Rattle.bike_operator.specs.declared.records.Bike.{Bike}
 use Rattle.bike_operator.specs.Operator.{Station, Truck, Rider, Kept, Key, NameKey, text_cmp, texts_cmp, no_operator, item_numbered}
-use Rattle.bike_attributes.specs.declared.name_kind.NameKind.{NameKind}
+use Rattle.bike_fields.specs.declared.name_kind.NameKind.{NameKind}
 use Rattle.bike_operator.specs.Counts.{count}
 use Rattle.bike_operator.specs.Names.{is_name_of, further_names}
 use Rattle.bike_operator.specs.Sound.{IsSound, IsCatalogueSound, AreNamesSound, AreBikesSound, AreOrdersSound, AreRentalsSound, IsLedgerSound}
-use Rattle.bike_places.proofs.NameLemmas.{names_counted}
+use Rattle.bike_laws.proofs.SingleSteps.NameLemmas.{names_counted}
 
 no_number : {A : Type 0} (n : ℕ) (x : A) → item_numbered n [] ≡ Some x → ⊥
 no_number zero x e = absurd cc

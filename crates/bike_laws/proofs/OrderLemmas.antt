@@ -12,10 +12,10 @@ use Rattle.bike_operator.specs.Operator.{Operator, Kept, Key, texts_cmp}
 use Rattle.bike_operator.specs.Steps.{refusal_of, reply_of}
 use Rattle.bike_operator.specs.Runs.{Call, key_in, step, after, after_acceptance, outcome, outcome_with_kept}
 use Rattle.bike_operator.specs.Sound.{IsKept, IsSound, AreCalls}
-use Rattle.bike_places.proofs.CatalogueLaw.{catalogue_law}
-use Rattle.bike_places.proofs.NameLaw.{names_law}
-use Rattle.bike_places.proofs.BikeLaw.{bikes_law}
-use Rattle.bike_places.proofs.OrderLaw.{orders_law}
+use Rattle.bike_laws.proofs.SingleSteps.CatalogueLaw.{catalogue_law}
+use Rattle.bike_laws.proofs.SingleSteps.NameLaw.{names_law}
+use Rattle.bike_laws.proofs.SingleSteps.BikeLaw.{bikes_law}
+use Rattle.bike_laws.proofs.SingleSteps.OrderLaw.{orders_law}
 use Rattle.bike_laws.proofs.RetryLemmas.{texts_total, same_key}
 use Rattle.bike_laws.proofs.ReplyLemmas.{reply_good}
 use Rattle.bike_laws.proofs.LedgerLaw.{ledger_law}

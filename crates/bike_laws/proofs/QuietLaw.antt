@@ -4,8 +4,8 @@ use Rattle.std.specs.FinMap as finmap
 use Rattle.std.specs.Cmp.{nat_cmp_total}
 use Rattle.std.specs.Cmp.Lexicographic.{nat_list_cmp_total}
 use Rattle.bike_catalogue.specs.Rows.{moved_to, more_docks}
-use Rattle.bike_attributes.specs.declared.name_kind.NameKind.{NameKind}
-use Rattle.bike_attributes.specs.declared.name_kind.NameKind.TheVariants as named
+use Rattle.bike_fields.specs.declared.name_kind.NameKind.{NameKind}
+use Rattle.bike_fields.specs.declared.name_kind.NameKind.TheVariants as named
 use Rattle.bike_texts.specs.declared.ends.OrderEnd.{OrderEnd}
 use Rattle.bike_texts.specs.declared.ends.OrderEnd.TheVariants as end
 use Rattle.bike_texts.specs.declared.ends.Side.{Side}
@@ -21,7 +21,7 @@ use Rattle.bike_operator.specs.Operator.{Operator, item_numbered}
 use Rattle.bike_operator.specs.Names.{is_own_language}
 use Rattle.bike_operator.specs.View.{end_at, view_of}
 use Rattle.bike_operator.specs.Steps.{new_station, dock_marked, tests, refusal_of, place_reported, bike_reported, bike_placed, bike_marked, placed_at_end, with_delivery, after_unload, own_name_set, further_name_set, effect}
-use Rattle.bike_places.proofs.TestLemmas.{none_holds, none_of}
+use Rattle.bike_laws.proofs.SingleSteps.TestLemmas.{none_holds, none_of}
 use Rattle.bike_laws.proofs.NameLemmas.{insert_keeps}
 use Rattle.bike_laws.proofs.QuietLemmas.{IsQuiet, quiet_fields, quiet_station, quiet_name, quiet_reported, quiet_bike_reported, quiet_marked, quiet_placed, quiet_added, elsewhere_in, loaded_in, quiet_unloaded}
 

@@ -6,8 +6,8 @@ use Rattle.std.specs.Cmp.{nat_cmp_total}
 use Rattle.std.specs.Cmp.Lexicographic.{nat_list_cmp_total}
 use Rattle.std.proofs.lemmas.Option.{same_Some}
 use Rattle.bike_catalogue.specs.Rows.{PlanRow}
-use Rattle.bike_attributes.specs.declared.name_kind.NameKind.{NameKind}
-use Rattle.bike_attributes.specs.declared.name_kind.NameKind.TheVariants as named
+use Rattle.bike_fields.specs.declared.name_kind.NameKind.{NameKind}
+use Rattle.bike_fields.specs.declared.name_kind.NameKind.TheVariants as named
 use Rattle.bike_texts.specs.declared.ends.OrderEnd.{OrderEnd}
 use Rattle.bike_texts.specs.declared.ends.OrderEnd.TheVariants as end
 use Rattle.bike_texts.specs.declared.ends.Side.{Side}
@@ -22,7 +22,7 @@ use Rattle.bike_operator.specs.Counts.{is_on_truck, is_for_order}
 use Rattle.bike_operator.specs.View.{end_at}
 use Rattle.bike_operator.specs.Steps.{on, is_at_end, is_elsewhere, is_not_loaded, key_changed, with_report, place_reported, bike_reported, bike_placed, bike_marked, placed_at_end, with_delivery, after_unload, own_name_set, further_name_set}
 use Rattle.bike_operator.specs.Sound.{IsOut}
-use Rattle.bike_places.proofs.TestLemmas.{holds}
+use Rattle.bike_laws.proofs.SingleSteps.TestLemmas.{holds}
 use Rattle.bike_laws.proofs.NameLemmas.{insert_keeps, changed_keeps, get_other, changed_found, changed_other, Either, either}
 use Rattle.bike_laws.proofs.NameLemmas.Either.{Same, Other}
 

@@ -9,8 +9,8 @@ use Rattle.bike_operator.specs.Counts.{docked_at}
 use Rattle.bike_operator.specs.View.{view_of, rental_view, rental_of, docked_view}
 use Rattle.bike_operator.specs.Steps.{on, is_too_much, tests, effect}
 use Rattle.bike_operator.specs.Sound.{AreRentalsSound}
-use Rattle.bike_places.specs.Accepted.{AcceptedKeeps}
-use Rattle.bike_places.proofs.TestLemmas.{none_holds}
+use Rattle.bike_laws.specs.SingleSteps.Accepted.{AcceptedKeeps}
+use Rattle.bike_laws.proofs.SingleSteps.TestLemmas.{none_holds}
 use Rattle.bike_laws.proofs.FoundLemmas.{view_is, rental_is, rider_there, station_there, open_of, closed_of}
 use Rattle.bike_laws.proofs.QuietLaw.{quiet_kind}
 use Rattle.bike_laws.proofs.RentalLemmas.{rentals_quiet, rentals_topped_up, rentals_refunded}

@@ -15,7 +15,7 @@ use Rattle.bike_operator.specs.Operator.{Operator, Kept, texts_cmp, item_numbere
 use Rattle.bike_operator.specs.Counts.{count, open_rentals, is_open}
 use Rattle.bike_operator.specs.Steps.{on, with_entry, refunded_by}
 use Rattle.bike_operator.specs.Sound.{IsOut, IsStop, IsOpenOrClosed, is_fare, fares_of, most_refunded, IsRentalAt, AreRentalsSound, IsSound}
-use Rattle.bike_places.proofs.Moment.{at_moment}
+use Rattle.bike_laws.proofs.SingleSteps.Moment.{at_moment}
 use Rattle.bike_laws.proofs.EntryLemmas.{refunded_added, fares_apart, same_either, other_number}
 use Rattle.bike_laws.proofs.FoundLemmas.{IsViewOf}
 use Rattle.bike_laws.proofs.NameLemmas.{Either, either}

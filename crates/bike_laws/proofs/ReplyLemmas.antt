@@ -2,7 +2,7 @@
 use Rattle.std.proofs.Common.{◌≡◌, ℕ, ℤ, ◌+◌, ◌<◌, ◌≤◌, pos, List, [], ◌∷◌, ◌++◌, length, length-append, true, false, Option, Some, None, refl, sym, subst, arith}
 use Rattle.std.specs.FinMap as finmap
 use Rattle.std.proofs.lemmas.Int.{ints}
-use Rattle.bike_attributes.specs.Values.{SegmentRow}
+use Rattle.bike_fields.specs.Values.{SegmentRow}
 use Rattle.bike_catalogue.specs.Rows.{TypeRow}
 use Rattle.bike_fares.specs.Pricing.{fare_of}
 use Rattle.bike_fares.specs.Pricing as pricing
@@ -25,7 +25,7 @@ use Rattle.bike_operator.specs.View.{docked_view, typed_bike, rental_view, renta
 use Rattle.bike_operator.specs.declared.limits.TheConstants.{MOST_ENTRIES, MOST_ORDERS}
 use Rattle.bike_operator.specs.Steps.{tests, refusal_of, fare_now, after_end, after_recovery, refunded_by, started_reply, ended_reply, refunded_reply, reply_of}
 use Rattle.bike_operator.specs.Sound.{IsSound, is_refused}
-use Rattle.bike_places.proofs.TestLemmas.{none_holds}
+use Rattle.bike_laws.proofs.SingleSteps.TestLemmas.{none_holds}
 use Rattle.bike_laws.proofs.NumberLemmas.{count_some}
 use Rattle.bike_laws.proofs.EntryLemmas.{amounts_of, amounts_added, IsWithin, balance_within}
 use Rattle.bike_laws.proofs.FoundLemmas.{below_of, docked_is, IsViewOf, view_is, IsRentalOf, rental_is, open_of}

@@ -24,8 +24,8 @@ use Rattle.bike_operator.specs.Counts.{is_dock, open_rentals, is_open, is_riding
 use Rattle.bike_operator.specs.View.{typed_bike, docked_view}
 use Rattle.bike_operator.specs.Steps.{after_start}
 use Rattle.bike_operator.specs.Sound.{IsOut, is_fare, IsRentalAt, AreRentalsSound, IsOfRental, IsBooking, IsSound}
-use Rattle.bike_places.proofs.ItemLemmas.{number_or_last, number_within}
-use Rattle.bike_places.proofs.Moment.{at_moment}
+use Rattle.bike_laws.proofs.SingleSteps.ItemLemmas.{number_or_last, number_within}
+use Rattle.bike_laws.proofs.SingleSteps.Moment.{at_moment}
 use Rattle.bike_laws.proofs.NumberLemmas.{count_added}
 use Rattle.bike_laws.proofs.EntryLemmas.{IsApart, no_fares, no_refunds, same_either}
 use Rattle.bike_laws.proofs.FoundLemmas.{docked_is}

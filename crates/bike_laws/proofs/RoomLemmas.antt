@@ -17,7 +17,7 @@ use Rattle.bike_operator.specs.Operator.{Operator, item_at}
 use Rattle.bike_operator.specs.Counts.{count, open_rentals, is_open}
 use Rattle.bike_operator.specs.View.{has_full_ledger}
 use Rattle.bike_operator.specs.Sound.{IsSound, IsOpenOrClosed}
-use Rattle.bike_places.proofs.MapLemmas.{number_order, tied}
+use Rattle.bike_laws.proofs.SingleSteps.MapLemmas.{number_order, tied}
 
 -- the bicycle is in this rental
 record IsInRental (bikes : FinMap nat_cmp Bike) (number bike : ℕ) : Type 0 where

@@ -7,7 +7,7 @@ ghost use Rattle.bike_ledger.specs.Money.{IsConserved};
 ghost use Rattle.bike_commands.specs.declared.request.Request.{Request};
 ghost use Rattle.bike_commands.specs.Requests.{IsRequest};
 ghost use Rattle.bike_operator.specs.Operator.{Operator, no_operator};
-ghost use Rattle.bike_places.specs.Accepted.{AcceptedKeeps};
+ghost use Rattle.bike_laws.specs.SingleSteps.Accepted.{AcceptedKeeps};
 ghost use Rattle.bike_operator.specs.Sound.{IsSound, AreRentalsSound, IsLedgerSound, AreCalls};
 ghost use Rattle.bike_operator.specs.Runs.{Call, step, after, replies};
 

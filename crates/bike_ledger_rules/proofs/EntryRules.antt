@@ -18,7 +18,7 @@ use Rattle.bike_operator.specs.declared.records.Rental.{Rental}
 use Rattle.bike_operator.specs.declared.records.Closing.{Closing}
 use Rattle.bike_operator.specs.Operator.{Operator, item_numbered}
 use Rattle.bike_operator.specs.Counts.{count, is_open, open_rentals}
-use Rattle.bike_places.proofs.CountLemmas.{weight}
+use Rattle.bike_laws.proofs.SingleSteps.CountLemmas.{weight}
 use Rattle.bike_book.specs.Tables.{Tables, Riders, Rentals}
 use Rattle.bike_book.specs.Rows.{rental_row}
 use Rattle.bike_book.specs.Stored.{stored_rental}

@@ -2,7 +2,7 @@
 use Rattle.std.proofs.Common.{◌≡◌, ℕ, zero, suc, ◌≤◌, List, [], ◌∷◌, Bool, true, false, Some, refl, ap, ◌∙◌, arith}
 use Rattle.bike_operator.specs.Operator.{item_at}
 use Rattle.bike_operator.specs.Counts.{count}
-use Rattle.bike_places.proofs.CountLemmas.{count-cons, one}
+use Rattle.bike_laws.proofs.SingleSteps.CountLemmas.{count-cons, one}
 
 module _ {A : Type 0} (test : A → Bool) where
   -- the item at this place passes

@@ -4,7 +4,7 @@ use Rattle.std.specs.List.{fold, cons_option}
 use Rattle.sqlite_value.specs.Order.{Row}
 use Rattle.sqlite_rules.specs.Lists.{Has}
 use Rattle.bike_operator.specs.Counts.{count}
-use Rattle.bike_places.proofs.CountLemmas.{count-cons, weight}
+use Rattle.bike_laws.proofs.SingleSteps.CountLemmas.{count-cons, weight}
 use Rattle.bike_readings.specs.Readings.{rider_read}
 use Rattle.bike_ledger_rules.specs.declared.riders.RiderNumbers.{RiderNumbers}
 use Rattle.bike_ledger_rules.specs.Riders.{past_of, with_number, ArePast}

@@ -7,7 +7,7 @@ use Rattle.std.proofs.lemmas.List.{length-set, get_or-set_same, get_or-set_other
 use Rattle.bike_ledger.specs.Entries.{Entry}
 use Rattle.bike_ledger.specs.Ledger.{total}
 use Rattle.bike_operator.specs.Counts.{count}
-use Rattle.bike_places.proofs.CountLemmas.{count-cons, one}
+use Rattle.bike_laws.proofs.SingleSteps.CountLemmas.{count-cons, one}
 use Rattle.bike_ledger_rules.specs.Sums.{sum_at, with_added, with_read}
 
 -- there are as many sums as before

@@ -13,9 +13,9 @@ use Rattle.bike_schema.specs.Layouts.{layout_of, layout_in, has_primary, name_of
 use Rattle.bike_schema.proofs.LayoutLemmas.{all_by}
 use Rattle.bike_schema.specs.Makes.{OthersStay}
 use Rattle.bike_schema.specs.Tables.{is_parent, is_unused}
-use Rattle.bike_earlier.specs.declared.earlier.Earlier.{Earlier}
-use Rattle.bike_earlier.specs.declared.earlier.Earlier.TheVariants.{First, Second}
-use Rattle.bike_earlier.specs.Earlier.{IsAt, HasTablesAt, newer_names, tables_at}
+use Rattle.bike_recognition.specs.declared.earlier_versions.earlier.Earlier.{Earlier}
+use Rattle.bike_recognition.specs.declared.earlier_versions.earlier.Earlier.TheVariants.{First, Second}
+use Rattle.bike_recognition.specs.EarlierVersions.Earlier.{IsAt, HasTablesAt, newer_names, tables_at}
 use Rattle.bike_recognition.specs.Recognition.{TableStands}
 use Rattle.bike_schema.specs.Indexes.{more_names_by_language, more_names_by_thing}
 use Rattle.bike_migrate.specs.Raised.{AllStay, AreUnnamed, HasNameIndexes, MakesTable, MakesIndex, MakesIndexes, MakesNewer, MakesTables}

@@ -14,9 +14,9 @@ use Rattle.bike_schema.specs.Indexes.{TableIndex, HasIndex, more_names_by_langua
 use Rattle.bike_schema.specs.Makes.{is_our_name}
 use Rattle.bike_schema.specs.Tables.{tables_of, other_names}
 use Rattle.bike_schema.proofs.TableLemmas.{every_false}
-use Rattle.bike_earlier.specs.declared.earlier.Earlier.{Earlier}
-use Rattle.bike_earlier.specs.declared.earlier.Earlier.TheVariants.{First, Second}
-use Rattle.bike_earlier.specs.Earlier.{stations_name, stations_layout}
+use Rattle.bike_recognition.specs.declared.earlier_versions.earlier.Earlier.{Earlier}
+use Rattle.bike_recognition.specs.declared.earlier_versions.earlier.Earlier.TheVariants.{First, Second}
+use Rattle.bike_recognition.specs.EarlierVersions.Earlier.{stations_name, stations_layout}
 use Rattle.bike_migrate.specs.Raised.{IsEarlier, old_stations, tables_raised, filled_names, changed_names, Fills, DropsStations, is_product_name, OthersKept, Raises}
 use Rattle.bike_migrate.specs.Spared.{is_among}
 use Rattle.bike_migrate.specs.Stations.{AreCopies}

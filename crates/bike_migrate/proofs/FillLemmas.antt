@@ -17,9 +17,9 @@ use Rattle.bike_schema.specs.Layouts.{name_of}
 use Rattle.bike_schema.specs.Indexes.{more_names_by_language, more_names_by_thing}
 use Rattle.bike_schema.specs.Makes.{Makes}
 use Rattle.bike_schema.proofs.MakesLemmas.{makes_then, stay_then}
-use Rattle.bike_earlier.specs.declared.earlier.Earlier.{Earlier}
-use Rattle.bike_earlier.specs.declared.earlier.Earlier.TheVariants.{First, Second}
-use Rattle.bike_earlier.specs.Earlier.{stations_layout, completed, tables_at, HasTablesAt, IsAt}
+use Rattle.bike_recognition.specs.declared.earlier_versions.earlier.Earlier.{Earlier}
+use Rattle.bike_recognition.specs.declared.earlier_versions.earlier.Earlier.TheVariants.{First, Second}
+use Rattle.bike_recognition.specs.EarlierVersions.Earlier.{stations_layout, completed, tables_at, HasTablesAt, IsAt}
 use Rattle.bike_migrate.specs.Raised.{old_stations, version_write, station_writes, tables_raised, HasNameIndexes, filled_names, MakesTables, WritesOnly, Fills}
 use Rattle.bike_migrate.specs.Spared.{Spares}
 use Rattle.bike_migrate.proofs.SpareLemmas.{spares_then, spares_all, index_spared}

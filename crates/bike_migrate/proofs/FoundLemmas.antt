@@ -18,12 +18,12 @@ use Rattle.bike_recognition.specs.declared.version.MetaVersion.TheVariants.{Miss
 use Rattle.bike_adoption.specs.Audit.{row_name, IsAudited, IsBadIn}
 use Rattle.bike_adoption.specs.Finding.TheVariants as finding
 use Rattle.bike_adoption.specs.BadRow.{BadRow}
-use Rattle.bike_earlier.specs.declared.earlier.Earlier.{Earlier}
-use Rattle.bike_earlier.specs.declared.earlier.Earlier.TheVariants.{First, Second}
-use Rattle.bike_earlier.specs.declared.found.Found.{Found}
-use Rattle.bike_earlier.specs.declared.found.Found.TheVariants as found
-use Rattle.bike_earlier.specs.Earlier.{number_of, IsAt}
-use Rattle.bike_earlier.specs.Found.{earlier_of, IsNewest, IsOfEarlier, IsByNumber, IsByVersion, IsFoundAs}
+use Rattle.bike_recognition.specs.declared.earlier_versions.earlier.Earlier.{Earlier}
+use Rattle.bike_recognition.specs.declared.earlier_versions.earlier.Earlier.TheVariants.{First, Second}
+use Rattle.bike_recognition.specs.declared.earlier_versions.found.Found.{Found}
+use Rattle.bike_recognition.specs.declared.earlier_versions.found.Found.TheVariants as found
+use Rattle.bike_recognition.specs.EarlierVersions.Earlier.{number_of, IsAt}
+use Rattle.bike_recognition.specs.EarlierVersions.Found.{earlier_of, IsNewest, IsOfEarlier, IsByNumber, IsByVersion, IsFoundAs}
 use Rattle.bike_migrate.specs.Raised.{IsEarlier, Raises, tables_raised}
 use Rattle.bike_migrate.specs.Raising.{IsOnNewest, MayCommit, IsAsBefore, BecomesAt, RaisesInPlace, IsOutcome, MayCommitAny, ComesTo, cause_of}
 use Rattle.bike_migrate.specs.Verdicts.{AllGoodBefore, IsVerdictBefore}

@@ -15,8 +15,8 @@ use Rattle.bike_schema.specs.Makes.{Continues}
 use Rattle.bike_schema.specs.declared.fault.StatementFault.{StatementFault}
 use Rattle.bike_adoption.specs.Audit.{row_name}
 use Rattle.bike_adoption.specs.BadRow.{BadRow}
-use Rattle.bike_earlier.specs.declared.earlier.Earlier.{Earlier}
-use Rattle.bike_earlier.specs.Earlier.{stations_layout}
+use Rattle.bike_recognition.specs.declared.earlier_versions.earlier.Earlier.{Earlier}
+use Rattle.bike_recognition.specs.EarlierVersions.Earlier.{stations_layout}
 use Rattle.bike_migrate.specs.Calls.{DoesInside}
 use Rattle.bike_migrate.specs.Raised.{IsEarlier, old_stations, Raises, tables_raised}
 use Rattle.bike_migrate.specs.Raising.{MayCommit, IsJudged, Attempts, Ends, CommitsBy, EndsTransaction, BecomesAt, RaisesInPlace}

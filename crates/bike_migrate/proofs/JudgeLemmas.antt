@@ -9,8 +9,8 @@ use Rattle.bike_rows.specs.Calls.{ReadsWhere}
 use Rattle.bike_schema.specs.Tables.{IsOurs, tables_of}
 use Rattle.bike_adoption.specs.Audit.{row_name}
 use Rattle.bike_adoption.specs.BadRow.{BadRow}
-use Rattle.bike_earlier.specs.declared.earlier.Earlier.{Earlier}
-use Rattle.bike_earlier.specs.Earlier.{IsAt}
+use Rattle.bike_recognition.specs.declared.earlier_versions.earlier.Earlier.{Earlier}
+use Rattle.bike_recognition.specs.EarlierVersions.Earlier.{IsAt}
 use Rattle.bike_migrate.specs.Calls.{DoesInside}
 use Rattle.bike_migrate.specs.Raised.{IsEarlier, old_stations, tables_raised, Fills}
 use Rattle.bike_migrate.specs.Stations.{AreCopies}

@@ -24,11 +24,11 @@ use Rattle.bike_readings.specs.ReadOff.{operator_of}
 use Rattle.bike_readings.specs.Rules.{AllGood, row_under, IsVerdict}
 use Rattle.bike_readings.proofs.Places.{under_has}
 use Rattle.bike_readings.proofs.RulesLaws.{stored_good}
-use Rattle.bike_earlier.specs.declared.earlier.Earlier.{Earlier}
-use Rattle.bike_earlier.specs.declared.earlier.Earlier.TheVariants.{First, Second}
-use Rattle.bike_earlier.specs.declared.earlier.TheConstants.{MOST_DOCKS_BEFORE}
-use Rattle.bike_earlier.specs.Earlier.{number_of, tables_at}
-use Rattle.bike_earlier.specs.Stores.{tables_for_at, HasFewDocks, StoresAt}
+use Rattle.bike_recognition.specs.declared.earlier_versions.earlier.Earlier.{Earlier}
+use Rattle.bike_recognition.specs.declared.earlier_versions.earlier.Earlier.TheVariants.{First, Second}
+use Rattle.bike_recognition.specs.declared.earlier_versions.earlier.TheConstants.{MOST_DOCKS_BEFORE}
+use Rattle.bike_recognition.specs.EarlierVersions.Earlier.{number_of, tables_at}
+use Rattle.bike_recognition.specs.EarlierVersions.Stores.{tables_for_at, HasFewDocks, StoresAt}
 use Rattle.bike_migrate.specs.Raised.{IsEarlier, version_write, tables_raised, IsRaised}
 use Rattle.bike_migrate.specs.Stations.{has_few}
 use Rattle.bike_migrate.specs.Verdicts.{KeepsBound, AllGoodBefore}

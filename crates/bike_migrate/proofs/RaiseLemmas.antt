@@ -15,11 +15,11 @@ use Rattle.bike_readings.specs.ReadOff.{operator_of}
 use Rattle.bike_readings.specs.Rules.{AllGood}
 use Rattle.bike_readings.proofs.RulesLaws.{of_are_good, stored_good, stored_bad}
 use Rattle.bike_adoption.specs.Audit.{row_name, IsBadIn}
-use Rattle.bike_earlier.specs.declared.earlier.Earlier.{Earlier}
-use Rattle.bike_earlier.specs.declared.found.Found.{Found}
-use Rattle.bike_earlier.specs.declared.found.Found.TheVariants as found
-use Rattle.bike_earlier.specs.Found.{IsFoundAs}
-use Rattle.bike_earlier.specs.Stores.{StoresAt, StandsForAt, TreesStandForAt}
+use Rattle.bike_recognition.specs.declared.earlier_versions.earlier.Earlier.{Earlier}
+use Rattle.bike_recognition.specs.declared.earlier_versions.found.Found.{Found}
+use Rattle.bike_recognition.specs.declared.earlier_versions.found.Found.TheVariants as found
+use Rattle.bike_recognition.specs.EarlierVersions.Found.{IsFoundAs}
+use Rattle.bike_recognition.specs.EarlierVersions.Stores.{StoresAt, StandsForAt, TreesStandForAt}
 use Rattle.bike_recognition.specs.declared.recognition.Recognition.TheVariants as recognition
 use Rattle.bike_adoption.proofs.KeepLemmas.{Settles, stands_in}
 use Rattle.bike_adoption.proofs.FoundLemmas.{ours_there}

@@ -13,9 +13,9 @@ use Rattle.bike_rows.specs.Calls.{IsQuiet, ReadsWhere}
 use Rattle.bike_rows.proofs.ReadLemmas.{query_stopped}
 use Rattle.bike_rows.proofs.WalkLaw.{answers_all}
 use Rattle.bike_rows.specs.Stands.{Stands}
-use Rattle.bike_earlier.specs.declared.earlier.Earlier.{Earlier}
-use Rattle.bike_earlier.specs.declared.earlier.Earlier.TheVariants.{First, Second}
-use Rattle.bike_earlier.specs.Earlier.{stations_layout}
+use Rattle.bike_recognition.specs.declared.earlier_versions.earlier.Earlier.{Earlier}
+use Rattle.bike_recognition.specs.declared.earlier_versions.earlier.Earlier.TheVariants.{First, Second}
+use Rattle.bike_recognition.specs.EarlierVersions.Earlier.{stations_layout}
 use Rattle.bike_migrate.specs.Raised.{old_stations}
 use Rattle.bike_migrate.specs.Stations.{AsksRows}
 

@@ -21,13 +21,13 @@ use Rattle.bike_schema.proofs.MakesLemmas.{rows_of_table}
 use Rattle.bike_recognition.specs.Recognition.{TableStands, meta_version, version_in}
 use Rattle.bike_recognition.specs.declared.version.MetaVersion.{MetaVersion}
 use Rattle.bike_recognition.specs.declared.version.MetaVersion.TheVariants.{Version}
-use Rattle.bike_earlier.specs.declared.earlier.Earlier.{Earlier}
-use Rattle.bike_earlier.specs.declared.earlier.Earlier.TheVariants.{First, Second}
-use Rattle.bike_earlier.specs.declared.found.Found.{Found}
-use Rattle.bike_earlier.specs.declared.found.Found.TheVariants as found
-use Rattle.bike_earlier.specs.Earlier.{layout_at, tables_at, AreNewerFree, IsAt}
-use Rattle.bike_earlier.specs.Found.{IsNewest, IsOfEarlier, IsByVersion, IsFoundAs}
-use Rattle.bike_earlier.specs.Stores.{StoresAt, StandsForAt, TreesStandForAt}
+use Rattle.bike_recognition.specs.declared.earlier_versions.earlier.Earlier.{Earlier}
+use Rattle.bike_recognition.specs.declared.earlier_versions.earlier.Earlier.TheVariants.{First, Second}
+use Rattle.bike_recognition.specs.declared.earlier_versions.found.Found.{Found}
+use Rattle.bike_recognition.specs.declared.earlier_versions.found.Found.TheVariants as found
+use Rattle.bike_recognition.specs.EarlierVersions.Earlier.{layout_at, tables_at, AreNewerFree, IsAt}
+use Rattle.bike_recognition.specs.EarlierVersions.Found.{IsNewest, IsOfEarlier, IsByVersion, IsFoundAs}
+use Rattle.bike_recognition.specs.EarlierVersions.Stores.{StoresAt, StandsForAt, TreesStandForAt}
 use Rattle.bike_adoption.proofs.KeepLemmas.{no_meta}
 use Rattle.bike_adoption.proofs.AdoptLemmas.{same_tables}
 

@@ -54,9 +54,9 @@ use Rattle.bike_schema.proofs.MakeFacts.{text_of, declared, index_only, each_tol
 use Rattle.bike_schema.proofs.MakeTexts.{IsOnlyCreate, understood_as}
 use Rattle.bike_schema.proofs.MakesLemmas.{adds_row, sets_columns}
 use Rattle.bike_recognition.specs.Recognition.{TableStands}
-use Rattle.bike_earlier.specs.declared.earlier.Earlier.{Earlier}
-use Rattle.bike_earlier.specs.declared.earlier.Earlier.TheVariants.{First, Second}
-use Rattle.bike_earlier.specs.Earlier.{stations_name, stations_layout}
+use Rattle.bike_recognition.specs.declared.earlier_versions.earlier.Earlier.{Earlier}
+use Rattle.bike_recognition.specs.declared.earlier_versions.earlier.Earlier.TheVariants.{First, Second}
+use Rattle.bike_recognition.specs.EarlierVersions.Earlier.{stations_name, stations_layout}
 use Rattle.bike_migrate.specs.Raised.{MakesTable, MakesIndex, filled_names, WritesOnly, DropsStations, version_write}
 use Rattle.bike_migrate.specs.Stations.{station_row, is_text, is_whole, IsStationRow, AsksRows}
 use Rattle.bike_schema.proofs.MakeLemmas.{adds}

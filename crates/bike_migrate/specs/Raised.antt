@@ -18,9 +18,9 @@ use Rattle.bike_schema.specs.Tables.{tables_of, HasTables, is_parent, product_na
 use Rattle.bike_rows.specs.Drops as drops
 use Rattle.bike_recognition.specs.Recognition.{meta_version}
 use Rattle.bike_recognition.specs.declared.version.MetaVersion.TheVariants.{Version}
-use Rattle.bike_earlier.specs.declared.earlier.Earlier.{Earlier}
+use Rattle.bike_recognition.specs.declared.earlier_versions.earlier.Earlier.{Earlier}
 use Rattle.bike_migrate.specs.Stations.{station_row}
-use Rattle.bike_earlier.specs.Earlier.{IsAt, number_of, stations_name, stations_layout, tables_at}
+use Rattle.bike_recognition.specs.EarlierVersions.Earlier.{IsAt, number_of, stations_name, stations_layout, tables_at}
 use Rattle.bike_migrate.specs.Spared.{Spares}
 
 -- It is of this earlier version, as the row of `meta` tells, too.

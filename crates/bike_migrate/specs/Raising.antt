@@ -19,11 +19,11 @@ use Rattle.bike_schema.specs.declared.fault.StatementFault.TheVariants as statem
 use Rattle.bike_adoption.specs.Audit.{row_name, IsAudited, IsBadIn}
 use Rattle.bike_adoption.specs.Finding.TheVariants as finding
 use Rattle.bike_adoption.specs.BadRow.{BadRow}
-use Rattle.bike_earlier.specs.declared.earlier.Earlier.{Earlier}
-use Rattle.bike_earlier.specs.declared.found.Found.TheVariants as found
-use Rattle.bike_earlier.specs.Earlier.{stations_name}
-use Rattle.bike_earlier.specs.Found.{IsFoundAs}
-use Rattle.bike_earlier.specs.Stores.{StandsForAt, TreesStandForAt}
+use Rattle.bike_recognition.specs.declared.earlier_versions.earlier.Earlier.{Earlier}
+use Rattle.bike_recognition.specs.declared.earlier_versions.found.Found.TheVariants as found
+use Rattle.bike_recognition.specs.EarlierVersions.Earlier.{stations_name}
+use Rattle.bike_recognition.specs.EarlierVersions.Found.{IsFoundAs}
+use Rattle.bike_recognition.specs.EarlierVersions.Stores.{StandsForAt, TreesStandForAt}
 use Rattle.bike_migrate.specs.Raised.{IsEarlier, tables_raised, OthersKept, Raises}
 use Rattle.bike_migrate.specs.Verdicts.{AllGoodBefore, IsFirstBadBefore, IsVerdictBefore}
 use Rattle.bike_migrate.specs.declared.fault.RaiseCause.{RaiseCause}

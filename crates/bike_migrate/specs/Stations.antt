@@ -9,7 +9,7 @@ use Rattle.bike_rows.specs.Answer.{HasOneAnswer}
 use Rattle.bike_rows.specs.Layout.{Layout}
 use Rattle.bike_rows.specs.Stands.{rows_of, Stands}
 use Rattle.sqlite.specs.Effect.{Database}
-use Rattle.bike_earlier.specs.declared.earlier.TheConstants.{MOST_DOCKS_BEFORE}
+use Rattle.bike_recognition.specs.declared.earlier_versions.earlier.TheConstants.{MOST_DOCKS_BEFORE}
 
 -- the row as one of today: a column that it hasn't is NULL
 abbrev pub station_row : Row → Row

@@ -3,8 +3,8 @@
 ghost use Rattle.bike_book.specs.Tables.{Regions, Stations, MoreNames};
 ghost use Rattle.sqlite_resolve.specs.Compile.{first};
 ghost use Rattle.bike_rows.specs.Drops.{IsDrop};
-ghost use Rattle.bike_earlier.specs.Earlier.{newer_names, stations_name, IsAt};
-ghost use Rattle.bike_earlier.specs.declared.earlier.Earlier.TheVariants.{Second};
+ghost use Rattle.bike_recognition.specs.EarlierVersions.Earlier.{newer_names, stations_name, IsAt};
+ghost use Rattle.bike_recognition.specs.declared.earlier_versions.earlier.Earlier.TheVariants.{Second};
 ghost use Rattle.bike_recognition.specs.Recognition.{TableStands};
 ghost use Rattle.sqlite.specs.Effect.{IsDatabase};
 ghost use Rattle.bike_migrate.specs.Calls.{ChangesInside};
@@ -15,7 +15,7 @@ ghost use Rattle.bike_migrate.specs.Raised.{DropsStations};
 
 use crate::copy::fill;
 use crate::inside::run;
-use bike_earlier::Earlier;
+use bike_recognition::Earlier;
 use bike_schema::{INDEXES, StatementFault, TABLES};
 use sqlite::{Alter, Connection, Row};
 

@@ -5,8 +5,7 @@ ghost use Rattle.bike_adoption.specs.Audit.{row_name};
 ghost use Rattle.bike_migrate.specs.Raising.{failed, name_at};
 
 use bike_adoption::BadRow;
-use bike_earlier::Earlier;
-use bike_recognition::TableName;
+use bike_recognition::{Earlier, TableName};
 use bike_schema::StatementFault;
 use sqlite::{Alter, Connection};
 use std::error::Error;

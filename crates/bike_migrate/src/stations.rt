@@ -5,12 +5,12 @@ ghost use Rattle.std.specs.List.{list_all};
 ghost use Rattle.sqlite_value.specs.Order.{column};
 ghost use Rattle.sqlite_value.specs.Value.{owned};
 ghost use Rattle.bike_rows.specs.Calls.{ReadsWhere};
-ghost use Rattle.bike_earlier.specs.Earlier.{stations_layout};
+ghost use Rattle.bike_recognition.specs.EarlierVersions.Earlier.{stations_layout};
 ghost use Rattle.bike_migrate.specs.Raised.{old_stations, HasOld};
 ghost use Rattle.bike_migrate.specs.Stations.{AsksRows, is_text, is_whole, has_few, IsOver};
 
 use bike_book::columns::stations;
-use bike_earlier::{Earlier, MOST_DOCKS_BEFORE};
+use bike_recognition::{Earlier, MOST_DOCKS_BEFORE};
 use bike_schema::StatementFault;
 use sqlite::types::ValueRef;
 use sqlite::{Alter, Connection, Row};

@@ -16,8 +16,8 @@ use Rattle.bike_rows.proofs.SelectLaws.{rows_passing}
 use Rattle.bike_rows.proofs.TestLemmas.{eq_test}
 use Rattle.bike_catalogue.specs.Rows.{MoreNameRow, SystemRow}
 use Rattle.bike_fields.specs.Bytes.{kept_if, is_language, is_name, language_of, name_of}
-use Rattle.bike_attributes.specs.declared.name_kind.NameKind.{NameKind}
-use Rattle.bike_attributes.specs.NameKinds.{kind_text}
+use Rattle.bike_fields.specs.declared.name_kind.NameKind.{NameKind}
+use Rattle.bike_fields.specs.NameKinds.{kind_text}
 use Rattle.bike_operator.specs.Operator.{NameKey}
 use Rattle.bike_operator.specs.Names.{part_at, is_name_of}
 use Rattle.bike_book.specs.Tables.{MoreNames}

@@ -13,7 +13,7 @@ use Rattle.sqlite_value.specs.declared.value.Value.TheVariants.{Int}
 use Rattle.sqlite_value.specs.Order.{Row, column}
 use Rattle.sqlite_rules.specs.Lists.{Has}
 use Rattle.bike_rows.specs.View.{last_of}
-use Rattle.bike_attributes.specs.Values.{SegmentRow}
+use Rattle.bike_fields.specs.Values.{SegmentRow}
 use Rattle.bike_catalogue.specs.Rows.{PlanRow}
 use Rattle.bike_commands.specs.Commands.{text_of}
 use Rattle.bike_commands.specs.Replies.{reply_text, IsReply}
@@ -35,7 +35,6 @@ use Rattle.bike_schema.specs.declared.fault.StatementFault.{StatementFault}
 use Rattle.bike_schema.specs.Columns.{number_in, moment_in, whole_in, flag_in, ident_in, name_in, or_none, read_or_failed}
 use Rattle.bike_schema.proofs.ReadLemmas.{flag_read, name_read, number_read, moment_read, whole_read, ident_read, optional_moment_read, optional_whole_read, optional_ident_read}
 use Rattle.bike_office_reads.specs.declared.kept.KeptRow.{KeptRow}
-use Rattle.bike_office_reads.specs.declared.rentals.StoredRental.{StoredRental}
 use Rattle.bike_office_reads.specs.Accounts.{KeepsSame, stored_rental_at}
 use Rattle.bike_office_reads.specs.ReadRows.{HasClosing, KeepsRow}
 
@@ -99,11 +98,11 @@ not_full most n last few below = by (nat_le most n) refl
 -- ---- rentals
 
 -- the row of a rental with its refunds
-pub rental_found : (rental : ℕ) → WhereListed (λ s m. row_under s m Rentals (number_value rental ∷ []) ≡ option_map (λ (x : StoredRental). rental_row rental x.rental x.refunded) (stored_rental_at s rental))
+pub rental_found : (rental : ℕ) → WhereListed (λ s m. row_under s m Rentals (number_value rental ∷ []) ≡ option_map (λ (x : Rental × ℤ). rental_row rental x.0 x.1) (stored_rental_at s rental))
 rental_found rental s m sound listing = (found_by_key s m sound listing).rentals rental ∙ shown (item_numbered rental s.rentals)
   where
     shown : (o : Option Rental) → option_map (λ (r : Rental). rental_row rental r (refunded_of rental s.entries)) o
-        ≡ option_map (λ (x : StoredRental). rental_row rental x.rental x.refunded) (option_map (λ (r : Rental). record { rental = r; refunded = refunded_of rental s.entries }) o)
+        ≡ option_map (λ (x : Rental × ℤ). rental_row rental x.0 x.1) (option_map (λ (r : Rental). (r, refunded_of rental s.entries)) o)
     shown None = refl
     shown (Some r) = refl
 
@@ -131,19 +130,19 @@ refunded_in number r None refunded = refl
 refunded_in number r (Some c) refunded = refl
 
 -- a rental's columns are read as they were stored
-pub rental_read : {x : StoredRental} {row : Row} {refunds : ℤ} (number : ℕ) (y : StoredRental) → Told x.rental.rider (number_in 1 999999 (column row 1)) → Told x.rental.bike (number_in 1 999999 (column row 2)) → ident_in (column row 3) ≡ Some x.rental.plan
-    → ident_in (column row 4) ≡ Some x.rental.from_station → Told x.rental.start (moment_in (column row 5)) → ((closing : Option Closing) → HasClosing row closing → x.rental.closing ≡ closing) → Told refunds (whole_in (column row 9)) → x.refunded ≡ refunds
-    → row ≡ rental_row number y.rental y.refunded → x ≡ y
+pub rental_read : {x : Rental × ℤ} {row : Row} {refunds : ℤ} (number : ℕ) (y : Rental × ℤ) → Told x.0.rider (number_in 1 999999 (column row 1)) → Told x.0.bike (number_in 1 999999 (column row 2)) → ident_in (column row 3) ≡ Some x.0.plan
+    → ident_in (column row 4) ≡ Some x.0.from_station → Told x.0.start (moment_in (column row 5)) → ((closing : Option Closing) → HasClosing row closing → x.0.closing ≡ closing) → Told refunds (whole_in (column row 9)) → x.1 ≡ refunds
+    → row ≡ rental_row number y.0 y.1 → x ≡ y
 rental_read {x} {row} number y rider bike plan from_station start closing refunded shown is =
-    let at : (k : ℕ) → column row k ≡ column (rental_row number y.rental y.refunded) k = λ k. ap (λ r. column r k) is in
+    let at : (k : ℕ) → column row k ≡ column (rental_row number y.0 y.1) k = λ k. ap (λ r. column r k) is in
     let rider_is = number_read 1 999999 rider (at 1) in
     let bike_is = number_read 1 999999 bike (at 2) in
     let plan_is = ident_read plan (at 3) in
     let from_is = ident_read from_station (at 4) in
     let start_is = moment_read start (at 5) in
-    let closing_is = closing y.rental.closing (ap (λ r. map (column r) (6 ∷ 7 ∷ 8 ∷ [])) is ∙ closing_in number y.rental y.rental.closing y.refunded) in
-    let refunded_is = whole_read refunded (at 9 ∙ refunded_in number y.rental y.rental.closing y.refunded) in
-    λ i. record { rental = record { rider = rider_is i; bike = bike_is i; plan = plan_is i; from_station = from_is i; start = start_is i; closing = closing_is i }; refunded = (shown ∙ refunded_is) i }
+    let closing_is = closing y.0.closing (ap (λ r. map (column r) (6 ∷ 7 ∷ 8 ∷ [])) is ∙ closing_in number y.0 y.0.closing y.1) in
+    let refunded_is = whole_read refunded (at 9 ∙ refunded_in number y.0 y.0.closing y.1) in
+    λ i. (record { rider = rider_is i; bike = bike_is i; plan = plan_is i; from_station = from_is i; start = start_is i; closing = closing_is i }, (shown ∙ refunded_is) i)
 
 -- ---- plans
 

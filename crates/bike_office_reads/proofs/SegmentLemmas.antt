@@ -6,7 +6,7 @@ use Rattle.sqlite_value.specs.Order.{Row}
 use Rattle.sqlite_tied.specs.Compute.{everything}
 use Rattle.bike_rows.specs.View.{rows_where}
 use Rattle.bike_rows.proofs.SelectLaws.{rows_with}
-use Rattle.bike_attributes.specs.Values.{SegmentRow}
+use Rattle.bike_fields.specs.Values.{SegmentRow}
 use Rattle.bike_book.specs.Tables.{Segments}
 use Rattle.bike_book.specs.Rows.{segment_row}
 use Rattle.bike_book.specs.Stored.{segment_rows}

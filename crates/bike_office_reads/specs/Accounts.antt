@@ -1,12 +1,12 @@
 -- What the reads answer of an operator.
-use Rattle.std.specs.Prelude.{◌≡◌, ℕ, List, Option, Some, None, option_map, string_bytes}
+use Rattle.std.specs.Prelude.{◌≡◌, ℕ, ℤ, List, Option, Some, None, option_map, string_bytes}
 use Rattle.bike_ledger.specs.Ledger.{cash_of, revenue_of, refunded_of}
 use Rattle.bike_commands.specs.Commands.{text_of}
 use Rattle.bike_catalogue.specs.Rows.{SystemRow}
+use Rattle.bike_operator.specs.declared.records.Rental.{Rental}
 use Rattle.bike_operator.specs.Operator.{Operator, Kept, item_numbered}
 use Rattle.bike_office_reads.specs.declared.meta.MetaRow.{MetaRow}
 use Rattle.bike_office_reads.specs.declared.kept.KeptRow.{KeptRow}
-use Rattle.bike_office_reads.specs.declared.rentals.StoredRental.{StoredRental}
 
 -- the moment and the sums of the operator
 abbrev pub meta_of : Operator → MetaRow
@@ -20,8 +20,8 @@ KeepsSame (Some k) None = ⊥
 KeepsSame (Some k) (Some row) = (string_bytes row.command ≡ text_of k.command) × (row.reply ≡ k.reply)
 
 -- a rental, if it is there, with the sum of its refunds
-abbrev pub stored_rental_at : Operator → ℕ → Option StoredRental
-stored_rental_at s rental = option_map (λ r. record { rental = r; refunded = refunded_of rental s.entries }) (item_numbered rental s.rentals)
+abbrev pub stored_rental_at : Operator → ℕ → Option (Rental × ℤ)
+stored_rental_at s rental = option_map (λ r. (r, refunded_of rental s.entries)) (item_numbered rental s.rentals)
 
 -- the identifier and the language of the system
 abbrev pub system_key : SystemRow → List ℕ × List ℕ

@@ -7,8 +7,8 @@ use Rattle.sqlite_sql.specs.Aggregate.{count}
 use Rattle.bike_commands.specs.Commands.{text_of}
 use Rattle.bike_commands.specs.Replies.{reply_text, IsReply}
 use Rattle.bike_operator.specs.declared.records.Closing.{Closing}
-use Rattle.bike_attributes.specs.declared.name_kind.NameKind.{NameKind}
-use Rattle.bike_attributes.specs.NameKinds.{kind_text}
+use Rattle.bike_fields.specs.declared.name_kind.NameKind.{NameKind}
+use Rattle.bike_fields.specs.NameKinds.{kind_text}
 use Rattle.bike_catalogue.specs.Rows.{MoreNameRow}
 use Rattle.bike_operator.specs.Operator.{Kept, NameKey}
 use Rattle.bike_operator.specs.Names.{part_at}

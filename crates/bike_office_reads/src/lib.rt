@@ -25,6 +25,6 @@ pub use names::{NameRow, find_names, find_system_key, read_names, select_names};
 pub use newest::newest_tells;
 pub use plans::{are_plans_full, find_plan, find_plan_row_from, has_plan, has_system};
 pub use rentals::{
-    StoredRental, find_open_rental, find_rental, is_riding, open_rental_count, rental_count,
+    find_open_rental, find_rental, is_riding, open_rental_count, read_rental, rental_count,
 };
 pub use riders::{are_riders_full, find_rider, find_rider_balance, has_rider};

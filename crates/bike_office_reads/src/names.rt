@@ -19,10 +19,9 @@ ghost use Rattle.bike_office_reads.specs.ReadRows.{IsOwnedName, is_name_within, 
 use crate::collect::{ReadRow, collect_rows, short_text_at};
 use crate::plans::find_system_row;
 use arrayvec::ArrayString;
-use bike_attributes::NameKind;
 use bike_book::columns::system;
 use bike_catalogue::MoreName;
-use bike_fields::{Ident, LONGEST_IDENT, LONGEST_LANGUAGE, LONGEST_NAME, Language, Name};
+use bike_fields::{Ident, LONGEST_IDENT, LONGEST_LANGUAGE, LONGEST_NAME, Language, Name, NameKind};
 use bike_operator::MOST_FURTHER_NAMES;
 use bike_schema::{StatementFault, ident_at, language_at};
 use sqlite::{Alter, Connection, Error, Row, Rows, params};

@@ -12,10 +12,9 @@ ghost use Rattle.bike_schema.specs.Answers.{Answers};
 ghost use Rattle.bike_schema.specs.Within.{rows_from};
 
 use crate::segments::find_segments;
-use bike_attributes::Segment;
 use bike_book::columns::plans;
 use bike_catalogue::Plan;
-use bike_fields::Ident;
+use bike_fields::{Ident, Segment};
 use bike_operator::MOST_PLANS;
 use bike_rows::lookup::first_row;
 use bike_schema::{

@@ -24,15 +24,6 @@ use bike_schema::{
 use sqlite::{Alter, Connection, Row, params};
 use std::alloc::Global;
 
-/// A rental, and what was refunded of it.
-#[derive(Drop)]
-pub struct StoredRental {
-    /// The rental.
-    pub rental: Rental,
-    /// The sum of its refunds, in hundredths.
-    pub refunded: Cents,
-}
-
 /// The rental's row of `rentals`.
 fn find_rental_row<S: Alter>(
     conn: &mut Connection<S>,
@@ -91,9 +82,10 @@ fn read_closing(alloc: Global, row: &Row) -> Result<Option<Closing>, StatementFa
     }
 }
 
-/// The rental that stands in a row of `rentals`, whatever its number.
-fn read_rental(alloc: Global, row: &Row) -> Result<StoredRental, StatementFault>
-    ensures { (number : _) → IsReadOf (λ x. rental_row number x.rental x.refunded) row.now result }
+/// The rental that stands in a row of `rentals`, whatever its number, and the sum of its refunds. `NoMemory` where its
+/// texts find no room; a row that holds what the product never writes is `StoreFailed`.
+pub fn read_rental(alloc: Global, row: &Row) -> Result<(Rental, Cents), StatementFault>
+    ensures { (number : _) → IsReadOf (λ x. rental_row number x.0 x.1) row.now result }
 {
     let rider = number_at(row, rentals::RIDER)?;
     let bike = number_at(row, rentals::BIKE)?;
@@ -102,26 +94,24 @@ fn read_rental(alloc: Global, row: &Row) -> Result<StoredRental, StatementFault>
     let start = moment_at(row, rentals::START)?;
     let closing = read_closing(alloc, row)?;
     let refunded = cents_at(row, rentals::REFUNDED)?;
-    Ok(StoredRental {
-        rental: Rental {
-            rider,
-            bike,
-            plan,
-            from_station,
-            start,
-            closing,
-        },
-        refunded,
-    })
+    let rental = Rental {
+        rider,
+        bike,
+        plan,
+        from_station,
+        start,
+        closing,
+    };
+    Ok((rental, refunded))
 }
 
-/// The rental of this number, if there is one. `NoMemory` where its texts find no room; every other fault is the
-/// database's.
+/// The rental of this number, if there is one, and the sum of its refunds. `NoMemory` where its texts find no room;
+/// every other fault is the database's.
 pub fn find_rental<S: Alter>(
     alloc: Global,
     conn: &mut Connection<S>,
     rental: RentalNumber,
-) -> Result<Option<StoredRental>, StatementFault>
+) -> Result<Option<(Rental, Cents)>, StatementFault>
     ensures { Answers S.Store conn.old conn.new result (λ s m x. x ≡ stored_rental_at s rental) }
 {
     match find_rental_row(conn, rental)? {

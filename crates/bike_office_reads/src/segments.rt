@@ -10,9 +10,8 @@ ghost use Rattle.bike_book.specs.Stored.{segment_rows};
 ghost use Rattle.bike_book.specs.Found.{rows_by};
 ghost use Rattle.bike_schema.specs.Answers.{Answers, IsReadOf};
 
-use bike_attributes::{Rate, Segment};
 use bike_book::columns::segments;
-use bike_fields::Ident;
+use bike_fields::{Ident, Rate, Segment};
 use bike_schema::{StatementFault, cents_at, number_at, optional_number_at};
 use sqlite::{Alter, Connection, Row, params};
 use std::alloc::Global;

@@ -15,7 +15,7 @@ use Rattle.bike_rows.specs.View.{row_with, rows_where}
 use Rattle.bike_rows.proofs.TestLemmas.{then_eq}
 use Rattle.bike_operator.specs.Operator.{Operator, Key, key_of}
 use Rattle.bike_operator.specs.Counts.{available_of}
-use Rattle.bike_places.specs.Numbers.{disabled_of}
+use Rattle.bike_laws.specs.SingleSteps.Numbers.{disabled_of}
 use Rattle.bike_book.specs.Tables.{Counts}
 use Rattle.bike_book.specs.Rows.{count_row}
 use Rattle.bike_book.specs.Stored.{stored_count}

@@ -8,9 +8,8 @@ use Rattle.bike_operator.specs.declared.records.Rental.{Rental}
 use Rattle.bike_operator.specs.declared.view.RiderView.{RiderView}
 use Rattle.bike_operator.specs.Operator.{Operator, Rider}
 use Rattle.bike_operator.specs.View.{rider_view}
-use Rattle.bike_office_reads.specs.declared.rentals.StoredRental.{StoredRental}
 use Rattle.bike_office_reads.specs.Newest.{open_number}
-use Rattle.bike_queries.specs.Infos.{rider_info, rental_info, stored_info}
+use Rattle.bike_queries.specs.Infos.{rider_info, rental_info}
 
 pub rider_shown : (s : Operator) (rider : ℕ) (o : Option Rider) (view : RiderView) (rental : Option ℕ) → Some view ≡ rider_view s rider o → rental ≡ open_number s rider
     → Some (record { is_blocked = view.is_blocked; balance = view.balance; rental = rental }) ≡ option_map (rider_info s rider) o
@@ -23,11 +22,11 @@ pub no_rider_shown : (s : Operator) (rider : ℕ) (o : Option Rider) → None �
 no_rider_shown s rider None is = refl
 no_rider_shown s rider (Some r) is = absurd cc
 
-pub rental_shown : (refunded : ℤ) (o : Option Rental) (x : StoredRental) → Some x ≡ option_map (λ (r : Rental). record { rental = r; refunded = refunded }) o → Some (stored_info x) ≡ option_map (rental_info refunded) o
+pub rental_shown : (refunded : ℤ) (o : Option Rental) (x : Rental × ℤ) → Some x ≡ option_map (λ (r : Rental). (r, refunded)) o → Some (rental_info x.1 x.0) ≡ option_map (rental_info refunded) o
 rental_shown refunded None x is = absurd cc
-rental_shown refunded (Some r) x is = ap (λ (y : StoredRental). Some (stored_info y)) (same_Some x (record { rental = r; refunded = refunded }) is)
+rental_shown refunded (Some r) x is = ap (λ (y : Rental × ℤ). Some (rental_info y.1 y.0)) (same_Some x (r, refunded) is)
 
-pub no_rental_shown : (refunded : ℤ) (o : Option Rental) → ◌≡◌ {A = Option StoredRental} None (option_map (λ (r : Rental). record { rental = r; refunded = refunded }) o) → None ≡ option_map (rental_info refunded) o
+pub no_rental_shown : (refunded : ℤ) (o : Option Rental) → ◌≡◌ {A = Option (Rental × ℤ)} None (option_map (λ (r : Rental). (r, refunded)) o) → None ≡ option_map (rental_info refunded) o
 no_rental_shown refunded None is = refl
 no_rental_shown refunded (Some r) is = absurd cc
 

@@ -27,7 +27,7 @@ use Rattle.bike_rows.proofs.SortLemmas.{order_map}
 use Rattle.bike_rows.proofs.TextLemmas.{IsSelect, select_means}
 use Rattle.bike_operator.specs.Operator.{Operator, NameKey, text_cmp}
 use Rattle.bike_operator.specs.Names.{part_at}
-use Rattle.bike_places.proofs.MapLemmas.{IsKeyOrder, text_order, tied}
+use Rattle.bike_laws.proofs.SingleSteps.MapLemmas.{IsKeyOrder, text_order, tied}
 use Rattle.bike_book.specs.Tables.{TableName, MoreNames, keys_of, rows_in}
 use Rattle.bike_book.specs.Stored.{stored_name}
 use Rattle.bike_book.proofs.MapRows.{both, below_has}

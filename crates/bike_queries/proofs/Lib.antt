@@ -2,7 +2,7 @@ mod SumLaw
 mod TextLemmas
 mod InfoLemmas
 mod TypeLemmas
-pub mod TallyLemmas
+pub mod CountLemmas
 mod StatusLemmas
 mod CountRows
 mod AfterLaw

@@ -11,10 +11,10 @@ use Rattle.sqlite_value.specs.declared.value.Value.TheVariants.{Int, Text}
 use Rattle.sqlite_value.specs.Order.{Row, column}
 use Rattle.sqlite_rules.specs.Lists.{Has}
 use Rattle.bike_fields.specs.declared.numbers.TheConstants.{MOST_DOCKS}
-use Rattle.bike_attributes.specs.declared.vehicle.Form.{Form}
-use Rattle.bike_attributes.specs.declared.vehicle.Propulsion.{Propulsion}
+use Rattle.bike_fields.specs.declared.vehicle.Form.{Form}
+use Rattle.bike_fields.specs.declared.vehicle.Propulsion.{Propulsion}
 use Rattle.bike_catalogue.specs.Rows.{PlanRow, TypeRow, StationRow, RegionRow, region_of_fields}
-use Rattle.bike_attributes.specs.Vehicle.{form_text, propulsion_text}
+use Rattle.bike_fields.specs.Vehicle.{form_text, propulsion_text}
 use Rattle.bike_operator.specs.Operator.{Operator, Station, text_cmp}
 use Rattle.bike_operator.specs.Sound.{IsSound}
 use Rattle.bike_book.specs.Rows.{type_row, region_row, station_row}
@@ -25,7 +25,7 @@ use Rattle.bike_schema.specs.declared.fault.StatementFault.{StatementFault}
 use Rattle.bike_schema.specs.Columns.{number_in, moment_in, flag_in, text_in, ident_in, name_in, or_none, read_or_failed}
 use Rattle.bike_schema.proofs.ReadLemmas.{number_read, moment_read, flag_read, text_read, ident_read, name_read, optional_ident_read}
 use Rattle.bike_queries.specs.After.{HoldsStation, IsNext, first_after, station_of}
-use Rattle.bike_queries.specs.declared.stations.StationInfo.{StationInfo}
+use Rattle.bike_summaries.specs.declared.station.StationInfo.{StationInfo}
 
 -- ---- the next entry
 

@@ -13,7 +13,7 @@ use Rattle.bike_rows.proofs.ListLemmas.{has_filter}
 use Rattle.bike_rows.proofs.PageLaw.{filter_filter}
 use Rattle.bike_rows.proofs.RangeLaw.{filter_has_same}
 use Rattle.bike_operator.specs.Operator.{text_cmp}
-use Rattle.bike_places.proofs.MapLemmas.{text_order}
+use Rattle.bike_laws.proofs.SingleSteps.MapLemmas.{text_order}
 use Rattle.bike_book.proofs.MapRows.{both, below_has}
 use Rattle.bike_queries.specs.declared.pages.TheConstants.{STATIONS_A_PAGE}
 use Rattle.bike_queries.specs.After.{first_after, start_after}

@@ -10,8 +10,8 @@ use Rattle.sqlite_value.specs.Order.{Row, column, value_cmp, row_cmp}
 use Rattle.sqlite_value.proofs.OrderLemmas.{value_cmp-Text}
 use Rattle.bike_rows.proofs.PageLaw.{filter_filter}
 use Rattle.bike_rows.proofs.TestLemmas.{then_eq}
-use Rattle.bike_attributes.specs.declared.name_kind.NameKind.TheVariants as named
-use Rattle.bike_attributes.specs.NameKinds.{kind_text}
+use Rattle.bike_fields.specs.declared.name_kind.NameKind.TheVariants as named
+use Rattle.bike_fields.specs.NameKinds.{kind_text}
 use Rattle.bike_operator.specs.Names.{part_at, is_name_of}
 use Rattle.bike_operator.specs.Operator.{NameKey, text_cmp}
 use Rattle.bike_book.specs.Stored.{stored_name}

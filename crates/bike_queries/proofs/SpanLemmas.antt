@@ -1,8 +1,8 @@
 -- What is found and read of entries and rentals in a span.
-use Rattle.std.proofs.Common.{◌≡◌, ◌+◌, ◌≤◌, inl, inr, ℕ, ℤ, suc, List, [], ◌∷◌, filter, map, min, slice_get, ◌&&◌, Option, Some, None, Result, Ok, refl, sym, ap, ◌∙◌, arith}
+use Rattle.std.proofs.Common.{◌≡◌, ◌+◌, ◌≤◌, inl, inr, ℕ, ℤ, suc, List, [], ◌∷◌, filter, map, min, slice_get, ◌&&◌, Option, Some, None, refl, sym, ap, ◌∙◌, arith}
 use Rattle.std.specs.Prelude.{nat_lt, option_map}
 use Rattle.std.proofs.lemmas.Option.{same_Some}
-use Rattle.sqlite_value.specs.Order.{Row, column}
+use Rattle.sqlite_value.specs.Order.{Row}
 use Rattle.sqlite_rules.specs.Lists.{Has}
 use Rattle.bike_ledger.specs.Entries.{Entry}
 use Rattle.bike_ledger.specs.Ledger.{refunded_of}
@@ -11,22 +11,13 @@ use Rattle.bike_operator.specs.declared.records.Rental.{Rental}
 use Rattle.bike_operator.specs.declared.records.Closing.{Closing}
 use Rattle.bike_operator.specs.Operator.{Operator, item_at, item_numbered}
 use Rattle.bike_operator.specs.Sound.{IsSound}
-use Rattle.bike_places.proofs.ItemLemmas.{number_within}
+use Rattle.bike_laws.proofs.SingleSteps.ItemLemmas.{number_within}
 use Rattle.bike_book.specs.Rows.{entry_row, rental_row}
 use Rattle.bike_book.specs.Stored.{numbers_from, with_numbers, stored_entry, stored_rental}
-use Rattle.bike_schema.specs.declared.fault.StatementFault.{StatementFault}
-use Rattle.bike_schema.specs.Columns.{number_in, read_or_failed}
-use Rattle.bike_schema.proofs.ReadLemmas.{number_read}
-use Rattle.bike_queries.specs.Infos.{rental_info, rental_info_at}
-use Rattle.bike_queries.specs.Spans.{lies_in, ends_in, entry_after, ended_after, ended_info_after}
-use Rattle.bike_queries.specs.declared.rentals.RentalInfo.{RentalInfo}
+use Rattle.bike_summaries.specs.declared.rental.RentalInfo.{RentalInfo}
+use Rattle.bike_queries.specs.Spans.{lies_in, ends_in, entry_after, ended_after, ended_info}
 use Rattle.bike_queries.proofs.AfterLaw.{first_passed}
-use Rattle.bike_queries.proofs.NextLemmas.{find_has}
 use Rattle.bike_queries.proofs.SpanLaw.{is_spanned, spanned_is, never_spanned}
-
--- the value, or a failure
-abbrev Told : {X : Type 0} → X → Option X → Type 0
-Told x found = ◌≡◌ {A = Result _ StatementFault} (Ok x) (read_or_failed found)
 
 -- ---- members of numbered lists
 
@@ -94,24 +85,11 @@ ended_found s sound number begin end start is =
     within : (e : ℕ × Rental) → Has (with_numbers s.rentals) e → e.0 ≤ MOST_ENTRIES
     within e has = omega (arith, number_within e.0 s.rentals e.1 (own_number s.rentals e has), sound.rentals.few_rentals, sound.ledger.few_entries)
 
--- the number in that row
-pub ended_number : (entries : List Entry) (o : Option (ℕ × Rental)) {row : Row} {n : ℕ} → Told n (number_in 1 100000000 (column row 0)) → Some row ≡ option_map (stored_rental entries) o → Some n ≡ option_map (λ e. e.0) o
-ended_number entries None told is = absurd cc
-ended_number entries (Some e) {row} told is = ap Some (number_read 1 100000000 told (ap (λ r. column r 0) (same_Some row (stored_rental entries e) is)))
-
--- what is shown of the rental under that number
-pub ended_shown : (s : Operator) (number begin end n : ℕ) (info : RentalInfo) → Some n ≡ option_map (λ e. e.0) (ended_after s number begin end) → Some info ≡ rental_info_at s n
-    → ◌≡◌ {A = Option (ℕ × RentalInfo)} (Some (n, info)) (ended_info_after s number begin end)
-ended_shown s number begin end n info is shown = by (ended_after s number begin end) refl is
-  where
-    by : (o : Option (ℕ × Rental)) → ended_after s number begin end ≡ o → Some n ≡ option_map (λ e. e.0) o
-        → ◌≡◌ {A = Option (ℕ × RentalInfo)} (Some (n, info)) (option_map (λ e. (e.0, rental_info (refunded_of e.0 s.entries) e.1)) o)
-    by None next is = absurd cc
-    by (Some e) next is =
-        let n_is : n ≡ e.0 = same_Some n e.0 is in
-        let there : item_numbered e.0 s.rentals ≡ Some e.1 = own_number s.rentals e (find_has _ (with_numbers s.rentals) e next) in
-        let info_is : info ≡ rental_info (refunded_of e.0 s.entries) e.1 = same_Some info _ (shown ∙ ap (rental_info_at s) n_is ∙ ap (option_map (rental_info (refunded_of e.0 s.entries))) there) in
-        (λ i. Some (n_is i, info_is i))
+-- what is read of that row
+pub ended_shown : (entries : List Entry) (o : Option (ℕ × Rental)) {row : Row} {x : ℕ × RentalInfo} → ((e : ℕ × Rental) → row ≡ stored_rental entries e → x ≡ ended_info entries e) → Some row ≡ option_map (stored_rental entries) o
+    → Some x ≡ option_map (ended_info entries) o
+ended_shown entries None read is = absurd cc
+ended_shown entries (Some e) {row} read is = ap Some (read e (same_Some row (stored_rental entries e) is))
 
 -- nothing is made of what isn't there
 pub none_mapped : {A B C : Type 0} (f : A → B) (g : A → C) (o : Option A) → None ≡ option_map f o → None ≡ option_map g o

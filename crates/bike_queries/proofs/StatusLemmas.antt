@@ -7,7 +7,7 @@ use Rattle.std.proofs.lemmas.List.{take-map}
 use Rattle.sqlite_rules.specs.Lists.{Has}
 use Rattle.sqlite_value.specs.declared.value.Value.TheVariants.{Text}
 use Rattle.sqlite_value.specs.Order.{Row}
-use Rattle.bike_attributes.specs.declared.name_kind.NameKind.TheVariants as named
+use Rattle.bike_fields.specs.declared.name_kind.NameKind.TheVariants as named
 use Rattle.bike_operator.specs.Names.{is_name_of}
 use Rattle.bike_operator.specs.Operator.{Operator, Station, NameKey, text_cmp}
 use Rattle.bike_operator.specs.Counts.{docks_available, docks_broken}
@@ -26,11 +26,11 @@ use Rattle.bike_office_reads.specs.ReadRows.{named_in, owned_name, is_name_withi
 use Rattle.bike_schema.specs.Within.{rows_within}
 use Rattle.bike_office_reads.proofs.NameLemmas.{names_read}
 use Rattle.bike_queries.specs.StationCounts.{AreCountRows}
-use Rattle.bike_queries.specs.Pages.{page_after, IsStationOf, IsStatusOf, AreStatuses, IsNamedStation, AreNamedStations, AreApart, ArePage, EndsWith, id_of, own_rows, IsStoredStation, ReadsStation, ReadsStatus, ReadsNamed}
-use Rattle.bike_queries.specs.declared.stations.StoredStation.{StoredStation}
+use Rattle.bike_queries.specs.Pages.{page_after, IsStationOf, IsStatusOf, AreStatuses, IsNamedStation, AreNamedStations, AreApart, ArePage, EndsWith, id_of, own_rows, IsPageStation, ReadsStation, ReadsStatus, ReadsNamed}
+use Rattle.bike_queries.specs.declared.stations.PageStation.{PageStation}
 use Rattle.bike_queries.specs.declared.stations.NamedStation.{NamedStation}
 use Rattle.bike_queries.specs.declared.status.StationStatus.{StationStatus}
-use Rattle.bike_queries.specs.declared.stations.StationInfo.{StationInfo}
+use Rattle.bike_summaries.specs.declared.station.StationInfo.{StationInfo}
 use Rattle.bike_queries.proofs.AfterLaw.{rows_behind}
 use Rattle.bike_queries.proofs.CountRows.{counts_listed}
 use Rattle.bike_queries.proofs.PageLaw.{page_has, page_rises, read_apart, up_to_last, zipped_both, zipped_rows}
@@ -70,29 +70,29 @@ module _ (s : Operator) (after : Option (List ℕ)) (start : List ℕ) (is : sta
 -- ---- the stations of a page
 
 -- what is read of the row of an entry
-stored_read : (s : Operator) (e : List ℕ × Station) (x : StoredStation) → e.0 ≡ e.1.row.station_id → ReadsStation (stored_station s e) x → IsStoredStation s e x
+stored_read : (s : Operator) (e : List ℕ × Station) (x : PageStation) → e.0 ≡ e.1.row.station_id → ReadsStation (stored_station s e) x → IsPageStation s e x
 stored_read s e x named reads = (station_read_of s e (stored_station s e) x.info refl named reads.0, docks_read s e (stored_station s e) x.docks refl reads.1)
 
 -- the rows that are asked for are read into the stations of the page
-pub page_read : (s : Operator) → IsSound s → (after : Option (List ℕ)) (start : List ℕ) → start ≡ start_after after → (xs : List StoredStation)
+pub page_read : (s : Operator) → IsSound s → (after : Option (List ℕ)) (start : List ℕ) → start ≡ start_after after → (xs : List PageStation)
     → AllZip ReadsStation (take 64 (filter (begins_from start) (map (stored_station s) (fin.entries s.stations)))) xs → ArePage s after xs
 page_read s sound after start is xs read =
-    zipped_rows ReadsStation (IsStoredStation s) (stored_station s) (page_after after s.stations) xs (λ e x has reads.
+    zipped_rows ReadsStation (IsPageStation s) (stored_station s) (page_after after s.stations) xs (λ e x has reads.
     stored_read s e x (named_so s sound e (in_page s after start is e has).0) reads)
     (subst (λ (rows : List Row). AllZip ReadsStation rows xs) (page_rows s after start is) read)
 
-named_stored : (s : Operator) (e : List ℕ × Station) (x : StoredStation) → IsStoredStation s e x → id_of x ≡ e.0
+named_stored : (s : Operator) (e : List ℕ × Station) (x : PageStation) → IsPageStation s e x → id_of x ≡ e.0
 named_stored s e x it = it.0.1
 
-pub page_apart : (s : Operator) (after : Option (List ℕ)) (stations : List StoredStation) → ArePage s after stations → AreApart id_of stations
-page_apart s after stations are = read_apart (IsStoredStation s) id_of (named_stored s) (page_after after s.stations) stations (page_rises after s.stations) are
+pub page_apart : (s : Operator) (after : Option (List ℕ)) (stations : List PageStation) → ArePage s after stations → AreApart id_of stations
+page_apart s after stations are = read_apart (IsPageStation s) id_of (named_stored s) (page_after after s.stations) stations (page_rises after s.stations) are
 
-pub nothing_read : {X : Type 0} (s : Operator) (after : Option (List ℕ)) (R : List ℕ × Station → X → Type 0) (stations : List StoredStation) (items : List X)
+pub nothing_read : {X : Type 0} (s : Operator) (after : Option (List ℕ)) (R : List ℕ × Station → X → Type 0) (stations : List PageStation) (items : List X)
     → ArePage s after stations → EndsWith stations None → items ≡ [] → AllZip R (page_after after s.stations) items
 nothing_read s after R stations items are ends empty =
-    subst (AllZip R (page_after after s.stations)) (sym empty) (go (page_after after s.stations) (subst (AllZip (IsStoredStation s) (page_after after s.stations)) ends are))
+    subst (AllZip R (page_after after s.stations)) (sym empty) (go (page_after after s.stations) (subst (AllZip (IsPageStation s) (page_after after s.stations)) ends are))
   where
-    go : (es : List (List ℕ × Station)) → AllZip (IsStoredStation s) es [] → AllZip R es []
+    go : (es : List (List ℕ × Station)) → AllZip (IsPageStation s) es [] → AllZip R es []
     go [] none = tt
     go (e ∷ es) none = none
 
@@ -102,19 +102,19 @@ module _ (s : Operator) (m : Listed) (sound : IsSound s) (listing : IsListing s 
   abbrev page : List (List ℕ × Station)
   page = page_after after s.stations
 
-  module _ (stations : List StoredStation) (last : List ℕ) (are : ArePage s after stations) (ends : EndsWith stations (Some last)) where
+  module _ (stations : List PageStation) (last : List ℕ) (are : ArePage s after stations) (ends : EndsWith stations (Some last)) where
     -- no station of the page comes after the last
     none_later : (e : List ℕ × Station) → Has page e → is_le (text_cmp e.0 last) ≡ true
     none_later e has =
         ap (λ (t : List ℕ). is_le (text_cmp e.0 t)) (sym ends.3)
-        ∙ up_to_last (IsStoredStation s) id_of (named_stored s) page stations ends.0 ends.1 ends.2 (page_rises after s.stations) are e has
+        ∙ up_to_last (IsPageStation s) id_of (named_stored s) page stations ends.0 ends.1 ends.2 (page_rises after s.stations) are e has
 
     -- each station of the page with what was read of it and its own rows
-    each_read : {X : Type 0} (reads : StoredStation → List Row → X → Type 0) (T : List ℕ × Station → X → Type 0) (rows : List Row) (items : List X)
-        → ((e : List ℕ × Station) (o : StoredStation) (x : X) → Has page e → IsStoredStation s e o → reads o (own_rows e.0 rows) x → T e x)
+    each_read : {X : Type 0} (reads : PageStation → List Row → X → Type 0) (T : List ℕ × Station → X → Type 0) (rows : List Row) (items : List X)
+        → ((e : List ℕ × Station) (o : PageStation) (x : X) → Has page e → IsPageStation s e o → reads o (own_rows e.0 rows) x → T e x)
         → AllZip (λ o x. reads o (own_rows (id_of o) rows) x) stations items → AllZip T page items
     each_read reads T rows items then read =
-        zipped_both (IsStoredStation s) (λ o x. reads o (own_rows (id_of o) rows) x) T page stations items (λ e o x has it told.
+        zipped_both (IsPageStation s) (λ o x. reads o (own_rows (id_of o) rows) x) T page stations items (λ e o x has it told.
         then e o x has it (subst (λ (id : List ℕ). reads o (own_rows id rows) x) it.0.1 told)) are read
 
     pub statuses_read : (rows : List Row) (ids : List (List ℕ)) (items : List StationStatus) → rows ≡ rows_within (Text start) (Text last) (rows_of s m Counts)

@@ -13,11 +13,11 @@ use Rattle.bike_operator.specs.declared.records.Bike.{Bike}
 use Rattle.bike_operator.specs.Operator.{Operator, text_cmp}
 use Rattle.bike_operator.specs.Counts.{count, is_at, is_available, available, available_of, disabled_bikes}
 use Rattle.bike_operator.specs.Sound.{IsSound}
-use Rattle.bike_places.proofs.MapLemmas.{number_order, text_order, tied, there_of}
-use Rattle.bike_places.proofs.CountLemmas.{count-cons}
-use Rattle.bike_places.specs.Laws.{one}
-use Rattle.bike_places.specs.Numbers.{disabled_of}
-use Rattle.bike_places.proofs.Members.{Has, both, below_has, has_get}
+use Rattle.bike_laws.proofs.SingleSteps.MapLemmas.{number_order, text_order, tied, there_of}
+use Rattle.bike_laws.proofs.SingleSteps.CountLemmas.{count-cons}
+use Rattle.bike_laws.specs.SingleSteps.Laws.{one}
+use Rattle.bike_laws.specs.SingleSteps.Numbers.{disabled_of}
+use Rattle.bike_laws.proofs.SingleSteps.Members.{Has, both, below_has, has_get}
 
 -- ---- sums
 

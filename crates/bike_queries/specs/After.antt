@@ -8,7 +8,7 @@ use Rattle.sqlite_value.specs.Order.{Row, column, value_cmp}
 use Rattle.bike_operator.specs.Operator.{Operator, Station, text_cmp}
 use Rattle.bike_book.specs.Rows.{station_row}
 use Rattle.bike_feed_texts.specs.Trees.{names_by_language}
-use Rattle.bike_queries.specs.declared.stations.StationInfo.{StationInfo}
+use Rattle.bike_summaries.specs.declared.station.StationInfo.{StationInfo}
 
 -- the first entry whose identifier comes after this one, or the first of all
 abbrev pub first_after : {V : Type 0} → Option (List ℕ) → FinMap text_cmp V → Option (List ℕ × V)

@@ -1,16 +1,15 @@
 -- What queries show of bicycles, riders and rentals.
-use Rattle.std.specs.Prelude.{◌≡◌, ℕ, ℤ, Option, Some, None, option_map}
+use Rattle.std.specs.Prelude.{ℕ, ℤ, Option, option_map}
 use Rattle.std.specs.FinMap as map
 use Rattle.bike_ledger.specs.Ledger.{balance_of, refunded_of}
 use Rattle.bike_operator.specs.declared.records.Place.{Place}
 use Rattle.bike_operator.specs.declared.records.Rental.{Rental}
 use Rattle.bike_operator.specs.declared.records.Closing.{Closing}
 use Rattle.bike_operator.specs.Operator.{Operator, Rider, item_numbered}
-use Rattle.bike_office_reads.specs.declared.rentals.StoredRental.{StoredRental}
 use Rattle.bike_office_reads.specs.Newest.{open_number}
+use Rattle.bike_summaries.specs.declared.rental.ClosingInfo.{ClosingInfo}
+use Rattle.bike_summaries.specs.declared.rental.RentalInfo.{RentalInfo}
 use Rattle.bike_queries.specs.declared.riders.RiderInfo.{RiderInfo}
-use Rattle.bike_queries.specs.declared.rentals.ClosingInfo.{ClosingInfo}
-use Rattle.bike_queries.specs.declared.rentals.RentalInfo.{RentalInfo}
 
 -- ---- bicycles
 
@@ -40,10 +39,6 @@ closing_info refunded c = record { to_station = c.to_station; finish = c.finish;
 abbrev pub rental_info : ℤ → Rental → RentalInfo
 rental_info refunded r =
     record { rider = r.rider; bike = r.bike; plan = r.plan; from_station = r.from_station; start = r.start; closing = option_map (closing_info refunded) r.closing }
-
--- a rental that was read with the sum of its refunds
-abbrev pub stored_info : StoredRental → RentalInfo
-stored_info x = rental_info x.refunded x.rental
 
 abbrev pub rental_info_at : Operator → ℕ → Option RentalInfo
 rental_info_at s rental = option_map (rental_info (refunded_of rental s.entries)) (item_numbered rental s.rentals)

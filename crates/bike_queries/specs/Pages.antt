@@ -9,7 +9,7 @@ use Rattle.sqlite_value.specs.declared.value.Value.{Value}
 use Rattle.sqlite_value.specs.declared.value.Value.TheVariants.{Text}
 use Rattle.sqlite_value.specs.Order.{Row, column}
 use Rattle.bike_catalogue.specs.Rows.{MoreNameRow}
-use Rattle.bike_attributes.specs.declared.name_kind.NameKind.TheVariants as named
+use Rattle.bike_fields.specs.declared.name_kind.NameKind.TheVariants as named
 use Rattle.bike_operator.specs.Names.{further_names}
 use Rattle.bike_operator.specs.Operator.{Operator, Station, text_cmp}
 use Rattle.bike_fleet_reads.specs.Fleet.{dock_numbers_of}
@@ -17,8 +17,8 @@ use Rattle.bike_fleet_reads.specs.Holds.{HoldsDockNumbers}
 use Rattle.bike_office_reads.specs.ReadRows.{IsOwnedName}
 use Rattle.bike_feed_texts.specs.Trees.{further_languages}
 use Rattle.bike_queries.specs.declared.pages.TheConstants.{STATIONS_A_PAGE}
-use Rattle.bike_queries.specs.declared.stations.StationInfo.{StationInfo}
-use Rattle.bike_queries.specs.declared.stations.StoredStation.{StoredStation}
+use Rattle.bike_summaries.specs.declared.station.StationInfo.{StationInfo}
+use Rattle.bike_queries.specs.declared.stations.PageStation.{PageStation}
 use Rattle.bike_queries.specs.declared.stations.NamedStation.{NamedStation}
 use Rattle.bike_queries.specs.declared.status.StationStatus.{StationStatus}
 use Rattle.bike_queries.specs.After.{HoldsStation, station_of}
@@ -64,25 +64,25 @@ IsTold translated s = translated ≡ false → further_languages s ≡ []
 -- ---- the stations of a page
 
 -- its identifier
-abbrev pub id_of : StoredStation → List ℕ
+abbrev pub id_of : PageStation → List ℕ
 id_of x = x.info.station.station_id
 
 -- the station and the numbers of its docks that stand in the row
-abbrev pub ReadsStation : Row → StoredStation → Type 0
+abbrev pub ReadsStation : Row → PageStation → Type 0
 ReadsStation row x = ((y : Station) → HoldsStation row y → station_of x.info ≡ y) × HoldsDockNumbers row x.docks
 
 -- the station of an entry, with the numbers of its docks
-abbrev pub IsStoredStation : Operator → List ℕ × Station → StoredStation → Type 0
-IsStoredStation s e x = IsStationOf e x.info × (x.docks ≡ dock_numbers_of s e.0 e.1)
+abbrev pub IsPageStation : Operator → List ℕ × Station → PageStation → Type 0
+IsPageStation s e x = IsStationOf e x.info × (x.docks ≡ dock_numbers_of s e.0 e.1)
 
 -- these are those of the page after this identifier
-abbrev pub ArePage : Operator → Option (List ℕ) → List StoredStation → Type 0
-ArePage s after = AllZip (IsStoredStation s) (page_after after s.stations)
+abbrev pub ArePage : Operator → Option (List ℕ) → List PageStation → Type 0
+ArePage s after = AllZip (IsPageStation s) (page_after after s.stations)
 
 -- the identifier of the last, if there is one
-abbrev pub EndsWith : List StoredStation → Option (List ℕ) → Type 0
+abbrev pub EndsWith : List PageStation → Option (List ℕ) → Type 0
 EndsWith xs None = xs ≡ []
-EndsWith xs (Some id) = (front : List StoredStation) × (last : StoredStation) × (xs ≡ front ++ last ∷ []) × (id_of last ≡ id)
+EndsWith xs (Some id) = (front : List PageStation) × (last : PageStation) × (xs ≡ front ++ last ∷ []) × (id_of last ≡ id)
 
 -- ---- their own rows
 
@@ -106,12 +106,12 @@ AreApart id (x ∷ xs) = ((y : _) → Has xs y → (bytes_eq (id x) (id y) ≡ f
 -- ---- what is read of a station and its own rows
 
 -- its counts
-abbrev pub ReadsStatus : List (List ℕ) → StoredStation → List Row → StationStatus → Type 0
+abbrev pub ReadsStatus : List (List ℕ) → PageStation → List Row → StationStatus → Type 0
 ReadsStatus type_ids station own x =
     (x.info ≡ station.info)
     × ((s : Operator) (e : List ℕ × Station) → station.docks ≡ dock_numbers_of s e.0 e.1 → AreCountRows s e.0 own
     → AreCountsOfTypes s e.0 e.1 type_ids x.counts)
 
 -- its further names
-abbrev pub ReadsNamed : StoredStation → List Row → NamedStation → Type 0
+abbrev pub ReadsNamed : PageStation → List Row → NamedStation → Type 0
 ReadsNamed station own x = (x.info ≡ station.info) × AllZip IsOwnedName own x.names.items

@@ -1,13 +1,13 @@
 -- What lies in a span of time, by number.
-use Rattle.std.specs.Prelude.{◌&&◌, ℕ, Bool, false, not, nat_lt, find, Option, Some, None, option_map}
+use Rattle.std.specs.Prelude.{◌&&◌, ℕ, List, Bool, false, not, nat_lt, find, Option, Some, None, option_map}
 use Rattle.bike_ledger.specs.Entries.{Entry}
 use Rattle.bike_ledger.specs.Ledger.{refunded_of}
 use Rattle.bike_operator.specs.declared.records.Rental.{Rental}
 use Rattle.bike_operator.specs.declared.records.Closing.{Closing}
 use Rattle.bike_operator.specs.Operator.{Operator}
 use Rattle.bike_book.specs.Stored.{with_numbers}
+use Rattle.bike_summaries.specs.declared.rental.RentalInfo.{RentalInfo}
 use Rattle.bike_queries.specs.Infos.{rental_info}
-use Rattle.bike_queries.specs.declared.rentals.RentalInfo.{RentalInfo}
 
 -- the moment is the begin or later, and before the end
 abbrev pub lies_in : ℕ → ℕ → ℕ → Bool
@@ -29,6 +29,8 @@ abbrev pub ended_after : Operator → ℕ → ℕ → ℕ → Option (ℕ × Ren
 ended_after s number begin end = find (λ e. nat_lt number e.0 && ends_in begin end e.1.closing) (with_numbers s.rentals)
 
 -- its number, and what is shown of it
+abbrev pub ended_info : List Entry → ℕ × Rental → ℕ × RentalInfo
+ended_info entries e = (e.0, rental_info (refunded_of e.0 entries) e.1)
+
 abbrev pub ended_info_after : Operator → ℕ → ℕ → ℕ → Option (ℕ × RentalInfo)
-ended_info_after s number begin end =
-    option_map (λ e. (e.0, rental_info (refunded_of e.0 s.entries) e.1)) (ended_after s number begin end)
+ended_info_after s number begin end = option_map (ended_info s.entries) (ended_after s number begin end)

@@ -8,14 +8,13 @@ use Rattle.sqlite_value.specs.declared.value.Value.TheVariants.{Text}
 use Rattle.sqlite_value.specs.Order.{Row, column}
 use Rattle.bike_operator.specs.Operator.{Operator, Station}
 use Rattle.bike_operator.specs.Counts.{available, available_of, disabled_bikes, docks_available, docks_broken}
-use Rattle.bike_places.specs.Numbers.{disabled_of}
+use Rattle.bike_laws.specs.SingleSteps.Numbers.{disabled_of}
 use Rattle.bike_fleet_reads.specs.declared.counts.TypeCounts.{TypeCounts}
 use Rattle.bike_fleet_reads.specs.declared.stations.DockNumbers.{DockNumbers}
-use Rattle.bike_fleet_reads.specs.Fleet.{no_counts, type_counts_of}
+use Rattle.bike_fleet_reads.specs.Fleet.{dock_numbers_of, no_counts, type_counts_of}
 use Rattle.bike_fleet_reads.specs.Holds.{HoldsAny, HoldsCounts}
-use Rattle.bike_feed_texts.specs.declared.status.TypeCount.{TypeCount}
-use Rattle.bike_queries.specs.declared.counts.Counts.{Counts}
-use Rattle.bike_queries.specs.declared.counts.Tally.{Tally}
+use Rattle.bike_summaries.specs.declared.station.TypeCount.{TypeCount}
+use Rattle.bike_summaries.specs.declared.station.Counts.{Counts}
 
 -- a vehicle type, with its bicycles that are available at a station
 abbrev pub type_count : Operator → List ℕ → List ℕ → TypeCount
@@ -34,35 +33,25 @@ is_of type_id row = is_text type_id (column row 1)
 abbrev pub AreCountRows : Operator → List ℕ → List Row → Type 0
 AreCountRows s station rows = (type_id : List ℕ) (x : Option TypeCounts) → HoldsAny HoldsCounts (find (is_of type_id) rows) x → unwrap_or x no_counts ≡ type_counts_of s station type_id
 
--- a station's bicycles of some types
-pub record IsTally (s : Operator) (station : List ℕ) (type_ids : List (List ℕ)) (t : Tally) : Type 0 where
-  pub available : t.available ≡ sum_by (available_of s station) type_ids
-  pub disabled : t.disabled ≡ sum_by (disabled_of s station) type_ids
-  pub by_type : t.by_type.items ≡ map (type_count s station) type_ids
-
 -- one more type is counted
-pub record Adds (old : Tally) (type_id : List ℕ) (counts : TypeCounts) (new : Tally) : Type 0 where
+pub record Adds (old : Counts) (type_id : List ℕ) (counts : TypeCounts) (new : Counts) : Type 0 where
   pub available : new.available ≡ old.available + counts.available
-  pub disabled : new.disabled ≡ old.disabled + counts.disabled
   pub by_type : new.by_type.items ≡ old.by_type.items ++ record { type_id = type_id; count = counts.available } ∷ []
+  pub disabled : new.disabled ≡ old.disabled + counts.disabled
+  pub docks_available : new.docks_available ≡ old.docks_available
+  pub docks_disabled : new.docks_disabled ≡ old.docks_disabled
 
--- the counts of a station with these numbers of docks and these bicycles
-abbrev pub counts_with : DockNumbers → Tally → Counts
-counts_with docks t = record {
-  available = t.available;
-  by_type = t.by_type;
-  disabled = t.disabled;
-  docks_available = docks.free;
-  docks_disabled = docks.broken;
-}
-
--- The counts of the docks of a station that is there, and of its bicycles of these types, in the order of the types.
-pub record AreCountsOfTypes (s : Operator) (station : List ℕ) (x : Station) (type_ids : List (List ℕ)) (c : Counts) : Type 0 where
+-- The counts of docks with these numbers, and of a station's bicycles of these types, in the order of the types.
+pub record AreCountsWith (s : Operator) (station : List ℕ) (docks : DockNumbers) (type_ids : List (List ℕ)) (c : Counts) : Type 0 where
   pub available : c.available ≡ sum_by (available_of s station) type_ids
   pub by_type : c.by_type.items ≡ map (type_count s station) type_ids
   pub disabled : c.disabled ≡ sum_by (disabled_of s station) type_ids
-  pub docks_available : c.docks_available ≡ docks_available s station x.row.docks
-  pub docks_disabled : c.docks_disabled ≡ docks_broken s station x.row.docks
+  pub docks_available : c.docks_available ≡ docks.free
+  pub docks_disabled : c.docks_disabled ≡ docks.broken
+
+-- the counts of a station that is there, of its bicycles of these types
+abbrev pub AreCountsOfTypes : Operator → List ℕ → Station → List (List ℕ) → Counts → Type 0
+AreCountsOfTypes s station x = AreCountsWith s station (dock_numbers_of s station x)
 
 -- The counts of a station that is there, each type's in the order of the types' identifiers.
 pub record AreCountsOf (s : Operator) (station : List ℕ) (x : Station) (c : Counts) : Type 0 where

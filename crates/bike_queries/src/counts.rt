@@ -11,51 +11,27 @@ ghost use Rattle.bike_schema.specs.Tables.{IsOurs, tables_of};
 ghost use Rattle.bike_schema.specs.Within.{rows_within};
 ghost use Rattle.bike_fleet_reads.specs.Fleet.{type_counts_of};
 ghost use Rattle.bike_fleet_reads.specs.Holds.{HoldsAny, HoldsCounts};
-ghost use Rattle.bike_queries.specs.StationCounts.{Adds, AreCountRows, AreCountsAt, IsTally, counts_with, is_of};
+ghost use Rattle.bike_queries.specs.StationCounts.{Adds, AreCountRows, AreCountsAt, AreCountsWith, is_of};
 
 use crate::pages::OwnedRow;
 use crate::types::find_type_ids;
 use arrayvec::ArrayString;
 use bike_book::columns::counts;
-use bike_feed_texts::TypeCount;
-use bike_fields::{DockTotal, Ident, LONGEST_IDENT};
+use bike_fields::{Ident, LONGEST_IDENT};
 use bike_fleet_reads::{DockNumbers, TypeCounts, dock_total_at, find_dock_numbers};
 use bike_office_reads::{ReadRow, collect_rows, short_text_at};
 use bike_schema::StatementFault;
+use bike_summaries::{Counts, TypeCount};
 use sqlite::{Alter, Connection, Error, Row, Rows, params};
 use std::alloc::Global;
 use std::marker::Model;
-
-/// The counts of a station: the numbers that GBFS's `station_status` shows.
-#[derive(Drop)]
-pub struct Counts {
-    /// How many bicycles can be rented.
-    pub available: u32,
-    /// How many of each vehicle type can be rented, 0 too, in byte order of the types' identifiers.
-    pub by_type: Vec<TypeCount>,
-    /// How many bicycles in its docks can't be rented.
-    pub disabled: u32,
-    /// How many docks are empty and work.
-    pub docks_available: u32,
-    /// How many docks are broken.
-    pub docks_disabled: u32,
-}
-
-/// The counts of a station's bicycles so far.
-#[derive(Drop)]
-pub(crate) struct Tally {
-    available: u32,
-    disabled: u32,
-    by_type: Vec<TypeCount>,
-}
 
 /// A row of `counts` as it is stored: how many bicycles of one type stand at one station.
 #[derive(Drop)]
 pub(crate) struct CountRow {
     station_id: ArrayString<LONGEST_IDENT>,
     type_id: ArrayString<LONGEST_IDENT>,
-    available: DockTotal,
-    disabled: DockTotal,
+    counts: TypeCounts,
 }
 
 impl Model for CountRow {
@@ -70,8 +46,8 @@ impl Model for CountRow {
 
     ghost coded = { coded_list the_row.coded };
 
-    ghost view = { λ r. Text r.station_id.bytes ∷ Text r.type_id.bytes ∷ number_value r.available
-        ∷ number_value r.disabled ∷ [] };
+    ghost view = { λ r. Text r.station_id.bytes ∷ Text r.type_id.bytes ∷ number_value r.counts.available
+        ∷ number_value r.counts.disabled ∷ [] };
 }
 
 impl ReadRow for CountRow {
@@ -85,11 +61,14 @@ impl ReadRow for CountRow {
         let type_id = short_text_at(row, counts::TYPE_ID)?;
         let available = dock_total_at(row, counts::AVAILABLE)?;
         let disabled = dock_total_at(row, counts::DISABLED)?;
+        let counts = TypeCounts {
+            available,
+            disabled,
+        };
         Ok(CountRow {
             station_id,
             type_id,
-            available,
-            disabled,
+            counts,
         })
     }
 }
@@ -140,23 +119,13 @@ fn is_of(row: &CountRow, type_id: &Ident) -> bool
     row.type_id.as_str() == type_id.as_str()
 }
 
-/// The counts in a row of `counts`.
-fn counts_in(row: &CountRow) -> TypeCounts
-    ensures { HoldsCounts row.now result }
-{
-    TypeCounts {
-        available: row.available,
-        disabled: row.disabled,
-    }
-}
-
 /// The counts in the row of the type, if one of these rows of `counts` is the type's.
 fn counts_among(rows: &[CountRow], type_id: &Ident) -> Option<TypeCounts>
     ensures { HoldsAny HoldsCounts (find (is_of type_id.now) rows.now) result }
 {
     for row in rows {
         if is_of(row, type_id) {
-            return Some(counts_in(row));
+            return Some(row.counts);
         }
     }
     None
@@ -170,85 +139,71 @@ fn type_counts(rows: &[CountRow], type_id: &Ident) -> TypeCounts
     counts_among(rows, type_id).unwrap_or(TypeCounts::none())
 }
 
-impl Tally {
-    /// Counts one more type. `StoreFailed` where a sum doesn't fit, which no station comes near.
-    fn add(&mut self, type_id: Ident, counts: TypeCounts) -> Result<(), StatementFault>
-        ensures { OnOk result (Adds self.old type_id counts self.new) }
-    {
-        let available = self.available.checked_add(counts.available.get());
-        let disabled = self.disabled.checked_add(counts.disabled.get());
-        let (Some(available), Some(disabled)) = (available, disabled) else {
-            return Err(StatementFault::StoreFailed);
-        };
-        let one = TypeCount {
-            type_id,
-            count: counts.available.get(),
-        };
-        if self.by_type.push(one).is_err() {
-            return Err(StatementFault::NoMemory);
-        }
-        self.available = available;
-        self.disabled = disabled;
-        Ok(())
+/// Counts one more type. `StoreFailed` where a sum doesn't fit, which no station comes near.
+fn add_type(counts: &mut Counts, type_id: Ident, counted: TypeCounts) -> Result<(), StatementFault>
+    ensures { OnOk result (Adds counts.old type_id counted counts.new) }
+{
+    let available = counts.available.checked_add(counted.available.get());
+    let disabled = counts.disabled.checked_add(counted.disabled.get());
+    let (Some(available), Some(disabled)) = (available, disabled) else {
+        return Err(StatementFault::StoreFailed);
+    };
+    let one = TypeCount {
+        type_id,
+        count: counted.available.get(),
+    };
+    if counts.by_type.push(one).is_err() {
+        return Err(StatementFault::NoMemory);
     }
-    /// The counts of a station with these bicycles, whose docks have these numbers.
-    pub(crate) fn with_docks(self, docks: DockNumbers) -> Counts
-        ensures { result ≡ counts_with docks self }
-    {
-        let Tally {
-            available,
-            disabled,
-            by_type,
-        } = self;
-        Counts {
-            available,
-            by_type,
-            disabled,
-            docks_available: docks.free.get(),
-            docks_disabled: docks.broken.get(),
-        }
-    }
+    counts.available = available;
+    counts.disabled = disabled;
+    Ok(())
 }
 
-/// A station's bicycles of the types with these identifiers, by the rows of its counts. The list of types is put
-/// together in the room.
-pub(crate) fn tally_rows(
+/// The counts of a station whose docks have these numbers, by the rows of its counts: of its bicycles of the types with
+/// these identifiers. The list of types is put together in the room.
+pub(crate) fn count_types(
     alloc: Global,
     type_ids: &[Ident],
-    counts: &[CountRow],
+    rows: &[CountRow],
+    docks: DockNumbers,
     room: Vec<TypeCount>,
-) -> Result<Tally, StatementFault>
+) -> Result<Counts, StatementFault>
     requires { room.items ≡ [] }
-    ensures { IfOk result (λ x. (s : _) (station : _) → AreCountRows s station counts.now
-        → IsTally s station type_ids.now x) }
+    ensures { IfOk result (λ c. (s : _) (station : _) → AreCountRows s station rows.now
+        → AreCountsWith s station docks type_ids.now c) }
 {
-    let mut tally = Tally {
+    let mut counts = Counts {
         available: 0,
-        disabled: 0,
         by_type: room,
+        disabled: 0,
+        docks_available: docks.free.get(),
+        docks_disabled: docks.broken.get(),
     };
     for type_id in type_ids {
-        let counted = type_counts(counts, type_id);
+        let counted = type_counts(rows, type_id);
         let copy = type_id.try_clone(alloc)?;
-        tally.add(copy, counted)?;
+        add_type(&mut counts, copy, counted)?;
     }
-    Ok(tally)
+    Ok(counts)
 }
 
-/// A station's bicycles of the types with these identifiers, by one walk over the station's counts. The list of types
-/// is put together in the room.
-pub(crate) fn find_tally<S: Alter>(
+/// The counts of a station whose docks have these numbers, by one walk over the rows of its counts: of its bicycles of
+/// the types with these identifiers. The list of types is put together in the room.
+fn find_counts<S: Alter>(
     alloc: Global,
     conn: &mut Connection<S>,
     station: &Ident,
     type_ids: &[Ident],
+    docks: DockNumbers,
     room: Vec<TypeCount>,
-) -> Result<Tally, StatementFault>
+) -> Result<Counts, StatementFault>
     requires { room.items ≡ [] }
-    ensures { Answers S.Store conn.old conn.new result (λ s m x. IsTally s station.now type_ids.now x) }
+    ensures { Answers S.Store conn.old conn.new result
+        (λ s m c. AreCountsWith s station.now docks type_ids.now c) }
 {
-    let counts = select_counts(alloc, conn, station.as_str(), station.as_str())?;
-    tally_rows(alloc, type_ids, counts.as_slice(), room)
+    let rows = select_counts(alloc, conn, station.as_str(), station.as_str())?;
+    count_types(alloc, type_ids, rows.as_slice(), docks, room)
 }
 
 /// The counts of the station, if it is there, by three statements: a look-up of the station, a walk over the types and
@@ -267,6 +222,6 @@ pub fn find_station_counts<S: Alter>(
         return Ok(None);
     };
     let type_ids = find_type_ids(alloc, conn)?;
-    let tally = find_tally(alloc, conn, station, type_ids.as_slice(), room)?;
-    Ok(Some(tally.with_docks(docks)))
+    let counts = find_counts(alloc, conn, station, type_ids.as_slice(), docks, room)?;
+    Ok(Some(counts))
 }

@@ -25,15 +25,15 @@ mod types;
 
 pub use bike_fleet_reads::{find_bike, find_order};
 pub use bikes::find_place;
-pub use counts::{Counts, find_station_counts};
+pub use counts::find_station_counts;
 pub use entries::find_entry_after;
 pub use languages::find_language_after;
 pub use pages::STATIONS_A_PAGE;
 pub use plans::find_plan_after;
 pub use regions::find_region_after;
-pub use rentals::{ClosingInfo, RentalInfo, find_ended_after, find_rental_info};
+pub use rentals::{find_ended_after, find_rental_info};
 pub use riders::{RiderInfo, find_balance, find_rider_info};
-pub use stations::{NamedStation, StationInfo, find_stations_after};
+pub use stations::{NamedStation, find_stations_after};
 pub use status::{StationStatus, find_statuses_after};
 pub use system::find_system;
 pub use types::{find_type_after, find_type_ids};

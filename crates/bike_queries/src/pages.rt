@@ -6,7 +6,7 @@ ghost use Rattle.sqlite_value.specs.declared.value.Value.TheVariants.{Text};
 ghost use Rattle.sqlite_value.specs.Order.{Row, column};
 ghost use Rattle.bike_queries.specs.Pages.{AreApart, EndsWith, id_of, is_own, own_rows};
 
-use crate::stations::StoredStation;
+use crate::stations::PageStation;
 use bike_schema::StatementFault;
 use std::alloc::Global;
 use std::collections::VecDeque;
@@ -27,7 +27,7 @@ pub(crate) trait OwnedRow: Drop {
 
 /// Reads a station with the rows that are its own.
 pub(crate) trait OwnerReader: Drop {
-    ghost use Rattle.bike_queries.specs.declared.stations.StoredStation.{StoredStation};
+    ghost use Rattle.bike_queries.specs.declared.stations.PageStation.{PageStation};
 
     /// A row that is a station's own.
     type Own: OwnedRow;
@@ -36,14 +36,14 @@ pub(crate) trait OwnerReader: Drop {
     type Item: Drop;
 
     /// What the station and its rows hold.
-    ghost reads: { Self → StoredStation → List Row → Self.Item → Type 0 };
+    ghost reads: { Self → PageStation → List Row → Self.Item → Type 0 };
 
     /// What stands in the station's own rows, beside it. `NoMemory` where it finds no room; a row that holds what the
     /// product never writes is `StoreFailed`.
     fn read(
         &self,
         alloc: Global,
-        owner: StoredStation,
+        owner: PageStation,
         own: &[Self::Own],
     ) -> Result<Self::Item, StatementFault>
         ensures { IfOk result (reads self.now owner (map Self.Own.as_row own.now)) };
@@ -72,7 +72,7 @@ fn count_own<R: OwnedRow>(id: &str, rows: &[R]) -> usize
 }
 
 /// The identifier of the last station; `None` where there is none.
-pub(crate) fn last_id(stations: &[StoredStation]) -> Option<&str>
+pub(crate) fn last_id(stations: &[PageStation]) -> Option<&str>
     ensures { EndsWith stations.now (option_map (λ id. id.now) result) }
 {
     match stations.last() {
@@ -86,7 +86,7 @@ pub(crate) fn last_id(stations: &[StoredStation]) -> Option<&str>
 /// the reader's.
 pub(crate) fn read_page<R: OwnerReader>(
     alloc: Global,
-    stations: Vec<StoredStation>,
+    stations: Vec<PageStation>,
     rows: &[R::Own],
     reader: &R,
 ) -> Result<VecDeque<R::Item>, StatementFault>

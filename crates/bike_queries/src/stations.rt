@@ -13,36 +13,18 @@ ghost use Rattle.bike_queries.specs.Pages.{AreNamedStations, ArePage, ReadsNamed
 use crate::after::start_of;
 use crate::columns::micro_at;
 use crate::pages::{OwnedRow, OwnerReader, last_id, read_page};
-use bike_attributes::NameKind;
 use bike_book::columns::stations;
 use bike_catalogue::{MoreName, Station};
-use bike_fields::Ident;
-use bike_fixed::Moment;
+use bike_fields::{Ident, NameKind};
 use bike_fleet_reads::{DockNumbers, dock_total_at};
 use bike_office_reads::{NameRow, ReadRow, collect_rows, read_names, select_names};
 use bike_schema::{
     StatementFault, flag_at, ident_at, moment_at, name_at, number_at, optional_ident_at,
 };
+use bike_summaries::StationInfo;
 use sqlite::{Alter, Connection, Error, Row, Rows, params};
 use std::alloc::Global;
 use std::collections::VecDeque;
-
-/// A station with its flags as they were set, when it last reported, and the region in which it stands.
-#[derive(Drop)]
-pub struct StationInfo {
-    /// Its name, its place and its docks.
-    pub station: Station,
-    /// Whether it stands at its place.
-    pub is_installed: bool,
-    /// Whether bicycles are rented there while it is installed.
-    pub is_renting: bool,
-    /// Whether bicycles are taken back there while it is installed.
-    pub is_returning: bool,
-    /// When it last reported.
-    pub reported: Moment,
-    /// The region in which it stands; none where it stands in none.
-    pub region: Option<Ident>,
-}
 
 /// A station with its names in further languages.
 #[derive(Drop)]
@@ -53,14 +35,14 @@ pub struct NamedStation {
     pub names: Vec<MoreName>,
 }
 
-/// A station with the numbers of its docks, as they stand in its row.
+/// A station of a page with the numbers of its docks, as they stand in its row.
 #[derive(Drop)]
-pub(crate) struct StoredStation {
+pub(crate) struct PageStation {
     pub(crate) info: StationInfo,
     pub(crate) docks: DockNumbers,
 }
 
-impl StoredStation {
+impl PageStation {
     /// Its identifier.
     pub(crate) fn id(&self) -> &str
         ensures { result.now ≡ id_of self.now }
@@ -69,13 +51,13 @@ impl StoredStation {
     }
 }
 
-impl ReadRow for StoredStation {
+impl ReadRow for PageStation {
     ghost reads = { λ row x. ReadsStation row x };
 
-    fn read(alloc: Global, row: &Row) -> Result<StoredStation, StatementFault> {
+    fn read(alloc: Global, row: &Row) -> Result<PageStation, StatementFault> {
         let info = read_info(alloc, row)?;
         let docks = read_docks(row)?;
-        Ok(StoredStation { info, docks })
+        Ok(PageStation { info, docks })
     }
 }
 
@@ -99,7 +81,7 @@ pub(crate) fn select_stations<S: Alter>(
     alloc: Global,
     conn: &mut Connection<S>,
     after: Option<&Ident>,
-) -> Result<Vec<StoredStation>, StatementFault>
+) -> Result<Vec<PageStation>, StatementFault>
     ensures { Answers S.Store conn.old conn.new result
         (λ s m stations. ArePage s (option_map (λ id. id.now) after.entry) stations.items) }
 {
@@ -171,7 +153,7 @@ impl OwnerReader for NamedReader {
     fn read(
         &self,
         alloc: Global,
-        owner: StoredStation,
+        owner: PageStation,
         own: &[NameRow],
     ) -> Result<NamedStation, StatementFault> {
         let names = read_names(alloc, own)?;

@@ -5,11 +5,12 @@ ghost use Rattle.bike_schema.specs.Answers.{Answers};
 ghost use Rattle.bike_queries.specs.Pages.{AreStatuses, ReadsStatus, page_after};
 
 use crate::after::start_of;
-use crate::counts::{CountRow, Counts, select_counts, tally_rows};
+use crate::counts::{CountRow, count_types, select_counts};
 use crate::pages::{OwnerReader, last_id, read_page};
-use crate::stations::{StationInfo, StoredStation, select_stations};
+use crate::stations::{PageStation, select_stations};
 use bike_fields::Ident;
 use bike_schema::StatementFault;
+use bike_summaries::{Counts, StationInfo};
 use sqlite::{Alter, Connection};
 use std::alloc::Global;
 use std::collections::VecDeque;
@@ -39,15 +40,14 @@ impl<'a> OwnerReader for StatusReader<'a> {
     fn read(
         &self,
         alloc: Global,
-        owner: StoredStation,
+        owner: PageStation,
         own: &[CountRow],
     ) -> Result<StationStatus, StatementFault> {
         let Ok(room) = Vec::with_capacity(alloc, self.type_ids.len()) else {
             return Err(StatementFault::NoMemory);
         };
-        let tally = tally_rows(alloc, self.type_ids, own, room)?;
-        let StoredStation { info, docks } = owner;
-        let counts = tally.with_docks(docks);
+        let PageStation { info, docks } = owner;
+        let counts = count_types(alloc, self.type_ids, own, docks, room)?;
         Ok(StationStatus { info, counts })
     }
 }

@@ -15,7 +15,7 @@ use Rattle.bike_rows.proofs.OrderLemmas.{Rises}
 use Rattle.bike_rows.proofs.TreeLemmas.{by_key_total}
 use Rattle.bike_rows.proofs.ListLemmas.{map_has, has_map}
 use Rattle.bike_operator.specs.Operator.{DockKey, texts_cmp, dock_key}
-use Rattle.bike_places.proofs.MapLemmas.{texts_order, tied, there_of}
+use Rattle.bike_laws.proofs.SingleSteps.MapLemmas.{texts_order, tied, there_of}
 use Rattle.bike_book.specs.Rows.{dock_row}
 use Rattle.bike_book.specs.Stored.{stored_dock}
 use Rattle.bike_book.proofs.MapRows.{has_get}

@@ -17,16 +17,16 @@ use Rattle.sqlite_sql.specs.Ops.{is_null}
 use Rattle.bike_fields.specs.Bytes.{is_lower, is_upper, is_digit, is_ident_byte, is_key_byte, is_language_byte, is_printable, is_name_byte, has_length, is_ident, is_key, is_language, is_currency, is_ascii_field, is_name, key_of, ascii_of, name_of}
 use Rattle.bike_fields.proofs.Lengths.{both_hold}
 use Rattle.bike_fields.proofs.Callers.{ident_sound, ident_full}
-use Rattle.bike_attributes.specs.declared.vehicle.Form.{Form}
-use Rattle.bike_attributes.specs.declared.vehicle.Form.TheVariants.{Bicycle, CargoBicycle}
-use Rattle.bike_attributes.specs.declared.vehicle.Propulsion.{Propulsion}
-use Rattle.bike_attributes.specs.declared.vehicle.Propulsion.TheVariants.{Human, ElectricAssist}
-use Rattle.bike_attributes.specs.declared.name_kind.NameKind.{NameKind}
-use Rattle.bike_attributes.specs.declared.name_kind.NameKind.TheVariants as named
-use Rattle.bike_attributes.specs.NameKinds.{kind_text as named_text}
-use Rattle.bike_attributes.specs.Vehicle.{form_text, propulsion_text}
-use Rattle.bike_attributes.proofs.NameKinds.{kind_sound as named_sound, kind_full as named_full}
-use Rattle.bike_attributes.proofs.Vehicles.{form_sound, form_full, propulsion_sound, propulsion_full}
+use Rattle.bike_fields.specs.declared.vehicle.Form.{Form}
+use Rattle.bike_fields.specs.declared.vehicle.Form.TheVariants.{Bicycle, CargoBicycle}
+use Rattle.bike_fields.specs.declared.vehicle.Propulsion.{Propulsion}
+use Rattle.bike_fields.specs.declared.vehicle.Propulsion.TheVariants.{Human, ElectricAssist}
+use Rattle.bike_fields.specs.declared.name_kind.NameKind.{NameKind}
+use Rattle.bike_fields.specs.declared.name_kind.NameKind.TheVariants as named
+use Rattle.bike_fields.specs.NameKinds.{kind_text as named_text}
+use Rattle.bike_fields.specs.Vehicle.{form_text, propulsion_text}
+use Rattle.bike_fields.proofs.NameKinds.{kind_sound as named_sound, kind_full as named_full}
+use Rattle.bike_fields.proofs.Vehicles.{form_sound, form_full, propulsion_sound, propulsion_full}
 use Rattle.bike_ledger.specs.declared.entry.EntryKind.{EntryKind}
 use Rattle.bike_ledger.specs.declared.entry.EntryKind.TheVariants.{TopUp, Fare, Refund}
 use Rattle.bike_texts.specs.declared.ends.OrderEnd.{OrderEnd}

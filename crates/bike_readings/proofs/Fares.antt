@@ -10,8 +10,8 @@ use Rattle.bike_operator.specs.declared.records.Closing.{Closing}
 use Rattle.bike_operator.specs.Operator.{item_at, item_numbered}
 use Rattle.bike_operator.specs.Counts.{count, is_open}
 use Rattle.bike_operator.specs.Sound.{is_fare, fares_of, fares_in}
-use Rattle.bike_places.proofs.TestLemmas.{same_number}
-use Rattle.bike_places.proofs.CountLemmas.{count-cons, one}
+use Rattle.bike_laws.proofs.SingleSteps.TestLemmas.{same_number}
+use Rattle.bike_laws.proofs.SingleSteps.CountLemmas.{count-cons, one}
 
 abbrev pub is_fare_of : ℕ → Entry → Bool
 is_fare_of rental e = is_fare e.kind && (e.rental == rental)

@@ -16,13 +16,13 @@ use Rattle.bike_rows.proofs.OrderLemmas.{Rises, all_from}
 use Rattle.bike_rows.proofs.ListLemmas.{has_map, map_has, filter_has, has_filter}
 use Rattle.bike_fields.proofs.Lengths.{both_hold}
 use Rattle.bike_catalogue.specs.Rows.{MoreNameRow}
-use Rattle.bike_attributes.specs.declared.name_kind.NameKind.{NameKind}
-use Rattle.bike_attributes.specs.NameKinds.{kind_text, kind_of}
-use Rattle.bike_attributes.proofs.NameKinds.{kind_full}
+use Rattle.bike_fields.specs.declared.name_kind.NameKind.{NameKind}
+use Rattle.bike_fields.specs.NameKinds.{kind_text, kind_of}
+use Rattle.bike_fields.proofs.NameKinds.{kind_full}
 use Rattle.bike_operator.specs.Operator.{Operator, NameKey, text_cmp, texts_cmp, name_key}
 use Rattle.bike_operator.specs.Names.{part_at, is_name_of, further_names}
-use Rattle.bike_places.proofs.MapLemmas.{text_order, texts_order}
-use Rattle.bike_places.proofs.TestLemmas.{same_bytes}
+use Rattle.bike_laws.proofs.SingleSteps.MapLemmas.{text_order, texts_order}
+use Rattle.bike_laws.proofs.SingleSteps.TestLemmas.{same_bytes}
 use Rattle.bike_book.proofs.MapRows.{both, below_has, has_get}
 use Rattle.bike_book.proofs.Keys.{triples, IsTriple}
 use Rattle.bike_readings.specs.Demands.{names_before}

@@ -24,8 +24,8 @@ use Rattle.bike_operator.specs.declared.records.Closing.{Closing}
 use Rattle.bike_operator.specs.Operator.{Operator, Key, NameKey, DockKey, name_key, item_numbered}
 use Rattle.bike_operator.specs.Counts.{docks_available, docks_broken, available_of}
 use Rattle.bike_operator.specs.Sound.{IsSound, IsPlace, IsBooking, IsSetSystem, fares_of, fares_in}
-use Rattle.bike_places.specs.Numbers.{disabled_of}
-use Rattle.bike_places.proofs.ItemLemmas.{number_within}
+use Rattle.bike_laws.specs.SingleSteps.Numbers.{disabled_of}
+use Rattle.bike_laws.proofs.SingleSteps.ItemLemmas.{number_within}
 use Rattle.bike_book.specs.declared.version.TheConstants.{NEWEST}
 use Rattle.bike_book.specs.Tables.{Meta, System, Plans, Segments, Types, Regions, Stations, Docks, Bikes, Trucks, Riders, Rentals, Orders, Entries, Kept as KeptTable, Counts, MoreNames}
 use Rattle.bike_book.specs.Rows.{number_value, meta_row}

@@ -14,7 +14,7 @@ use Rattle.bike_rows.proofs.OrderLemmas.{Rises, all_has}
 use Rattle.bike_rows.proofs.TreeLemmas.{by_key_total}
 use Rattle.bike_rows.proofs.ListLemmas.{find_only}
 use Rattle.bike_operator.specs.Counts.{count}
-use Rattle.bike_places.proofs.CountLemmas.{count-cons, one}
+use Rattle.bike_laws.proofs.SingleSteps.CountLemmas.{count-cons, one}
 use Rattle.bike_book.specs.Stored.{numbers_from, with_numbers}
 use Rattle.bike_book.proofs.MapRows.{BeginsWithKey}
 use Rattle.bike_book.proofs.Keys.{number_key, numbers}

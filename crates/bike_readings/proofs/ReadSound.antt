@@ -13,8 +13,8 @@ use Rattle.sqlite_value.specs.Order.{Row}
 use Rattle.sqlite_rules.specs.Lists.{Has}
 use Rattle.bike_rows.specs.View.{row_with}
 use Rattle.bike_fields.specs.Bytes.{is_name}
-use Rattle.bike_attributes.specs.declared.name_kind.NameKind.{NameKind}
-use Rattle.bike_attributes.specs.NameKinds.{kind_text}
+use Rattle.bike_fields.specs.declared.name_kind.NameKind.{NameKind}
+use Rattle.bike_fields.specs.NameKinds.{kind_text}
 use Rattle.bike_catalogue.specs.Rows.{TypeRow, RegionRow, MoreNameRow}
 use Rattle.bike_ledger.specs.Entries.{Entry}
 use Rattle.bike_ledger.specs.declared.entry.EntryKind.{EntryKind}
@@ -30,7 +30,7 @@ use Rattle.bike_operator.specs.Operator.{Operator, Station, Truck, Rider, Kept, 
 use Rattle.bike_operator.specs.Counts.{is_open, open_rentals}
 use Rattle.bike_operator.specs.Names.{part_at}
 use Rattle.bike_operator.specs.Sound.{IsSound, IsCatalogueSound, AreNamesSound, IsNameAt, AreBikesSound, AreOrdersSound, AreRentalsSound, IsLedgerSound, IsTypeAt, IsRegionAt, IsStationAt, HasDock, IsBrokenDock, IsBikeAt, IsPlace, IsTruckAt, IsOrderAt, IsRentalAt, IsRiderNumber, IsEntryAt, IsKept as IsKeptAt, fares_of, fares_in}
-use Rattle.bike_places.proofs.MapLemmas.{there_of}
+use Rattle.bike_laws.proofs.SingleSteps.MapLemmas.{there_of}
 use Rattle.bike_book.specs.Tables.{TableName, Tables, keys_of, Meta, Plans, Types, Regions, Stations, Docks, Bikes, Trucks, Riders, Rentals, Orders, Entries, Kept as KeptTable, Counts, MoreNames}
 use Rattle.bike_book.specs.Rows.{number_value}
 use Rattle.bike_book.specs.Stored.{IsListing, IsDockKey, IsCountKey, tables_for, stored_plan, stored_type, stored_region, stored_station, stored_bike, stored_truck, stored_rider, stored_rental, stored_order, stored_count}

@@ -15,10 +15,10 @@ use Rattle.sqlite_rules.specs.Lists.{Has}
 use Rattle.bike_rows.specs.View.{by_key, row_with}
 use Rattle.bike_rows.proofs.OrderLemmas.{Rises, rises_append, all_from, same_list}
 use Rattle.bike_rows.proofs.TreeLemmas.{by_key_total}
-use Rattle.bike_attributes.specs.Values.{SegmentRow}
+use Rattle.bike_fields.specs.Values.{SegmentRow}
 use Rattle.bike_catalogue.specs.Rows.{PlanRow}
 use Rattle.bike_operator.specs.Operator.{text_cmp, dock_key, item_at, item_numbered}
-use Rattle.bike_places.proofs.MapLemmas.{text_order}
+use Rattle.bike_laws.proofs.SingleSteps.MapLemmas.{text_order}
 use Rattle.bike_book.specs.Rows.{number_value, segment_row}
 use Rattle.bike_book.specs.Stored.{segment_rows, plans_segments}
 use Rattle.bike_book.proofs.MapRows.{both, below_has, has_get}

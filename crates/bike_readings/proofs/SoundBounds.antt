@@ -3,8 +3,8 @@ use Rattle.std.proofs.Common.{◌≡◌, ℕ, zero, suc, ◌+◌, ◌≤◌, Lis
 use Rattle.std.specs.FinMap as fin
 use Rattle.std.proofs.lemmas.List.{length-append}
 use Rattle.bike_fields.specs.Bytes.{is_ident, is_language}
-use Rattle.bike_attributes.specs.declared.name_kind.NameKind.{NameKind}
-use Rattle.bike_attributes.specs.Values.{SegmentRow}
+use Rattle.bike_fields.specs.declared.name_kind.NameKind.{NameKind}
+use Rattle.bike_fields.specs.Values.{SegmentRow}
 use Rattle.bike_catalogue.specs.Rows.{PlanRow, TypeRow, RegionRow, SystemRow, IsSystem}
 use Rattle.bike_ledger.specs.Entries.{Entry}
 use Rattle.bike_ledger.specs.declared.entry.EntryKind.{EntryKind}
@@ -22,8 +22,8 @@ use Rattle.bike_operator.specs.Operator.{Operator, Station, Truck, Rider, name_k
 use Rattle.bike_operator.specs.Counts.{count, docks_up_to, docks_broken, available_of, is_broken}
 use Rattle.bike_operator.specs.View.{has_end, has_region}
 use Rattle.bike_operator.specs.Sound.{IsSetSystem, HasDock, IsPlace, IsStop, IsOpenOrClosed, IsBooking, IsSound}
-use Rattle.bike_places.specs.Numbers.{disabled_of}
-use Rattle.bike_places.proofs.ItemLemmas.{number_within}
+use Rattle.bike_laws.specs.SingleSteps.Numbers.{disabled_of}
+use Rattle.bike_laws.proofs.SingleSteps.ItemLemmas.{number_within}
 use Rattle.bike_book.specs.declared.version.TheConstants.{NEWEST}
 use Rattle.bike_book.specs.Rows.{second_text, third_text}
 use Rattle.bike_readings.specs.SoundRows.{HasBounds}

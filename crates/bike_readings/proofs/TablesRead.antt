@@ -4,9 +4,9 @@ use Rattle.std.specs.Prelude.{option_map, take}
 use Rattle.std.specs.FinMap as fin
 use Rattle.sqlite_value.specs.Order.{Row}
 use Rattle.sqlite_rules.specs.Lists.{Has}
-use Rattle.bike_attributes.specs.declared.name_kind.NameKind.{NameKind}
-use Rattle.bike_attributes.specs.NameKinds.{kind_text}
-use Rattle.bike_attributes.specs.Values.{SegmentRow, IsSegment}
+use Rattle.bike_fields.specs.declared.name_kind.NameKind.{NameKind}
+use Rattle.bike_fields.specs.NameKinds.{kind_text}
+use Rattle.bike_fields.specs.Values.{SegmentRow, IsSegment}
 use Rattle.bike_catalogue.specs.Rows.{PlanRow, MoreNameRow, IsPlan}
 use Rattle.bike_ledger.specs.Entries.{Entry}
 use Rattle.bike_texts.specs.Fields.{AreSegments}

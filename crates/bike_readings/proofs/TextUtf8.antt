@@ -17,12 +17,12 @@ use Rattle.bike_fields.specs.Caller.{IsCaller, caller_text}
 use Rattle.bike_fields.specs.declared.caller.Caller.{Caller}
 use Rattle.bike_fields.specs.declared.caller.Caller.TheVariants.{Office, Rider, Dock, Crew, Import}
 use Rattle.bike_fields.proofs.Lengths.{both_hold}
-use Rattle.bike_attributes.specs.Values.{SegmentRow, IsSegment, IsRange, IsEnd as IsSegmentEnd}
-use Rattle.bike_attributes.specs.declared.vehicle.Form.{Form}
-use Rattle.bike_attributes.specs.declared.vehicle.Form.TheVariants.{Bicycle, CargoBicycle}
-use Rattle.bike_attributes.specs.declared.vehicle.Propulsion.{Propulsion}
-use Rattle.bike_attributes.specs.declared.vehicle.Propulsion.TheVariants.{Human, ElectricAssist}
-use Rattle.bike_attributes.specs.Vehicle.{form_text, propulsion_text}
+use Rattle.bike_fields.specs.Values.{SegmentRow, IsSegment, IsRange, IsEnd as IsSegmentEnd}
+use Rattle.bike_fields.specs.declared.vehicle.Form.{Form}
+use Rattle.bike_fields.specs.declared.vehicle.Form.TheVariants.{Bicycle, CargoBicycle}
+use Rattle.bike_fields.specs.declared.vehicle.Propulsion.{Propulsion}
+use Rattle.bike_fields.specs.declared.vehicle.Propulsion.TheVariants.{Human, ElectricAssist}
+use Rattle.bike_fields.specs.Vehicle.{form_text, propulsion_text}
 use Rattle.bike_texts.specs.declared.ends.OrderEnd.TheVariants as end
 use Rattle.bike_texts.specs.declared.ends.Side.{Side}
 use Rattle.bike_texts.specs.declared.ends.Side.TheVariants.{From, To}

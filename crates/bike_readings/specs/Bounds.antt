@@ -3,7 +3,7 @@ use Rattle.std.specs.Prelude.{◌≡◌, ℕ, ℤ, pos, ◌≤◌, ◌≤ℤ◌,
 use Rattle.bike_fixed.specs.Whole.{last_moment}
 use Rattle.bike_fields.specs.declared.numbers.TheConstants.{GREATEST_NUMBER, GREATEST_SERIAL, MOST_CARRIED, MOST_DOCKS}
 use Rattle.bike_fields.specs.Bytes.{is_ident}
-use Rattle.bike_attributes.specs.Values.{SegmentRow, IsSegment}
+use Rattle.bike_fields.specs.Values.{SegmentRow, IsSegment}
 use Rattle.bike_catalogue.specs.Rows.{PlanRow, TypeRow, RegionRow, MoreNameRow, IsPlan, IsType, IsStation, IsRegion, IsMoreName}
 use Rattle.bike_ledger.specs.Entries.{Entry, greatest_amount}
 use Rattle.bike_ledger.specs.declared.entry.EntryKind.{EntryKind}

@@ -8,15 +8,15 @@ use Rattle.sqlite_value.specs.declared.value.Value.{Value}
 use Rattle.sqlite_value.specs.Order.{Row}
 use Rattle.sqlite_sql.specs.Ops.{is_null}
 use Rattle.bike_fields.specs.declared.numbers.TheConstants.{GREATEST_NUMBER, GREATEST_PAYMENT, GREATEST_SERIAL, MOST_DOCKS}
-use Rattle.bike_attributes.specs.declared.limits.TheConstants.{GREATEST_LATITUDE, GREATEST_RATE}
+use Rattle.bike_fields.specs.declared.limits.TheConstants.{GREATEST_LATITUDE, GREATEST_RATE}
 use Rattle.bike_fields.specs.Bytes.{key_of, language_of, currency_of, ascii_of}
 use Rattle.bike_fields.specs.Caller.{◌>>=◌, caller_of}
 use Rattle.bike_fields.specs.declared.caller.Caller.{Caller}
-use Rattle.bike_attributes.specs.declared.vehicle.Form.{Form}
-use Rattle.bike_attributes.specs.declared.vehicle.Propulsion.{Propulsion}
-use Rattle.bike_attributes.specs.Vehicle.{form_of, propulsion_of}
-use Rattle.bike_attributes.specs.declared.name_kind.NameKind.{NameKind}
-use Rattle.bike_attributes.specs.NameKinds.{kind_of as named_kind_of}
+use Rattle.bike_fields.specs.declared.vehicle.Form.{Form}
+use Rattle.bike_fields.specs.declared.vehicle.Propulsion.{Propulsion}
+use Rattle.bike_fields.specs.Vehicle.{form_of, propulsion_of}
+use Rattle.bike_fields.specs.declared.name_kind.NameKind.{NameKind}
+use Rattle.bike_fields.specs.NameKinds.{kind_of as named_kind_of}
 use Rattle.bike_ledger.specs.Entries.{greatest_amount}
 use Rattle.bike_ledger.specs.declared.entry.EntryKind.{EntryKind}
 use Rattle.bike_ledger.specs.declared.entry.EntryKind.TheVariants.{TopUp, Fare, Refund}

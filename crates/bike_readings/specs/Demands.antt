@@ -24,9 +24,9 @@ use Rattle.std.specs.Prelude.{◌≡◌, ℕ, ℤ, ◌+◌, ◌<◌, ◌≤◌, 
 use Rattle.std.specs.Ordering.{is_lt}
 use Rattle.std.specs.FinMap as fin
 use Rattle.bike_fields.specs.declared.numbers.TheConstants.{GREATEST_NUMBER}
-use Rattle.bike_attributes.specs.Values.{SegmentRow}
+use Rattle.bike_fields.specs.Values.{SegmentRow}
 use Rattle.bike_catalogue.specs.Rows.{PlanRow, TypeRow, RegionRow, MoreNameRow}
-use Rattle.bike_attributes.specs.declared.name_kind.NameKind.{NameKind}
+use Rattle.bike_fields.specs.declared.name_kind.NameKind.{NameKind}
 use Rattle.bike_ledger.specs.Entries.{Entry}
 use Rattle.bike_ledger.specs.declared.entry.EntryKind.{EntryKind}
 use Rattle.bike_ledger.specs.declared.entry.EntryKind.TheVariants.{TopUp, Fare, Refund}
@@ -42,7 +42,7 @@ use Rattle.bike_operator.specs.Operator.{Operator, Station, Truck, Rider, Kept, 
 use Rattle.bike_operator.specs.Counts.{is_open, is_retired, open_rentals, docks_available, docks_broken, available_of}
 use Rattle.bike_operator.specs.Names.{has_named, is_own_language, further_names}
 use Rattle.bike_operator.specs.Sound.{IsTypeAt, IsStationAt, HasDock, IsTruckAt, IsOrderAt, IsOpenOrClosed, most_refunded, fares_of, IsRiderNumber, IsEntryAt, IsKept}
-use Rattle.bike_places.specs.Numbers.{disabled_of}
+use Rattle.bike_laws.specs.SingleSteps.Numbers.{disabled_of}
 use Rattle.bike_book.specs.declared.version.TheConstants.{NEWEST}
 use Rattle.bike_book.specs.Tables.{Tables}
 use Rattle.bike_readings.specs.ReadOff.{rental_at, order_at}

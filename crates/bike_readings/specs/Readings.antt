@@ -3,11 +3,11 @@
 use Rattle.std.specs.Prelude.{ℕ, ℤ, List, [], Bool, if◌then◌else◌, Option, Some, None, codes}
 use Rattle.sqlite_value.specs.Order.{Row, column}
 use Rattle.bike_fields.specs.declared.numbers.TheConstants.{GREATEST_PRICE, GREATEST_RANGE, LAST_MINUTE, LONGEST_TIME_TO_LIVE, MOST_CARRIED}
-use Rattle.bike_attributes.specs.declared.limits.TheConstants.{MOST_SEGMENTS}
+use Rattle.bike_fields.specs.declared.limits.TheConstants.{MOST_SEGMENTS}
 use Rattle.bike_fields.specs.Caller.{◌>>=◌, caller_text}
-use Rattle.bike_attributes.specs.Values.{SegmentRow, is_range, is_after}
+use Rattle.bike_fields.specs.Values.{SegmentRow, is_range, is_after}
 use Rattle.bike_catalogue.specs.Rows.{PlanRow, TypeRow, RegionRow, MoreNameRow, SystemRow}
-use Rattle.bike_attributes.specs.declared.name_kind.NameKind.{NameKind}
+use Rattle.bike_fields.specs.declared.name_kind.NameKind.{NameKind}
 use Rattle.bike_ledger.specs.Entries.{Entry}
 use Rattle.bike_operator.specs.declared.records.Bike.{Bike}
 use Rattle.bike_operator.specs.declared.records.Rental.{Rental}

@@ -3,7 +3,7 @@
 ghost use Rattle.std.specs.Prelude.{◌≡◌, option_map, codes};
 ghost use Rattle.sqlite_value.specs.Order.{column};
 ghost use Rattle.bike_fields.specs.declared.numbers.TheConstants.{LAST_MINUTE};
-ghost use Rattle.bike_attributes.specs.Values.{is_range};
+ghost use Rattle.bike_fields.specs.Values.{is_range};
 ghost use Rattle.bike_schema.specs.Columns.{number_in, or_none};
 ghost use Rattle.bike_readings.specs.Readings.{meta_read, system_read, plan_read, segment_read, type_read};
 ghost use Rattle.bike_readings.specs.Views.{meta_of, system_of, plan_of, segment_of, type_of};
@@ -13,9 +13,10 @@ use crate::columns::{
     moment_in, name_in, number_in, propulsion_in, signed_in,
 };
 use crate::part::Part;
-use bike_attributes::{Form, GREATEST_RATE, Propulsion};
 use bike_book::columns::{meta, plans, segments, system, types};
-use bike_fields::{GREATEST_RANGE, MaxRange, Price, SegmentMinute, TimeToLive};
+use bike_fields::{
+    Form, GREATEST_RANGE, GREATEST_RATE, MaxRange, Price, Propulsion, SegmentMinute, TimeToLive,
+};
 use bike_fixed::{Cents, Moment, Within};
 
 /// The row of `meta`.

@@ -10,8 +10,7 @@ ghost use Rattle.bike_readings.specs.ColumnReaders.{ascii_in, language_in, curre
 ghost use Rattle.bike_readings.specs.ColumnReaders.{named_kind_in, word_in, signed_in, kind_in};
 
 use crate::part::Part;
-use bike_attributes::{Form, NameKind, Propulsion};
-use bike_fields::{Ascii, Currency, Ident, Language, Name};
+use bike_fields::{Ascii, Currency, Form, Ident, Language, Name, NameKind, Propulsion};
 use bike_fixed::{Cents, Moment, Within};
 use bike_ledger::EntryKind;
 use bike_operator::BikeState;

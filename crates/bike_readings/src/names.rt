@@ -6,8 +6,8 @@ ghost use Rattle.bike_readings.specs.Views.{name_of};
 
 use crate::columns::{ident_in, language_in, name_in, named_kind_in};
 use crate::part::Part;
-use bike_attributes::NameKind;
 use bike_book::columns::more_names;
+use bike_fields::NameKind;
 
 /// A row of `more_names`.
 #[derive(Clone, Copy)]

@@ -8,9 +8,8 @@ use crate::columns::{
     cents_in, flag_in, ident_in, ident_or_none_in, moment_in, name_in, number_in, signed_in,
 };
 use crate::part::Part;
-use bike_attributes::GREATEST_LATITUDE;
 use bike_book::columns::{counts, docks, regions, stations};
-use bike_fields::{DockCount, DockNumber};
+use bike_fields::{DockCount, DockNumber, GREATEST_LATITUDE};
 use bike_fixed::{GREATEST_COORDINATE, Moment, Within};
 
 /// A row of `regions`.

@@ -9,3 +9,4 @@ pub mod RowidTexts
 pub mod LookLemmas
 pub mod StandLemmas
 mod MetaTexts
+pub mod EarlierVersions

@@ -4,3 +4,4 @@ pub mod Names
 pub mod Recognition
 pub mod Rowids
 pub mod Wanted
+pub mod EarlierVersions

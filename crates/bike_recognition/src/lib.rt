@@ -25,3 +25,7 @@ pub use schema::has_wanted;
 pub use stands::{EVERY_TABLE, check_open, missing_table, table_stands};
 pub use table::TableName;
 pub use version::{MetaVersion, find_version};
+
+mod earlier_versions;
+
+pub use earlier_versions::{Earlier, Found, MOST_DOCKS_BEFORE, find_version_of, is_at, stands_at};

@@ -15,8 +15,8 @@ use Rattle.bike_operator.specs.Runs.{Call}
 use Rattle.bike_schema.specs.Stands.{AllLeft}
 use Rattle.bike_feeds.specs.Desk.{DeskValue, desk_state, IsAt}
 use Rattle.bike_feeds.specs.Runs.{IsAfterFront, IsAtFront}
-use Rattle.bike_sessions.specs.Sessions.{Session, AreSessions, after_sessions, answers_given}
-use Rattle.bike_sessions.proofs.SessionLemmas.{accepts_once, answers_again, refuses_others, leaves_retries_out, sessions-next, after_sessions-next, answers-next, replies-take}
+use Rattle.bike_laws.specs.Sessions.{Session, AreSessions, after_sessions, answers_given}
+use Rattle.bike_laws.proofs.SessionLemmas.{accepts_once, answers_again, refuses_others, leaves_retries_out, sessions-next, after_sessions-next, answers-next, replies-take}
 use Rattle.bike_recovery.specs.Recovery.{AreReplies}
 use Rattle.bike_recovery.specs.SessionsServed.{ServesSessions}
 

@@ -6,7 +6,7 @@ ghost use Rattle.sqlite.specs.Held.{state};
 ghost use Rattle.sqlite_trees.specs.View.{doubt};
 ghost use Rattle.bike_operator.specs.Operator.{Operator};
 ghost use Rattle.bike_schema.specs.Stands.{AllLeft};
-ghost use Rattle.bike_earlier.specs.Stores.{TreesStandForAt};
+ghost use Rattle.bike_recognition.specs.EarlierVersions.Stores.{TreesStandForAt};
 ghost use Rattle.bike_migrate.specs.Raising.{Holds, TreesStandSince};
 ghost use Rattle.bike_feeds.specs.Desk.{desk_state};
 ghost use Rattle.bike_recovery.specs.Recovery.{ReadsOf};

@@ -7,10 +7,10 @@ use Rattle.std.proofs.lemmas.Bool.{le-leb}
 use Rattle.std.proofs.lemmas.Int.{ints}
 use Rattle.std.proofs.lemmas.Option.{option_and_then_some, same_Some}
 use Rattle.std.proofs.lemmas.List.Splits.{join_with_byte-slice_split}
-use Rattle.bike_attributes.specs.Values.{IsRange, is_range, IsLatitude, is_latitude, position_of_fields, position_within}
+use Rattle.bike_fields.specs.Values.{IsRange, is_range, IsLatitude, is_latitude, position_of_fields, position_within}
 use Rattle.bike_catalogue.specs.Rows.{plan_of_fields, plan_within, type_of_fields, type_within, station_of_fields, station_within}
-use Rattle.bike_attributes.specs.declared.vehicle.Propulsion.{Propulsion}
-use Rattle.bike_attributes.specs.declared.vehicle.Propulsion.TheVariants.{Human, ElectricAssist}
+use Rattle.bike_fields.specs.declared.vehicle.Propulsion.{Propulsion}
+use Rattle.bike_fields.specs.declared.vehicle.Propulsion.TheVariants.{Human, ElectricAssist}
 use Rattle.bike_fields.specs.Reads.{IsReadAs}
 use Rattle.bike_fields.proofs.Lengths.{both_hold}
 use Rattle.bike_texts.specs.Parts.{Parts}

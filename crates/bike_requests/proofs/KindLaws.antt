@@ -7,8 +7,8 @@ use Rattle.std.proofs.lemmas.Bool.Decides.{nat_tests}
 use Rattle.std.proofs.lemmas.List.{append-nil}
 use Rattle.std.proofs.lemmas.Option.{option_and_then_some, same_Some}
 use Rattle.bike_fields.proofs.Lengths.{both_hold}
-use Rattle.bike_attributes.specs.Vehicle.{propulsion_text}
-use Rattle.bike_attributes.specs.declared.vehicle.Propulsion.{Propulsion}
+use Rattle.bike_fields.specs.Vehicle.{propulsion_text}
+use Rattle.bike_fields.specs.declared.vehicle.Propulsion.{Propulsion}
 use Rattle.bike_texts.specs.Parts.{Parts}
 use Rattle.bike_texts.specs.Fields.{Field, fields_text, field_text}
 use Rattle.bike_texts.specs.Reading.{◌>>=◌, field_at, no_more, metres_of}

@@ -1,7 +1,7 @@
 -- The text of a plan's segments, as it is written one after the other.
 use Rattle.std.proofs.Common.{◌≡◌, ℕ, List, [], ◌∷◌, ◌++◌, sym, ap, ◌∙◌, map, append-nil, append_assoc}
 use Rattle.std.specs.List.{join_with_byte}
-use Rattle.bike_attributes.specs.Values.{SegmentRow}
+use Rattle.bike_fields.specs.Values.{SegmentRow}
 use Rattle.bike_texts.specs.Fields.{segment_text, segments_text}
 use Rattle.bike_requests.specs.Writing.{others_text}
 

@@ -2,12 +2,12 @@
 use Rattle.std.specs.Prelude.{◌≡◌, ℕ, ℤ, List, [], ◌∷◌, ◌++◌, Bool, Option, Some, None, Result, Ok, Err, option_map, codes}
 use Rattle.bike_fixed.specs.Whole.{number_of}
 use Rattle.bike_fields.specs.Bytes.{ident_of, language_of, currency_of}
-use Rattle.bike_attributes.specs.Values.{SegmentRow}
-use Rattle.bike_attributes.specs.Vehicle.{form_of, form_text, propulsion_of, propulsion_text}
-use Rattle.bike_attributes.specs.NameKinds.{kind_of, kind_text}
-use Rattle.bike_attributes.specs.declared.name_kind.NameKind.{NameKind}
-use Rattle.bike_attributes.specs.declared.vehicle.Form.{Form}
-use Rattle.bike_attributes.specs.declared.vehicle.Propulsion.{Propulsion}
+use Rattle.bike_fields.specs.Values.{SegmentRow}
+use Rattle.bike_fields.specs.Vehicle.{form_of, form_text, propulsion_of, propulsion_text}
+use Rattle.bike_fields.specs.NameKinds.{kind_of, kind_text}
+use Rattle.bike_fields.specs.declared.name_kind.NameKind.{NameKind}
+use Rattle.bike_fields.specs.declared.vehicle.Form.{Form}
+use Rattle.bike_fields.specs.declared.vehicle.Propulsion.{Propulsion}
 use Rattle.bike_texts.specs.declared.ends.OrderEnd.{OrderEnd}
 use Rattle.bike_texts.specs.declared.ends.Side.{Side}
 use Rattle.bike_texts.specs.Parts.{Parts}

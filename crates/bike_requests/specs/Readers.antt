@@ -2,9 +2,9 @@
 use Rattle.std.specs.Prelude.{ℕ, List, [], ◌∷◌, Option, Some, None, option_map, if◌then◌else◌, codes}
 use Rattle.std.specs.Str.{bytes_eq}
 use Rattle.bike_fixed.specs.declared.micro.TheConstants.{GREATEST_COORDINATE}
-use Rattle.bike_attributes.specs.declared.limits.TheConstants.{GREATEST_LATITUDE}
+use Rattle.bike_fields.specs.declared.limits.TheConstants.{GREATEST_LATITUDE}
 use Rattle.bike_fields.specs.declared.numbers.TheConstants.{GREATEST_NUMBER, GREATEST_PAYMENT, GREATEST_PRICE, GREATEST_SERIAL, LONGEST_TIME_TO_LIVE, MOST_CARRIED, MOST_DOCKS}
-use Rattle.bike_attributes.specs.Values.{position_of_fields, position_within}
+use Rattle.bike_fields.specs.Values.{position_of_fields, position_within}
 use Rattle.bike_catalogue.specs.Rows.{system_of_fields, plan_of_fields, plan_within, type_of_fields, type_within, station_of_fields, station_within, region_of_fields, settings_of_fields}
 use Rattle.bike_texts.specs.Parts.{Parts}
 use Rattle.bike_texts.specs.Reading.{◌>>=◌, part_at}

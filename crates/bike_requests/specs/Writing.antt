@@ -1,6 +1,6 @@
 -- Parts of a written text.
 use Rattle.std.specs.Prelude.{ℕ, List, ◌∷◌, flat_map}
-use Rattle.bike_attributes.specs.Values.{SegmentRow}
+use Rattle.bike_fields.specs.Values.{SegmentRow}
 use Rattle.bike_texts.specs.Fields.{segment_text}
 
 -- segments, with a semicolon before each

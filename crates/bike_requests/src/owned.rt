@@ -7,8 +7,7 @@ ghost use Rattle.bike_requests.specs.Kinds.{SegmentLists, fields_with, reads};
 use crate::put_texts::{put_escaped, put_segments, put_text};
 use crate::spelled::{Lent, Spelled};
 use crate::unread::Unread;
-use bike_attributes::Segment;
-use bike_fields::{Ascii, Currency, Ident, Language, Name};
+use bike_fields::{Ascii, Currency, Ident, Language, Name, Segment};
 use bike_texts::{Fields, OrderEnd};
 use std::alloc::{AllocError, Global};
 use std::marker::Model;
@@ -169,7 +168,7 @@ pub struct Segments {
 
 impl Model for Segments {
     ghost use Rattle.std.specs.Prelude.{List};
-    ghost use Rattle.bike_attributes.specs.Values.{SegmentRow};
+    ghost use Rattle.bike_fields.specs.Values.{SegmentRow};
 
     ghost Value = { List SegmentRow };
 

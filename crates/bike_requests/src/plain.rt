@@ -11,8 +11,7 @@ ghost use Rattle.bike_requests.specs.Kinds.{fields_with, reads};
 use crate::put_texts::{put_number, put_text};
 use crate::spelled::Spelled;
 use crate::unread::Unread;
-use bike_attributes::{Form, NameKind, Propulsion};
-use bike_fields::MaxRange;
+use bike_fields::{Form, MaxRange, NameKind, Propulsion};
 use bike_fixed::{Micro, Within};
 use bike_texts::{Fields, Side};
 use std::alloc::{AllocError, Global};
@@ -252,7 +251,7 @@ pub struct Range {
 
 impl Model for Range {
     ghost use Rattle.std.specs.Prelude.{ℕ};
-    ghost use Rattle.bike_attributes.specs.declared.vehicle.Propulsion.{Propulsion};
+    ghost use Rattle.bike_fields.specs.declared.vehicle.Propulsion.{Propulsion};
 
     ghost Value = { Propulsion × ℕ };
 

@@ -8,8 +8,7 @@ ghost use Rattle.bike_texts.specs.Fields.{escapes_of, segment_end_text, segment_
 ghost use Rattle.bike_texts.specs.Fields.{IdOrNone, field_text};
 ghost use Rattle.bike_requests.specs.Writing.{others_text};
 
-use bike_attributes::Segment;
-use bike_fields::Ident;
+use bike_fields::{Ident, Segment};
 use bike_fixed::{Micro, Within, signed_text};
 use bike_texts::OrderEnd;
 use itoa::Buffer;

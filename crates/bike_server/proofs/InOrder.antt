@@ -5,13 +5,16 @@ use Rattle.bike_operator.specs.Operator.{Operator}
 use Rattle.bike_http.specs.Desk.{DeskValue, IsAt}
 use Rattle.bike_http.specs.declared.exchange.Served.{Served}
 use Rattle.bike_http.specs.declared.exchange.ServeFault.{ServeFault}
-use Rattle.bike_exchange.specs.Asking.{Coming}
-use Rattle.bike_connections.specs.Ahead.{Loses}
-use Rattle.bike_connections.proofs.Losing.{loses_none, loses_then, loses_behind, loses_all}
+use Rattle.bike_http_connection.specs.Asking.{Coming, AsksAs}
+use Rattle.bike_http_connection.specs.Connected.{Connected}
+use Rattle.bike_http_connections.specs.Ahead.{Loses, ahead_of}
+use Rattle.bike_http_connections.proofs.Losing.{loses_none}
 use Rattle.bike_server.specs.declared.arrivals.AcceptFault.{AcceptFault}
 use Rattle.bike_server.specs.declared.arrivals.Arrival.{Arrival}
 use Rattle.bike_server.specs.Visits.{Leaving, Kept, Visits, IsOpen, LetsGo}
-use Rattle.bike_server.specs.Arrivals.{AcceptsOne, Accepts}
+use Rattle.bike_server.specs.Arrivals.{AcceptsOne, AcceptsNone, Accepts}
+use Rattle.bike_server.specs.Clients.{SendsEachItsOwn}
+use Rattle.bike_server.proofs.ClientLemmas.{none_sent, sent_still, sent_one, requests_sent}
 use Rattle.bike_server.specs.Answering.{IsAnswered, AreAnswered, Exchanges, ExchangesOne, ServesSome, ServesAll, ServesFewer, ServesUntilStopped, Adds}
 
 -- ---- one more
@@ -50,12 +53,6 @@ Adds-push (Some before) (Some kept) (Some between) new gone leaving adds accepts
     ap (λ (xs : List Leaving). xs ++ leaving ∷ []) (same ∙ adds) ∙ append_assoc before.gone gone (leaving ∷ []) in
     subst (λ (o : Option Kept). IsSomeAnd o (λ after. after.gone ≡ before.gone ++ (gone ++ leaving ∷ []))) (sym goes) all
 
--- ---- others
-
--- behind those that were answered some of the others are lost
-ahead_still : (all order old new : List Coming) → Loses all (order ++ old) → Loses old new → Loses all (order ++ new)
-ahead_still all order old new before now = loses_then all (order ++ old) (order ++ new) before (loses_behind order old new now)
-
 -- what holds of a value that is there
 at_some : {X : Type 0} (o : Option X) (x : X) (P : X → Type 0) → o ≡ Some x → IfSome o P → P x
 at_some {X} o x P e it = let holds : IfSome (Some x) P = subst (λ (p : Option X). IfSome p P) e it in holds
@@ -75,21 +72,21 @@ opens_kept None (Some kept) accepts = absurd cc
 opens_kept (Some before) (Some kept) accepts =
     let more : kept.pending ≡ before.pending + 1 = cc in omega (arith, more)
 
-pub opens : {R W : Type 0} (may_fail : Bool) (remaining : R → Option (List ℕ)) (contents : W → Option (List ℕ)) (now middle : Option Visits) (arrival : Arrival R W)
-    → Accepts may_fail remaining contents now middle (Ok (Some arrival)) → IsOpen middle
-opens {R} {W} may_fail remaining contents None middle arrival accepts = subst IsOpen (sym accepts) tt
-opens {R} {W} may_fail remaining contents (Some old) middle arrival accepts =
+pub opens : {C R W : Type 0} (may_fail : Bool) (connected : C → Connected) (remaining : R → Option (List ℕ)) (contents : W → Option (List ℕ))
+    (now middle : Option Visits) (arrival : Arrival C R W) → Accepts may_fail connected remaining contents now middle (Ok (Some arrival)) → IsOpen middle
+opens {C} {R} {W} may_fail connected remaining contents None middle arrival accepts = subst IsOpen (sym accepts) tt
+opens {C} {R} {W} may_fail connected remaining contents (Some old) middle arrival accepts =
     subst IsOpen (sym accepts.now) (opens_kept old.kept accepts.after.kept accepts.kept)
 
 -- what becomes of a connection that is let go
-pub gone_as : (known new : Option Visits) (contents : Option (List ℕ)) (served : Result Served ServeFault) (Ends : Leaving → Type 0)
-    → IfSome known (λ visits. IfSome contents (λ sent. IsSomeAnd new (λ after. LetsGo visits (record { served = served; sent = sent }) after)))
+pub gone_as : (known new : Option Visits) (one : Connected) (contents : Option (List ℕ)) (served : Result Served ServeFault) (Ends : Leaving → Type 0)
+    → IfSome known (λ visits. IfSome contents (λ sent. IsSomeAnd new (λ after. LetsGo visits one (record { served = served; sent = sent }) after)))
     → IsSomeAnd contents (λ sent. Ends (record { served = served; sent = sent }))
-    → IfSome known (λ visits. (leaving : Leaving) × (after : Visits) × (new ≡ Some after) × LetsGo visits leaving after × Ends leaving)
-gone_as None new contents served Ends goes ends = tt
-gone_as (Some visits) new None served Ends goes ends = absurd ends
-gone_as (Some visits) None (Some sent) served Ends goes ends = absurd goes
-gone_as (Some visits) (Some after) (Some sent) served Ends goes ends = (record { served = served; sent = sent }, after, refl, goes, ends)
+    → IfSome known (λ visits. (leaving : Leaving) × (after : Visits) × (new ≡ Some after) × LetsGo visits one leaving after × Ends leaving)
+gone_as None new one contents served Ends goes ends = tt
+gone_as (Some visits) new one None served Ends goes ends = absurd ends
+gone_as (Some visits) None one (Some sent) served Ends goes ends = absurd goes
+gone_as (Some visits) (Some after) one (Some sent) served Ends goes ends = (record { served = served; sent = sent }, after, refl, goes, ends)
 
 -- ---- all of them
 
@@ -110,7 +107,15 @@ module _ {S : Type 0} (g : Ghosts S) where
     after = before;
     known = refl;
     counted = refl;
-    serves = record { gone = []; next = s; answered = refl; sent = Adds-none before.kept; ahead = loses_none before.ahead; at = at };
+    serves = record {
+      gone = [];
+      next = s;
+      answered = refl;
+      sent = Adds-none before.kept;
+      clients = none_sent before.clients;
+      ahead = loses_none (ahead_of before.clients);
+      at = at;
+    };
   }
 
   -- as many as were wanted
@@ -122,76 +127,78 @@ module _ {S : Type 0} (g : Ghosts S) where
       subst (λ (o : Option Visits). IsSomeAnd o (λ after. ServesAll g desk s count before after)) (sym it.known)
       (record { order = it.order; serves = it.serves; all = inl (it.counted ∙ reached) })
 
-  -- some of the others are lost, and nobody is let go
+  -- some of the others end, and nobody is let go
   still : (desk : DeskValue S) (s : Operator) (order : List Coming) (before old new : Visits) → ServesSome g desk s order before old
-      → Loses old.ahead new.ahead → IfSome old.kept (λ kept. new.kept ≡ Some kept) → ServesSome g desk s order before new
-  still desk s order before old new it loses keeps = record {
-    gone = it.gone;
-    next = it.next;
-    answered = it.answered;
-    sent = Adds-same before.kept old.kept new.kept it.gone it.sent keeps;
-    ahead = ahead_still before.ahead order old.ahead new.ahead it.ahead loses;
-    at = it.at;
-  }
+      → AcceptsNone old new → ServesSome g desk s order before new
+  still desk s order before old new it none =
+      let clients = sent_still order it.gone before.clients old.clients new.clients it.clients none.clients in
+      record {
+        gone = it.gone;
+        next = it.next;
+        answered = it.answered;
+        sent = Adds-same before.kept old.kept new.kept it.gone it.sent none.kept;
+        clients = clients;
+        ahead = requests_sent order it.gone before.clients new.clients clients;
+        at = it.at;
+      }
 
-  module _ {R W : Type 0} (may_fail : Bool) (remaining : R → Option (List ℕ)) (contents : W → Option (List ℕ)) (desk : DeskValue S) (s : Operator)
+  module _ {C R W : Type 0} (may_fail : Bool) (connected : C → Connected) (remaining : R → Option (List ℕ)) (contents : W → Option (List ℕ)) (desk : DeskValue S) (s : Operator)
       (count so_far : ℕ) (few : so_far < count) (now later : Option Visits) where
     -- nothing more is ahead
-    pub no_more : (known : Option Visits) → IfSome known (λ before. SoFar desk s so_far before now) → Accepts may_fail remaining contents now later (Ok None)
+    pub no_more : (known : Option Visits) → IfSome known (λ before. SoFar desk s so_far before now) → Accepts may_fail connected remaining contents now later (Ok None)
         → IfSome known (λ before. IsSomeAnd later (λ after. ServesAll g desk s count before after))
     no_more None it none = tt
     no_more (Some before) it none =
-        let end = there later (λ after. (after.ahead ≡ []) × (IfSome it.after.kept (λ kept. after.kept ≡ Some kept)))
-        (subst (λ (o : Option Visits). Accepts may_fail remaining contents o later (Ok None)) it.known none) in
-        let lost : Loses it.after.ahead end.0.ahead = subst (λ (xs : List Coming). Loses it.after.ahead xs) (sym end.2.0) (loses_all it.after.ahead) in
+        let end = there later (λ after. (ahead_of after.clients ≡ []) × AcceptsNone it.after after)
+        (subst (λ (o : Option Visits). Accepts may_fail connected remaining contents o later (Ok None)) it.known none) in
         subst (λ (o : Option Visits). IsSomeAnd o (λ after. ServesAll g desk s count before after)) (sym end.1) (record {
           order = it.order;
-          serves = still desk s it.order before it.after end.0 it.serves lost end.2.1;
+          serves = still desk s it.order before it.after end.0 it.serves end.2.1;
           all = inr (omega (arith, it.counted, few), end.2.0);
         })
 
     -- accepting fails
     pub fails : (fault : AcceptFault) (known : Option Visits) → IfSome known (λ before. SoFar desk s so_far before now)
-        → Accepts may_fail remaining contents now later (Err fault)
+        → Accepts may_fail connected remaining contents now later (Err fault)
         → IfSome known (λ before. IsSomeAnd later (λ after. IsTrue may_fail × ServesFewer g desk s count before after))
     fails fault None it none = tt
     fails fault (Some before) it none =
-        let told = subst (λ (o : Option Visits). Accepts may_fail remaining contents o later (Err fault)) it.known none in
-        let end = there later (λ after. Loses it.after.ahead after.ahead × (IfSome it.after.kept (λ kept. after.kept ≡ Some kept))) told.1 in
+        let told = subst (λ (o : Option Visits). Accepts may_fail connected remaining contents o later (Err fault)) it.known none in
+        let end = there later (λ after. AcceptsNone it.after after) told.1 in
         subst (λ (o : Option Visits). IsSomeAnd o (λ after. IsTrue may_fail × ServesFewer g desk s count before after)) (sym end.1) (
           told.0,
           record {
             order = it.order;
-            serves = still desk s it.order before it.after end.0 it.serves end.2.0 end.2.1;
+            serves = still desk s it.order before it.after end.0 it.serves end.2;
             few = omega (arith, it.counted, few);
           },
         )
 
-  module _ {R W : Type 0} (may_fail : Bool) (remaining : R → Option (List ℕ)) (contents : W → Option (List ℕ)) (desk new : DeskValue S) (s : Operator)
-      (so_far : ℕ) (now middle later : Option Visits) (arrival : Arrival R W)
-      (serves : (s' : Operator) → IsAt g desk s' → (input : List ℕ) → remaining arrival.reader ≡ Some input → contents arrival.writer ≡ Some []
-      → ExchangesOne g new s' (record { moment = arrival.moment; input = input }) middle later)
-      (accepts : Accepts may_fail remaining contents now middle (Ok (Some arrival))) where
+  module _ {C R W : Type 0} (may_fail : Bool) (connected : C → Connected) (remaining : R → Option (List ℕ)) (contents : W → Option (List ℕ)) (desk new : DeskValue S) (s : Operator)
+      (so_far : ℕ) (now middle later : Option Visits) (arrival : Arrival C R W)
+      (serves : (s' : Operator) → IsAt g desk s' → (read input : List ℕ) → remaining arrival.reader ≡ Some read → AsksAs read input → contents arrival.writer ≡ Some []
+      → ExchangesOne g new s' (connected arrival.client) (record { moment = arrival.moment; input = input }) middle later)
+      (accepts : Accepts may_fail connected remaining contents now middle (Ok (Some arrival))) where
     module _ (before : Visits) (it : SoFar desk s so_far before now) where
       -- the one that is accepted
-      abbrev one : AcceptsOne may_fail remaining contents it.after middle arrival
-      one = subst (λ (o : Option Visits). Accepts may_fail remaining contents o middle (Ok (Some arrival))) it.known accepts
+      abbrev one : AcceptsOne may_fail connected remaining contents it.after middle arrival
+      one = subst (λ (o : Option Visits). Accepts may_fail connected remaining contents o middle (Ok (Some arrival))) it.known accepts
 
       -- how it is let go, and how its exchange ends
       abbrev Went : Visits → Coming → Type 0
-      Went visits c = (leaving : Leaving) × (after : Visits) × (later ≡ Some after) × LetsGo visits leaving after × Exchanges g new it.serves.next c leaving
+      Went visits c = (leaving : Leaving) × (after : Visits) × (later ≡ Some after) × LetsGo visits (connected arrival.client) leaving after × Exchanges g new it.serves.next c leaving
 
       went : Went one.after one.coming
       went =
           subst (λ (n : ℕ). Went one.after (record { moment = n; input = one.coming.input })) one.moment
           (at_some middle one.after (λ v. Went v (record { moment = arrival.moment; input = one.coming.input })) one.now
-          (serves it.serves.next it.serves.at one.coming.input one.reads one.writes))
+          (serves it.serves.next it.serves.at one.read one.coming.input one.reads one.asks one.writes))
 
-      -- the others are ahead still, or lost
-      behind : (left : List Coming) → Loses one.after.ahead left → Loses before.ahead (it.order ++ one.coming ∷ left)
-      behind left lost =
-          ahead_still before.ahead it.order it.after.ahead (one.coming ∷ left) it.serves.ahead
-          (loses_then it.after.ahead (one.coming ∷ one.after.ahead) (one.coming ∷ left) one.ahead (loses_behind (one.coming ∷ []) one.after.ahead left lost))
+      -- it is sent its own answer, as those before it were
+      sends : SendsEachItsOwn (it.order ++ one.coming ∷ []) (it.serves.gone ++ went.0 ∷ []) before.clients went.1.clients
+      sends =
+          sent_one it.order it.serves.gone before.clients it.after.clients one.after.clients went.1.clients (connected arrival.client) one.coming went.0 it.serves.clients
+          one.clients went.3.clients
 
       -- the desk goes on behind it
       goes_on : new.is_stopped ≡ false → SoFar new s (so_far + 1) before later
@@ -208,9 +215,8 @@ module _ {S : Type 0} (g : Ghosts S) where
                 AreAnswered-push s it.order it.serves.gone it.serves.next one.coming went.0 answered.0 it.serves.answered answered.1;
             sent =
                 Adds-push before.kept it.after.kept one.after.kept went.1.kept it.serves.gone went.0 it.serves.sent one.kept went.3.kept;
-            ahead =
-                subst (λ (xs : List Coming). Loses before.ahead xs) (sym (append_assoc it.order (one.coming ∷ []) went.1.ahead))
-                (behind went.1.ahead went.3.ahead);
+            clients = sends;
+            ahead = requests_sent (it.order ++ one.coming ∷ []) (it.serves.gone ++ went.0 ∷ []) before.clients went.1.clients sends;
             at = answered.2;
           };
         }
@@ -224,7 +230,10 @@ module _ {S : Type 0} (g : Ghosts S) where
         | inr stops ↦ subst (λ (o : Option Visits). IsSomeAnd o (λ after. ServesUntilStopped g new s count before after)) (sym went.2) (record {
           came = it.order;
           last = one.coming;
-          ahead = behind went.1.ahead went.3.ahead;
+          clients = sends;
+          ahead =
+              subst (λ (xs : List Coming). Loses (ahead_of before.clients) xs) (append_assoc it.order (one.coming ∷ []) (ahead_of went.1.clients))
+              (requests_sent (it.order ++ one.coming ∷ []) (it.serves.gone ++ went.0 ∷ []) before.clients went.1.clients sends);
           within = omega (arith, it.counted, within);
           gone = it.serves.gone;
           later = it.serves.next;

@@ -6,8 +6,8 @@ use Rattle.bike_operator.specs.Operator.{Operator}
 use Rattle.bike_operator.specs.Runs.{Call, after}
 use Rattle.bike_operator.specs.Sound.{AreCalls}
 use Rattle.bike_laws.proofs.RunLemmas.{after-append}
-use Rattle.bike_incoming.specs.declared.asked.Asked.{Asked}
-use Rattle.bike_incoming.specs.declared.asked.Asked.TheVariants.{Reject, Apply, Show, Publish}
+use Rattle.bike_http_request.specs.declared.action.Action.{Action}
+use Rattle.bike_http_request.specs.declared.action.Action.TheVariants.{Reject, Apply, Show, Publish}
 use Rattle.bike_schema.specs.Stands.{AllLeft}
 use Rattle.bike_http.specs.Desk.{DeskValue, desk_state, IsAt}
 use Rattle.bike_http.specs.Exchange.{Response, operator_after, IsGood}
@@ -23,7 +23,7 @@ use Rattle.bike_server.specs.Listening.{end_of_serving, EndsListening}
 use Rattle.bike_server.specs.Serving.{ServesRequests, StandsAfterRequests}
 
 -- what an input asks for is at most one request, and a good one
-asked_once : (s : Operator) (t : ℕ) (asked : Asked) → IsGood t asked
+asked_once : (s : Operator) (t : ℕ) (asked : Action) → IsGood t asked
     → (calls : List Call) × (length calls ≤ 1) × (operator_after s t asked ≡ after s calls) × AreCalls calls
 asked_once s t (Reject rejection) good = ([], omega arith, refl, tt)
 asked_once s t (Apply q) good = ((t, q) ∷ [], omega arith, refl, (good, tt))
@@ -51,7 +51,7 @@ module _ {S : Type 0} (g : Ghosts S) (desk : DeskValue S) where
   undone : (s : Operator) (calls : List Call) → length calls ≤ 1 → AreCalls calls → IsUndone g desk s (after s calls) → ServesRequests g desk s
   undone s calls few good it = record { calls = []; more = calls; one = few; good = tt; good_more = good; goes_on = it.goes_on; left = it.left }
 
-  told : (s : Operator) (t : ℕ) (response sent : Response) (asked : Asked) (next : Operator) → next ≡ operator_after s t asked → IsGood t asked
+  told : (s : Operator) (t : ℕ) (response sent : Response) (asked : Action) (next : Operator) → next ≡ operator_after s t asked → IsGood t asked
       → Tells g desk s response next sent → ServesRequests g desk s
   told s t response sent asked next leads good (inl it) =
       let once = asked_once s t asked good in

@@ -12,9 +12,11 @@ use Rattle.bike_http.specs.declared.exchange.ServeFault.{ServeFault}
 use Rattle.bike_http.specs.declared.exchange.ServeFault.TheVariants.{Read, Write, Cut}
 use Rattle.bike_server.specs.declared.fault.ServerFault.{ServerFault}
 use Rattle.bike_server.specs.declared.fault.ServerFault.TheVariants.{StoreFailed, AcceptFailed}
-use Rattle.bike_exchange.specs.Asking.{Coming}
-use Rattle.bike_connections.specs.Ahead.{Loses}
+use Rattle.bike_http_connection.specs.Asking.{Coming}
+use Rattle.bike_http_connection.specs.Connected.{Connected}
+use Rattle.bike_http_connections.specs.Ahead.{Loses, ahead_of}
 use Rattle.bike_server.specs.Visits.{Leaving, Kept, Visits, LetsGo}
+use Rattle.bike_server.specs.Clients.{SendsEachItsOwn}
 
 -- ---- one connection
 
@@ -78,11 +80,11 @@ module _ {S : Type 0} (g : Ghosts S) (desk : DeskValue S) where
   Exchanges s coming leaving =
       ((next : Operator) × IsAnswered s coming leaving next × IsAt g desk next) ⊎ StopsAt s coming leaving
 
-  -- the same, of a connection that is let go
-  abbrev pub ExchangesOne : Operator → Coming → Option Visits → Option Visits → Type 0
-  ExchangesOne s coming before new =
+  -- the same, of a client that is let go
+  abbrev pub ExchangesOne : Operator → Connected → Coming → Option Visits → Option Visits → Type 0
+  ExchangesOne s client coming before new =
       IfSome before (λ visits. (leaving : Leaving) × (after : Visits) × (new ≡ Some after)
-      × LetsGo visits leaving after × Exchanges s coming leaving)
+      × LetsGo visits client leaving after × Exchanges s coming leaving)
 
   -- ---- all connections
 
@@ -92,14 +94,15 @@ module _ {S : Type 0} (g : Ghosts S) (desk : DeskValue S) where
     pub next : Operator
     pub answered : AreAnswered s order gone next
     pub sent : Adds before.kept after.kept gone
-    pub ahead : Loses before.ahead (order ++ after.ahead)
+    pub clients : SendsEachItsOwn order gone before.clients after.clients
+    pub ahead : Loses (ahead_of before.clients) (order ++ ahead_of after.clients)
     pub at : IsAt g desk next
 
   -- So many were answered; or fewer, and none is ahead any more.
   pub record ServesAll (s : Operator) (count : ℕ) (before after : Visits) : Type 0 where
     pub order : List Coming
     pub serves : ServesSome s order before after
-    pub all : (length order ≡ count) ⊎ ((length order < count) × (after.ahead ≡ []))
+    pub all : (length order ≡ count) ⊎ ((length order < count) × (ahead_of after.clients ≡ []))
 
   -- Fewer were answered when accepting failed.
   pub record ServesFewer (s : Operator) (count : ℕ) (before after : Visits) : Type 0 where
@@ -111,7 +114,7 @@ module _ {S : Type 0} (g : Ghosts S) (desk : DeskValue S) where
   pub record ServesUntilStopped (s : Operator) (count : ℕ) (before after : Visits) : Type 0 where
     pub came : List Coming
     pub last : Coming
-    pub ahead : Loses before.ahead (came ++ last ∷ after.ahead)
+    pub ahead : Loses (ahead_of before.clients) (came ++ last ∷ ahead_of after.clients)
     pub within : length came < count
     pub gone : List Leaving
     pub later : Operator
@@ -119,6 +122,7 @@ module _ {S : Type 0} (g : Ghosts S) (desk : DeskValue S) where
     pub leaving : Leaving
     pub stops : StopsAt later last leaving
     pub sent : Adds before.kept after.kept (gone ++ leaving ∷ [])
+    pub clients : SendsEachItsOwn (came ++ last ∷ []) (gone ++ leaving ∷ []) before.clients after.clients
 
   -- SERVING, by how it ended, where accepting may fail or may not; nothing else ends it
   abbrev pub ServesInOrder : Bool → Operator → ℕ → Visits → Visits → Result (Unit {0}) ServerFault → Type 0

@@ -1,4 +1,5 @@
 pub mod Visits
+pub mod Clients
 pub mod Played
 pub mod Arrivals
 pub mod Answering

@@ -6,14 +6,14 @@
 #![tactic(auto)]
 
 mod arrivals;
+mod connections;
 mod fault;
 mod file;
 mod memory;
 mod server;
-mod sockets;
 
 pub use arrivals::{AcceptFault, Arrival, Arrivals};
-pub use bike_networks::clock_moment;
+pub use bike_http_sockets::clock_moment;
 pub use fault::ServerFault;
 pub use file::listen_on_file;
 pub use memory::{Parting, Played, Visit};

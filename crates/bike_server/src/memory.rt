@@ -1,6 +1,7 @@
 //! Connections in memory: for tests, and for what the contract of serving says where everything is known.
 
 ghost use Rattle.std.specs.Prelude.{◌≡◌, [], map, IfOk, IsSomeAnd, Some};
+ghost use Rattle.bike_http_connections.specs.Ahead.{fresh};
 ghost use Rattle.bike_server.specs.Played.{coming_of, leaving_of};
 
 use crate::arrivals::{AcceptFault, Arrival, Arrivals};
@@ -16,9 +17,10 @@ pub struct Visit<'a> {
     pub input: &'a [u8],
 }
 
-/// A connection that was played: how its exchange ended, and all that was sent to its client.
+/// A connection that was played: who its client was, how its exchange ended, and all that was sent to it.
 #[derive(Debug, Drop)]
-pub struct Parting {
+pub struct Parting<'a> {
+    pub visit: Visit<'a>,
     pub served: Result<Served, ServeFault>,
     pub sent: Vec<u8>,
 }
@@ -30,18 +32,19 @@ pub struct Played<'a> {
     alloc: Global,
     visits: &'a [Visit<'a>],
     next: usize,
-    gone: Vec<Parting>,
+    gone: Vec<Parting<'a>>,
 }
 
 impl<'a> Model for Played<'a> {
-    ghost use Rattle.std.specs.Prelude.{◌≤◌, ◌-◌, length, vec_len, vec_capacity, map, drop, Some};
+    ghost use Rattle.std.specs.Prelude.{◌≤◌, ◌-◌, ◌++◌, length, vec_len, vec_capacity, map, drop, Some};
+    ghost use Rattle.bike_http_connections.specs.Ahead.{fresh};
     ghost use Rattle.bike_server.specs.Visits.{Visits};
-    ghost use Rattle.bike_server.specs.Played.{coming_of, leaving_of};
+    ghost use Rattle.bike_server.specs.Played.{coming_of, leaving_of, parted};
 
     ghost Value = { Visits };
 
     ghost view = { λ p. record {
-      ahead = map coming_of (drop p.next p.visits.now);
+      clients = map parted p.gone.items ++ map fresh (map coming_of (drop p.next p.visits.now));
       kept = Some (record { gone = map leaving_of p.gone.items; pending = p.next - vec_len p.gone });
     } };
 
@@ -54,7 +57,10 @@ impl<'a> Played<'a> {
     /// None was accepted yet. Takes the memory for all that will be let go.
     pub fn new(alloc: Global, visits: &'a [Visit<'a>]) -> Result<Played<'a>, AllocError>
         ensures { IfOk result (λ played. played
-            ≡ record { ahead = map coming_of visits.now; kept = Some (record { gone = []; pending = 0 }) }) }
+            ≡ record {
+              clients = map fresh (map coming_of visits.now);
+              kept = Some (record { gone = []; pending = 0 });
+            }) }
     {
         let gone = Vec::with_capacity(alloc, visits.len())?;
         Ok(Played {
@@ -66,7 +72,7 @@ impl<'a> Played<'a> {
     }
 
     /// Those that were let go, in their order.
-    pub fn partings(&self) -> &[Parting]
+    pub fn partings(&self) -> &[Parting<'a>]
         ensures { IsSomeAnd self.now.kept (λ kept. map leaving_of result.now ≡ kept.gone) }
     {
         self.gone.as_slice()
@@ -75,6 +81,9 @@ impl<'a> Played<'a> {
 
 impl<'a> Arrivals for Played<'a> {
     ghost use Rattle.std.specs.Prelude.{false};
+    ghost use Rattle.bike_server.specs.Played.{client_of};
+
+    type Client = Visit<'a>;
 
     type Reader = &'a [u8];
 
@@ -82,9 +91,11 @@ impl<'a> Arrivals for Played<'a> {
 
     ghost may_fail = { false };
 
+    ghost connected = { client_of };
+
     ghost known = { λ played. Some played };
 
-    fn accept(&mut self) -> Result<Option<Arrival<&'a [u8], Vec<u8>>>, AcceptFault> {
+    fn accept(&mut self) -> Result<Option<Arrival<Visit<'a>, &'a [u8], Vec<u8>>>, AcceptFault> {
         if self.next == self.visits.len() {
             return Ok(None);
         }
@@ -92,13 +103,21 @@ impl<'a> Arrivals for Played<'a> {
         self.next += 1;
         Ok(Some(Arrival {
             moment: visit.moment,
+            client: Visit {
+                moment: visit.moment,
+                input: visit.input,
+            },
             reader: visit.input,
             writer: Vec::new(self.alloc),
         }))
     }
 
-    fn finish(&mut self, _reader: &'a [u8], writer: Vec<u8>, served: Result<Served, ServeFault>) {
+    fn finish(&mut self, client: Visit<'a>, writer: Vec<u8>, served: Result<Served, ServeFault>) {
         self.gone.push_reserved(Parting {
+            visit: Visit {
+                moment: client.moment,
+                input: client.input,
+            },
             served,
             sent: writer,
         });

@@ -7,19 +7,20 @@ ghost use Rattle.sqlite_trees.specs.View.{doubt};
 ghost use Rattle.bike_operator.specs.Operator.{Operator};
 ghost use Rattle.bike_schema.specs.Stands.{AllLeft, TreesStandFor};
 ghost use Rattle.bike_http.specs.Desk.{desk_state, OfOperator};
+ghost use Rattle.bike_http_connection.specs.Asking.{AsksAs};
 ghost use Rattle.bike_server.specs.Visits.{IsOpen};
 ghost use Rattle.bike_server.specs.Answering.{ExchangesOne, ServesInOrder};
 ghost use Rattle.bike_server.specs.Listening.{end_of_serving, EndsListening};
 ghost use Rattle.bike_server.specs.Serving.{ServesRequests, StandsAfterRequests};
 
 use crate::arrivals::{AcceptFault, Arrival, Arrivals};
+use crate::connections::closing_time;
 use crate::fault::ServerFault;
-use crate::sockets::Sockets;
-use bike_connections::Connections;
 use bike_console::{Fault, adopt};
-use bike_heads::Routes;
 use bike_http::{Desk, serve_one};
-use bike_networks::{Loopback, has_descriptors};
+use bike_http_connections::Connections;
+use bike_http_head::Routes;
+use bike_http_sockets::{Loopback, has_descriptors};
 use bike_stream::write_whole;
 use sqlite::{Alter, Connection};
 use std::alloc::Global;
@@ -33,23 +34,25 @@ fn serve_arrival<S: Alter, A: Arrivals>(
     desk: &mut Desk<S>,
     routes: &Routes,
     arrivals: &mut A,
-    arrival: Arrival<A::Reader, A::Writer>,
+    arrival: Arrival<A::Client, A::Reader, A::Writer>,
 )
     requires { IsOpen (A.known arrivals.old) }
     ensures clean { doubt (desk_state S.Store desk.old).is_clean ≤ doubt (desk_state S.Store desk.new).is_clean }
     ensures kept { OfOperator S.Store desk.old desk.new (λ s. ServesRequests S.Store desk.new s) }
-    ensures served { OfOperator S.Store desk.old desk.new (λ s. (input : List ℕ)
-        → A.Reader.remaining arrival.reader ≡ Some input → A.Writer.contents arrival.writer ≡ Some []
-        → ExchangesOne S.Store desk.new s (record { moment = arrival.moment; input = input })
-        (A.known arrivals.old) (A.known arrivals.new)) }
+    ensures served { OfOperator S.Store desk.old desk.new (λ s. (read input : List ℕ)
+        → A.Reader.remaining arrival.reader ≡ Some read → AsksAs read input
+        → A.Writer.contents arrival.writer ≡ Some []
+        → ExchangesOne S.Store desk.new s (A.connected arrival.client)
+        (record { moment = arrival.moment; input = input }) (A.known arrivals.old) (A.known arrivals.new)) }
 {
     let Arrival {
         moment,
+        client,
         mut reader,
         mut writer,
     } = arrival;
     let served = serve_one(alloc, desk, routes, moment, &mut reader, &mut writer);
-    arrivals.finish(reader, writer, served);
+    arrivals.finish(client, writer, served);
 }
 
 /// Accepts so many connections, or all where there are fewer, and serves one request of each, at the moment of its
@@ -60,7 +63,8 @@ fn serve_arrival<S: Alter, A: Arrivals>(
 /// good requests; or it is stopped, and all that a crash may leave stands for the operator after such a list or after
 /// one request more. Where it is known what comes, each connection that is accepted is answered once, in the order in
 /// which they are accepted, as the operator after those before it answers; the others are ahead still, or were lost
-/// with nothing asked. What wasn't sent whole is told to `finish` as a failure.
+/// with nothing asked. Its answer goes to the client who asked, once, and to nobody else. What wasn't sent whole is
+/// told to `finish` as a failure.
 pub fn serve_count<S: Alter, A: Arrivals>(
     alloc: Global,
     desk: &mut Desk<S>,
@@ -151,10 +155,9 @@ fn listen_at<S: Alter, W: Write>(
         Some(count) => u64::from(count),
         None => u64::MAX,
     };
-    let connections = begin(rt, port, count, writer)?;
-    let mut sockets = Sockets::new(connections);
-    let served = serve_count(rt.alloc(), desk, routes, &mut sockets, count);
-    sockets.close(served.is_ok());
+    let mut connections = begin(rt, port, count, writer)?;
+    let served = serve_count(rt.alloc(), desk, routes, &mut connections, count);
+    let _ = connections.close(closing_time(served.is_ok()));
     served
 }
 

@@ -1,8 +1,8 @@
 -- One more dock that is counted, or isn't.
 use Rattle.std.proofs.Common.{◌≡◌, ℕ, suc, ◌+◌, Bool, true, false, refl, ap, subst, arith}
 use Rattle.bike_operator.specs.Counts.{count, docks_up_to}
-use Rattle.bike_places.specs.Laws.{one}
-use Rattle.bike_places.proofs.StoredCountLemmas.{count_last}
+use Rattle.bike_laws.specs.SingleSteps.Laws.{one}
+use Rattle.bike_laws.proofs.SingleSteps.StoredCountLemmas.{count_last}
 
 module _ (test : ℕ → Bool) where
   next : (dock : ℕ) → count test (docks_up_to (suc dock)) ≡ count test (docks_up_to dock) + one (test (suc dock))

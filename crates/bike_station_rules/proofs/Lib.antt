@@ -10,3 +10,12 @@ pub mod StationTest
 pub mod RegionLines
 mod MetaText
 pub mod StationVerdict
+pub mod Groups
+pub mod Pass
+pub mod Steps
+pub mod Totals
+pub mod Apart
+pub mod LinesAre
+pub mod NamesLaw
+pub mod Figures
+pub mod CountsJudged

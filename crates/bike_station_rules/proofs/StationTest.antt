@@ -21,8 +21,8 @@ use Rattle.bike_operator.specs.declared.records.Place.{Place}
 use Rattle.bike_operator.specs.declared.records.Place.TheVariants as place
 use Rattle.bike_operator.specs.Operator.{Operator, Station, DockKey, texts_cmp, dock_key}
 use Rattle.bike_operator.specs.Counts.{is_dock, docked_at, is_broken, docks_available, docks_broken, docks_up_to}
-use Rattle.bike_places.proofs.MapLemmas.{texts_order, tied}
-use Rattle.bike_places.proofs.StoredCountLemmas.{count_same}
+use Rattle.bike_laws.proofs.SingleSteps.MapLemmas.{texts_order, tied}
+use Rattle.bike_laws.proofs.SingleSteps.StoredCountLemmas.{count_same}
 use Rattle.bike_book.specs.Rows.{number_value}
 use Rattle.bike_book.specs.Tables.{Tables, Stations, Docks, Bikes}
 use Rattle.bike_book.specs.declared.columns.stations.TheConstants as stations

@@ -4,3 +4,5 @@ pub mod DockSets
 pub mod Stations
 pub mod StationRows
 pub mod StationVerdicts
+pub mod Names
+pub mod Tallies

@@ -16,17 +16,17 @@ use Rattle.bike_fixed.proofs.Coordinates.{micro_sound, micro_full}
 use Rattle.bike_fields.specs.Bytes.{is_ident, is_language, is_currency, ident_of, language_of, currency_of}
 use Rattle.bike_fields.proofs.Callers.{ident_sound, ident_full}
 use Rattle.bike_fields.proofs.Lengths.{both_hold}
-use Rattle.bike_attributes.specs.Values.{IsRange, is_range}
-use Rattle.bike_attributes.specs.Vehicle.{form_of, form_text, propulsion_of, propulsion_text}
-use Rattle.bike_attributes.specs.declared.vehicle.Form.{Form}
-use Rattle.bike_attributes.specs.declared.vehicle.Form.TheVariants.{Bicycle, CargoBicycle}
-use Rattle.bike_attributes.specs.declared.vehicle.Propulsion.{Propulsion}
-use Rattle.bike_attributes.specs.declared.vehicle.Propulsion.TheVariants.{Human, ElectricAssist}
-use Rattle.bike_attributes.specs.NameKinds.{kind_of, kind_text}
-use Rattle.bike_attributes.specs.declared.name_kind.NameKind.{NameKind}
-use Rattle.bike_attributes.specs.declared.name_kind.NameKind.TheVariants as kind
-use Rattle.bike_attributes.proofs.NameKinds.{kind_sound, kind_full}
-use Rattle.bike_attributes.proofs.Vehicles.{form_sound, form_full, propulsion_sound, propulsion_full}
+use Rattle.bike_fields.specs.Values.{IsRange, is_range}
+use Rattle.bike_fields.specs.Vehicle.{form_of, form_text, propulsion_of, propulsion_text}
+use Rattle.bike_fields.specs.declared.vehicle.Form.{Form}
+use Rattle.bike_fields.specs.declared.vehicle.Form.TheVariants.{Bicycle, CargoBicycle}
+use Rattle.bike_fields.specs.declared.vehicle.Propulsion.{Propulsion}
+use Rattle.bike_fields.specs.declared.vehicle.Propulsion.TheVariants.{Human, ElectricAssist}
+use Rattle.bike_fields.specs.NameKinds.{kind_of, kind_text}
+use Rattle.bike_fields.specs.declared.name_kind.NameKind.{NameKind}
+use Rattle.bike_fields.specs.declared.name_kind.NameKind.TheVariants as kind
+use Rattle.bike_fields.proofs.NameKinds.{kind_sound, kind_full}
+use Rattle.bike_fields.proofs.Vehicles.{form_sound, form_full, propulsion_sound, propulsion_full}
 use Rattle.bike_texts.specs.declared.ends.OrderEnd.{OrderEnd}
 use Rattle.bike_texts.specs.declared.ends.OrderEnd.TheVariants.{Depot, Station}
 use Rattle.bike_texts.specs.declared.ends.Side.{Side}

@@ -16,7 +16,7 @@ use Rattle.std.proofs.lemmas.Option.{option_and_then_some, cond_some, same_Some}
 use Rattle.std.proofs.lemmas.Slice.Eq.{bytes_eq-Decides}
 use Rattle.bike_fixed.proofs.Coordinates.{decimal_digits}
 use Rattle.bike_fixed.proofs.Numbers.{number_sound, number_full, signed_sound, signed_full}
-use Rattle.bike_attributes.specs.Values.{SegmentRow, IsSegment, IsRate, IsEnd, is_after}
+use Rattle.bike_fields.specs.Values.{SegmentRow, IsSegment, IsRate, IsEnd, is_after}
 use Rattle.bike_texts.specs.Parts.{Parts}
 use Rattle.bike_texts.specs.Fields.{AreSegments, segment_text, segment_end_text, segments_text}
 use Rattle.bike_texts.specs.Reading.{◌>>=◌, field_at, no_more}

@@ -10,9 +10,9 @@ use Rattle.std.proofs.lemmas.Bool.Decides.{eqb_tells}
 use Rattle.bike_fixed.specs.Coordinate.{IsCoordinate, minus_text, fraction}
 use Rattle.bike_fields.specs.Bytes.{is_ident, is_language, is_currency, has_length, is_ident_byte, is_language_byte, is_upper}
 use Rattle.bike_fields.proofs.Lengths.{both_hold}
-use Rattle.bike_attributes.specs.Values.{SegmentRow, IsSegment, IsEnd, IsRange}
-use Rattle.bike_attributes.specs.declared.vehicle.Propulsion.{Propulsion}
-use Rattle.bike_attributes.specs.declared.vehicle.Propulsion.TheVariants.{Human, ElectricAssist}
+use Rattle.bike_fields.specs.Values.{SegmentRow, IsSegment, IsEnd, IsRange}
+use Rattle.bike_fields.specs.declared.vehicle.Propulsion.{Propulsion}
+use Rattle.bike_fields.specs.declared.vehicle.Propulsion.TheVariants.{Human, ElectricAssist}
 use Rattle.bike_texts.specs.declared.ends.OrderEnd.TheVariants.{Depot, Station}
 use Rattle.bike_texts.specs.Parts.{Parts}
 use Rattle.bike_texts.specs.Fields.{Field, Number, Signed, Fixed, Id, Language, Currency, Name, Ascii, Degrees, Metres, Segments, End, AreSegments, HasNoTab, IsGood, AreGood, Spells, EachSpells, escape, escapes_of, segment_text, segment_end_text, segments_text}

@@ -6,10 +6,10 @@ use Rattle.bike_fixed.specs.declared.micro.TheConstants.{GREATEST_COORDINATE}
 use Rattle.bike_fixed.specs.Coordinate.{IsCoordinate}
 use Rattle.bike_fixed.specs.Text.{micro_text}
 use Rattle.bike_fields.specs.declared.numbers.TheConstants.{MOST_DOCKS, GREATEST_NUMBER, GREATEST_SERIAL, GREATEST_PAYMENT}
-use Rattle.bike_attributes.specs.declared.limits.TheConstants.{MOST_SEGMENTS}
+use Rattle.bike_fields.specs.declared.limits.TheConstants.{MOST_SEGMENTS}
 use Rattle.bike_fields.specs.Bytes.{is_ident, is_language, is_currency, is_name, is_ascii_field}
-use Rattle.bike_attributes.specs.declared.vehicle.Propulsion.{Propulsion}
-use Rattle.bike_attributes.specs.Values.{SegmentRow, IsSegment, IsRange}
+use Rattle.bike_fields.specs.declared.vehicle.Propulsion.{Propulsion}
+use Rattle.bike_fields.specs.Values.{SegmentRow, IsSegment, IsRange}
 use Rattle.bike_texts.specs.declared.ends.OrderEnd.{OrderEnd}
 use Rattle.bike_texts.specs.declared.ends.OrderEnd.TheVariants.{Depot, Station}
 use Rattle.bike_texts.specs.declared.ends.Side.{Side}

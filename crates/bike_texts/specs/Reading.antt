@@ -6,8 +6,8 @@ use Rattle.bike_fixed.specs.Coordinate.{micro_of}
 use Rattle.bike_fixed.specs.Whole.{number_of, signed_of}
 use Rattle.bike_fields.specs.declared.numbers.TheConstants.{GREATEST_RANGE}
 use Rattle.bike_fields.specs.Bytes.{is_ident, ident_of}
-use Rattle.bike_attributes.specs.Values.{is_range}
-use Rattle.bike_attributes.specs.declared.vehicle.Propulsion.{Propulsion}
+use Rattle.bike_fields.specs.Values.{is_range}
+use Rattle.bike_fields.specs.declared.vehicle.Propulsion.{Propulsion}
 use Rattle.bike_texts.specs.declared.ends.OrderEnd.{OrderEnd}
 use Rattle.bike_texts.specs.declared.ends.OrderEnd.TheVariants.{Depot, Station}
 use Rattle.bike_texts.specs.declared.ends.EndName.{EndName}

@@ -4,8 +4,8 @@ use Rattle.std.specs.List.{slice_split}
 use Rattle.std.specs.Str.{bytes_eq}
 use Rattle.bike_fixed.specs.Whole.{number_of, signed_of}
 use Rattle.bike_fields.specs.declared.numbers.TheConstants.{LAST_MINUTE}
-use Rattle.bike_attributes.specs.declared.limits.TheConstants.{MOST_SEGMENTS, GREATEST_RATE}
-use Rattle.bike_attributes.specs.Values.{SegmentRow, is_after}
+use Rattle.bike_fields.specs.declared.limits.TheConstants.{MOST_SEGMENTS, GREATEST_RATE}
+use Rattle.bike_fields.specs.Values.{SegmentRow, is_after}
 use Rattle.bike_texts.specs.Parts.{Parts}
 use Rattle.bike_texts.specs.Reading.{◌>>=◌, field_at, at_most, no_more}
 

@@ -7,9 +7,9 @@ ghost use Rattle.bike_fields.specs.Caller as callers;
 ghost use Rattle.bike_fields.specs.Caller.{caller_of, caller_meant};
 ghost use Rattle.bike_fields.specs.Bytes.{is_key, is_ident, is_language, is_currency, is_name, is_ascii_field};
 ghost use Rattle.bike_fields.specs.Bytes.{key_of, ident_of, language_of, currency_of};
-ghost use Rattle.bike_attributes.specs.Values.{is_range};
-ghost use Rattle.bike_attributes.specs.NameKinds.{kind_of};
-ghost use Rattle.bike_attributes.specs.Vehicle.{form_of, propulsion_of};
+ghost use Rattle.bike_fields.specs.Values.{is_range};
+ghost use Rattle.bike_fields.specs.NameKinds.{kind_of};
+ghost use Rattle.bike_fields.specs.Vehicle.{form_of, propulsion_of};
 ghost use Rattle.bike_texts.specs.Escapes.{name_at, ascii_at};
 ghost use Rattle.bike_texts.specs.SegmentReading.{segments_of};
 ghost use Rattle.bike_texts.specs.Reading.{Takes, HasIdent, part_at, field_at, no_more, exactly, i64_of, fare_of};
@@ -23,8 +23,9 @@ use crate::segments::{SegmentList, read_segments};
 use crate::values::{
     read_choice, read_degrees, read_ident_or_none, read_metres, read_order_end, read_side,
 };
-use bike_attributes::{Form, NameKind, Propulsion};
-use bike_fields::{CallerName, Currency, Ident, Language, MaxRange, RequestKey};
+use bike_fields::{
+    CallerName, Currency, Form, Ident, Language, MaxRange, NameKind, Propulsion, RequestKey,
+};
 use bike_fixed::{GREATEST_FARE, Micro, Moment, Within, read_signed};
 use std::marker::Model;
 

@@ -2,14 +2,13 @@
 
 ghost use Rattle.std.specs.Prelude.{◌≡◌};
 ghost use Rattle.bike_fields.specs.Reads.{Gives};
-ghost use Rattle.bike_attributes.specs.declared.limits.TheConstants.{MOST_SEGMENTS};
+ghost use Rattle.bike_fields.specs.declared.limits.TheConstants.{MOST_SEGMENTS};
 ghost use Rattle.bike_texts.specs.Reading.{at_most};
 ghost use Rattle.bike_texts.specs.SegmentReading.{segment_end_of, segment_of, all_of, segments_of};
 
 use crate::fields::Fields;
 use arrayvec::ArrayVec;
-use bike_attributes::{MOST_SEGMENTS, Rate, Segment};
-use bike_fields::SegmentMinute;
+use bike_fields::{MOST_SEGMENTS, Rate, Segment, SegmentMinute};
 
 /// The segments of a plan, at most `MOST_SEGMENTS`, before they have memory of their own.
 pub type SegmentList = ArrayVec<Segment, MOST_SEGMENTS>;

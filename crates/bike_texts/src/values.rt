@@ -1,15 +1,14 @@
 //! The values that one part of a text spells.
 
 ghost use Rattle.std.specs.Prelude.{◌≡◌, true, IfSome, option_map};
-ghost use Rattle.bike_attributes.specs.Values.{is_range};
+ghost use Rattle.bike_fields.specs.Values.{is_range};
 ghost use Rattle.bike_fields.specs.Bytes.{is_ident};
 ghost use Rattle.bike_texts.specs.Reading.{HasIdent, degrees_of, is_of_size, metres_of, choice_of, side_of, end_of};
 ghost use Rattle.bike_texts.specs.Reading.{end_meant, ident_or_none_of};
 ghost use Rattle.bike_fields.specs.Reads.{Gives};
 
 use crate::ends::{EndName, Side};
-use bike_attributes::Propulsion;
-use bike_fields::{GREATEST_RANGE, Ident, MaxRange};
+use bike_fields::{GREATEST_RANGE, Ident, MaxRange, Propulsion};
 use bike_fixed::Micro;
 
 /// The coordinate that the text spells, where its size is at most `greatest` microdegrees.

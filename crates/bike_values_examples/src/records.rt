@@ -1,9 +1,8 @@
 //! Each record made of plain values once, and what half an hour costs.
 
-use bike_attributes::{Form, Propulsion, Segment};
 use bike_catalogue::{Plan, Station, VehicleType};
 use bike_fares::{fare, fare_by_minutes};
-use bike_fields::FieldFault;
+use bike_fields::{FieldFault, Form, Propulsion, Segment};
 use bike_fixed::{Cents, Moment};
 use std::alloc::Global;
 

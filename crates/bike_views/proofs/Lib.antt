@@ -2,3 +2,5 @@ mod LoadLemmas
 pub mod OpenLaws
 mod PartLemmas
 mod NameLemmas
+mod StoredLemmas
+mod DockLemmas

@@ -6,9 +6,9 @@ use Rattle.bike_operator.specs.declared.records.Place.TheVariants as place
 use Rattle.bike_operator.specs.Operator.{Operator, item_numbered}
 use Rattle.bike_operator.specs.Counts.{is_for_order, order_load}
 use Rattle.bike_operator.specs.Sound.{IsPlace, IsSound}
-use Rattle.bike_places.proofs.CountLemmas.{none_counted}
-use Rattle.bike_places.proofs.MapLemmas.{number_order}
-use Rattle.bike_places.proofs.TestLemmas.{same_number}
+use Rattle.bike_laws.proofs.SingleSteps.CountLemmas.{none_counted}
+use Rattle.bike_laws.proofs.SingleSteps.MapLemmas.{number_order}
+use Rattle.bike_laws.proofs.SingleSteps.TestLemmas.{same_number}
 
 -- no bicycle is on a truck for it
 pub no_load : (s : Operator) (order : ℕ) → IsSound s → item_numbered order s.orders ≡ None → order_load s order ≡ 0

@@ -10,8 +10,8 @@ use Rattle.std.specs.FinMap as fin
 use Rattle.std.proofs.lemmas.Map.Text.{is_eq-slice_cmp}
 use Rattle.sqlite_rules.specs.Lists.{Has}
 use Rattle.bike_catalogue.specs.Rows.{SystemRow}
-use Rattle.bike_attributes.specs.declared.name_kind.NameKind.{NameKind}
-use Rattle.bike_attributes.specs.NameKinds.{kind_text}
+use Rattle.bike_fields.specs.declared.name_kind.NameKind.{NameKind}
+use Rattle.bike_fields.specs.NameKinds.{kind_text}
 use Rattle.bike_operator.specs.Operator.{Operator, NameKey, name_key, text_cmp, texts_cmp}
 use Rattle.bike_operator.specs.Names.{part_at, is_name_of, further_names}
 use Rattle.bike_operator.specs.Sound.{AreNamesSound}

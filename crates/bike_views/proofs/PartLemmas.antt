@@ -1,14 +1,19 @@
 -- Parts of a view, from the records that were read.
-use Rattle.std.proofs.Common.{◌≡◌, ℕ, ℤ, List, Option, Some, None, refl, sym, ap, ◌∙◌}
+use Rattle.std.proofs.Common.{◌≡◌, ℕ, ℤ, List, Bool, Option, Some, None, refl, sym, ap, ◌∙◌}
+use Rattle.std.specs.FinMap as map
 use Rattle.std.specs.Prelude.{option_map}
 use Rattle.bike_catalogue.specs.Rows.{PlanRow, TypeRow}
 use Rattle.bike_ledger.specs.Entries.{Entry}
 use Rattle.bike_ledger.specs.Ledger.{balance_of, refunded_of}
 use Rattle.bike_operator.specs.declared.records.Bike.{Bike}
 use Rattle.bike_operator.specs.declared.records.Rental.{Rental}
-use Rattle.bike_operator.specs.Operator.{Operator}
+use Rattle.bike_operator.specs.Operator.{Operator, dock_key}
 use Rattle.bike_operator.specs.View.{planned_rental, typed_bike}
-use Rattle.bike_office_reads.specs.declared.rentals.StoredRental.{StoredRental}
+use Rattle.bike_book.specs.Stored.{Listed}
+use Rattle.bike_fleet_reads.specs.declared.stations.DockNumbers.{DockNumbers}
+use Rattle.bike_fleet_reads.specs.Fleet.{dock_numbers_at}
+use Rattle.bike_views.specs.declared.view_and_docks.StationDocks.{StationDocks}
+use Rattle.bike_views.specs.ViewAndDocks.{listed_docks, station_docks}
 
 -- ---- the bicycle in a dock
 
@@ -21,17 +26,26 @@ pub typed_some : (b : ℕ × Bike) (o : Option TypeRow) {x : Option (List ℕ)} 
 typed_some b None read some = absurd cc
 typed_some b (Some t) {plan = plan} read some = let same : plan ≡ t.plan_id = cc in ap (λ p. Some (record { bike = b.0; type_id = b.1.type_id; state = b.1.state; plan = p })) same
 
+-- ---- the docks of a station
+
+pub docks_read : (s : Operator) (station : List ℕ) {numbers : Option DockNumbers} {d : StationDocks} → d ≡ record { station = station; numbers = numbers; listing = None } → numbers ≡ dock_numbers_at s station → Some d ≡ Some (station_docks s station)
+docks_read s station is numbers = ap Some is ∙ ap (λ (n : Option DockNumbers). let d : StationDocks = record { station = station; numbers = n; listing = None } in Some d) numbers
+
+pub listed_read : (s : Operator) (m : Listed) (station : List ℕ) (dock : ℕ) {numbers : Option DockNumbers} {listed : Bool} {d : StationDocks} → d ≡ record { station = station; numbers = numbers; listing = Some (record { dock = dock; is_listed = listed }) }
+    → numbers ≡ dock_numbers_at s station → listed ≡ map.contains_key m.docks (dock_key station dock) → Some d ≡ Some (listed_docks s m station dock)
+listed_read s m station dock is numbers listed = ap Some is ∙ (λ i. Some (record { station = station; numbers = numbers i; listing = Some (record { dock = dock; is_listed = listed i }) }))
+
 -- ---- a rental
 
 -- the rental that was read, and the sum of its refunds
-pub rental_read : (number : ℕ) (entries : List Entry) (o : Option Rental) {x : Option StoredRental} {stored : StoredRental} → x ≡ option_map (λ r. record { rental = r; refunded = refunded_of number entries }) o → x ≡ Some stored
-    → (o ≡ Some stored.rental) × (stored.refunded ≡ refunded_of number entries)
+pub rental_read : (number : ℕ) (entries : List Entry) (o : Option Rental) {x : Option (Rental × ℤ)} {found : Rental} {refunded : ℤ} → x ≡ option_map (λ r. (r, refunded_of number entries)) o → x ≡ Some (found, refunded)
+    → (o ≡ Some found) × (refunded ≡ refunded_of number entries)
 rental_read number entries None read some = absurd cc
-rental_read number entries (Some r) {stored = stored} read some =
-    let found : StoredRental = record { rental = r; refunded = refunded_of number entries } in
-    let same : found ≡ stored = cc in (ap (λ f. Some f.rental) same, ap (λ f. f.refunded) (sym same))
+rental_read number entries (Some r) {found = found} {refunded = refunded} read some =
+    let of_r : Rental × ℤ = (r, refunded_of number entries) in
+    let same : of_r ≡ (found, refunded) = cc in (ap (λ f. Some f.0) same, ap (λ f. f.1) (sym same))
 
-pub rental_lacks : (number : ℕ) (entries : List Entry) (o : Option Rental) {x : Option StoredRental} → x ≡ option_map (λ r. record { rental = r; refunded = refunded_of number entries }) o → x ≡ None → None ≡ o
+pub rental_lacks : (number : ℕ) (entries : List Entry) (o : Option Rental) {x : Option (Rental × ℤ)} → x ≡ option_map (λ r. (r, refunded_of number entries)) o → x ≡ None → None ≡ o
 rental_lacks number entries None read none = refl
 rental_lacks number entries (Some r) read none = absurd cc
 

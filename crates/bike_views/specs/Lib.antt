@@ -1,6 +1,6 @@
 pub mod Known
 pub mod Open
-pub mod Sight
+pub mod ViewAndDocks
 pub mod Parts
 pub use Rattle.bike_booking.specs.Stored
 pub use Rattle.bike_booking.specs.declared.stored.StoredCounts
@@ -8,3 +8,4 @@ pub use Rattle.bike_booking.specs.declared.stored.StoredDock
 pub use Rattle.bike_fleet_reads.specs.Fleet
 pub use Rattle.bike_fleet_reads.specs.declared.counts.TypeCounts
 pub use Rattle.bike_fleet_reads.specs.declared.stations.DockNumbers
+pub mod StoredParts

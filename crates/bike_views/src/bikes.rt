@@ -1,50 +1,96 @@
 //! What the commands on bicycles name.
 
-ghost use Rattle.std.specs.Prelude.{◌≡◌};
+ghost use Rattle.std.specs.Prelude.{◌≡◌, false, None, Some};
+ghost use Rattle.std.specs.FinMap as map;
 ghost use Rattle.bike_commands.specs.declared.command.Command.TheVariants as command;
+ghost use Rattle.bike_operator.specs.Counts.{is_broken};
 ghost use Rattle.bike_operator.specs.View.{bike_view, is_in_broken_dock, view_of};
 ghost use Rattle.bike_schema.specs.Answers.{Answers};
 ghost use Rattle.bike_views.specs.Open.{AnswersOpen};
+ghost use Rattle.bike_views.specs.ViewAndDocks.{bike_docks, station_docks};
 
 use crate::docks::is_marked;
 use crate::empty::empty_view;
+use crate::view_and_docks::{StationDocks, ViewAndDocks};
 use bike_fields::{BicycleNumber, Ident};
-use bike_fleet_reads::{are_bikes_full, find_bike, has_type};
+use bike_fleet_reads::{are_bikes_full, find_bike, find_dock_numbers, has_type};
 use bike_operator::{Bike, Place, View};
 use bike_schema::StatementFault;
 use sqlite::{Alter, Connection};
 use std::alloc::Global;
 
-/// Whether the bicycle stands in a broken dock.
-fn is_in_broken<S: Alter>(
+/// What is read of the dock in which a bicycle stands.
+#[derive(Drop)]
+struct BikeDock {
+    is_broken: bool,
+    docks: Option<StationDocks>,
+}
+
+/// The bicycle stands in no dock.
+fn no_dock() -> BikeDock
+    ensures { result ≡ record { is_broken = false; docks = None } }
+{
+    BikeDock {
+        is_broken: false,
+        docks: None,
+    }
+}
+
+/// Whether a dock is broken, with the docks of its station.
+fn find_dock<S: Alter>(
+    alloc: Global,
+    conn: &mut Connection<S>,
+    station: &Ident,
+    dock: u32,
+) -> Result<BikeDock, StatementFault>
+    ensures { Answers S.Store conn.old conn.new result (λ s m x.
+        x ≡ record { is_broken = is_broken s station.now dock; docks = Some (station_docks s station.now) }) }
+{
+    let numbers = find_dock_numbers(conn, station)?;
+    let is_broken = is_marked(conn, station, dock, &numbers)?;
+    let docks = StationDocks::new(alloc, station, numbers, None)?;
+    Ok(BikeDock {
+        is_broken,
+        docks: Some(docks),
+    })
+}
+
+/// Whether the dock is broken in which a bicycle stands, with the docks of its station.
+fn find_dock_of<S: Alter>(
+    alloc: Global,
     conn: &mut Connection<S>,
     bike: &Option<Bike>,
-) -> Result<bool, StatementFault>
-    ensures { AnswersOpen S.Store conn.old conn.new result (λ s m broken. broken ≡ is_in_broken_dock s bike.now) }
+) -> Result<BikeDock, StatementFault>
+    ensures { AnswersOpen S.Store conn.old conn.new result (λ s m x.
+        x ≡ record { is_broken = is_in_broken_dock s bike.now; docks = bike_docks s bike.now }) }
 {
     match bike {
-        None => Ok(false),
+        None => Ok(no_dock()),
         Some(bike) => match &bike.place {
-            Place::Dock { station, dock } => is_marked(conn, station, dock.get()),
-            Place::Rental { .. } | Place::Truck { .. } | Place::Depot => Ok(false),
+            Place::Dock { station, dock } => find_dock(alloc, conn, station, dock.get()),
+            Place::Rental { .. } | Place::Truck { .. } | Place::Depot => Ok(no_dock()),
         },
     }
 }
 
-/// The bicycle, and the mark of the dock in which it stands.
+/// The bicycle and the mark of the dock in which it stands, with the docks of that dock's station.
 pub(crate) fn find_bike_view<S: Alter>(
     alloc: Global,
     conn: &mut Connection<S>,
     bike: BicycleNumber,
-) -> Result<View, StatementFault>
-    ensures { Answers S.Store conn.old conn.new result (λ s m view. view ≡ bike_view s bike) }
+) -> Result<ViewAndDocks, StatementFault>
+    ensures { Answers S.Store conn.old conn.new result
+        (λ s m x. (x.view ≡ bike_view s bike) × (x.docks ≡ bike_docks s (map.get s.bikes bike))) }
 {
     let found = find_bike(alloc, conn, bike)?;
-    let is_dock_broken = is_in_broken(conn, &found)?;
-    Ok(View {
-        bike: found,
-        is_dock_broken,
-        ..empty_view()
+    let dock = find_dock_of(alloc, conn, &found)?;
+    Ok(ViewAndDocks {
+        view: View {
+            bike: found,
+            is_dock_broken: dock.is_broken,
+            ..empty_view()
+        },
+        docks: dock.docks,
     })
 }
 

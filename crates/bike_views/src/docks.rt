@@ -1,30 +1,41 @@
 //! What is read of a dock.
 
-ghost use Rattle.std.specs.Prelude.{◌≡◌};
+ghost use Rattle.std.specs.Prelude.{◌≡◌, Bool, Some};
 ghost use Rattle.std.specs.FinMap as map;
+ghost use Rattle.bike_commands.specs.declared.command.Command.TheVariants as command;
 ghost use Rattle.bike_operator.specs.Counts.{docked_at, is_broken};
 ghost use Rattle.bike_operator.specs.View.{dock_view, docked_view, typed_bike};
 ghost use Rattle.bike_schema.specs.Answers.{Answers};
-ghost use Rattle.bike_fleet_reads.specs.Fleet.{numbered_pair};
-ghost use Rattle.bike_views.specs.Sight.{IsDockRead};
+ghost use Rattle.bike_fleet_reads.specs.Fleet.{dock_numbers_at, numbered_pair};
+ghost use Rattle.bike_views.specs.Open.{AnswersOpen};
+ghost use Rattle.bike_views.specs.ViewAndDocks.{IsFoundFor, station_docks};
 
 use crate::empty::empty_view;
-use crate::sight::Sight;
-use bike_fields::Ident;
-use bike_fleet_reads::{NumberedBike, find_default_plan, find_docked, find_mark, find_station_row};
+use crate::view_and_docks::{DockListing, StationDocks, ViewAndDocks};
+use bike_fields::{DockNumber, Ident};
+use bike_fleet_reads::{
+    DockNumbers, NumberedBike, find_default_plan, find_docked, find_mark, find_station_row,
+    has_broken,
+};
 use bike_operator::{DockedBike, View};
 use bike_schema::StatementFault;
 use sqlite::{Alter, Connection};
 use std::alloc::Global;
 
-/// Whether the dock is marked as broken. A dock with no row works.
+/// Whether a dock is broken, where these are the numbers of its station's docks. Where none of them is broken, the
+/// dock's row isn't read. A dock with no row works.
 pub(crate) fn is_marked<S: Alter>(
     conn: &mut Connection<S>,
     station: &Ident,
     dock: u32,
+    numbers: &Option<DockNumbers>,
 ) -> Result<bool, StatementFault>
-    ensures { Answers S.Store conn.old conn.new result (λ s m broken. broken ≡ is_broken s station.now dock) }
+    ensures { AnswersOpen S.Store conn.old conn.new result
+        (λ s m broken. numbers.now ≡ dock_numbers_at s station.now → broken ≡ is_broken s station.now dock) }
 {
+    if !has_broken(numbers) {
+        return Ok(false);
+    }
     let mark = find_mark(conn, station, dock)?;
     Ok(mark.unwrap_or(false))
 }
@@ -65,27 +76,58 @@ fn find_docked_bike<S: Alter>(
     }
 }
 
-/// The station, the mark of its dock and the bicycle in it, with what the rows of station and dock tell beside it.
+/// The station, the mark of its dock and the bicycle in it, with the docks of the station.
 pub(crate) fn find_dock_view<S: Alter>(
     alloc: Global,
     conn: &mut Connection<S>,
     station: &Ident,
     dock: u32,
-) -> Result<Sight, StatementFault>
+) -> Result<ViewAndDocks, StatementFault>
     ensures { Answers S.Store conn.old conn.new result
-        (λ s m x. (x.view ≡ dock_view s station.now dock) × IsDockRead s m station.now dock x.numbers x.mark) }
+        (λ s m x. (x.view ≡ dock_view s station.now dock) × (x.docks ≡ Some (station_docks s station.now))) }
 {
+    let row = find_station_row(conn, station)?;
+    let is_dock_broken = is_marked(conn, station, dock, &row.numbers)?;
+    let docked = find_docked_bike(alloc, conn, station, dock)?;
+    let docks = StationDocks::new(alloc, station, row.numbers, None)?;
+    Ok(ViewAndDocks {
+        view: View {
+            station: row.station,
+            is_dock_broken,
+            docked,
+            ..empty_view()
+        },
+        docks: Some(docks),
+    })
+}
+
+/// The view for a dock that is marked, whatever the mark. The dock's row is read in any case: a mark is written over it
+/// where it is there, and else added.
+pub(crate) fn view_to_mark_dock<S: Alter>(
+    alloc: Global,
+    conn: &mut Connection<S>,
+    station: &Ident,
+    dock: DockNumber,
+) -> Result<ViewAndDocks, StatementFault>
+    ensures { Answers S.Store conn.old conn.new result
+        (λ s m x. (broken : Bool) → IsFoundFor s m (command.MarkDock station.now dock broken) x) }
+{
+    let dock = dock.get();
     let row = find_station_row(conn, station)?;
     let mark = find_mark(conn, station, dock)?;
     let docked = find_docked_bike(alloc, conn, station, dock)?;
-    Ok(Sight {
+    let listing = DockListing {
+        dock,
+        is_listed: mark.is_some(),
+    };
+    let docks = StationDocks::new(alloc, station, row.numbers, Some(listing))?;
+    Ok(ViewAndDocks {
         view: View {
             station: row.station,
             is_dock_broken: mark.unwrap_or(false),
             docked,
             ..empty_view()
         },
-        numbers: row.numbers,
-        mark,
+        docks: Some(docks),
     })
 }

@@ -10,9 +10,8 @@ ghost use Rattle.bike_views.specs.Open.{AnswersOpen};
 ghost use Rattle.bike_views.specs.Parts.{is_among};
 
 use crate::empty::empty_view;
-use bike_attributes::NameKind;
 use bike_catalogue::MoreName;
-use bike_fields::{Ident, Language};
+use bike_fields::{Ident, Language, NameKind};
 use bike_fleet_reads::{has_region, has_station, has_type};
 use bike_office_reads::{find_names, find_system_key, has_plan};
 use bike_operator::{MOST_FURTHER_NAMES, View};

@@ -6,17 +6,18 @@ ghost use Rattle.bike_operator.specs.Counts.{order_load};
 ghost use Rattle.bike_operator.specs.Operator.{item_numbered};
 ghost use Rattle.bike_operator.specs.View.{end_at as end_of_order, end_view, has_end, side_view, view_of};
 ghost use Rattle.bike_schema.specs.Answers.{Answers};
+ghost use Rattle.bike_fleet_reads.specs.Fleet.{IsTruckLoad};
 ghost use Rattle.bike_views.specs.Open.{AnswersOpen};
-ghost use Rattle.bike_views.specs.Sight.{IsEndRead, IsSideRead, IsSight};
+ghost use Rattle.bike_views.specs.ViewAndDocks.{IsFoundFor, end_docks, side_docks};
 
 use crate::bikes::find_bike_view;
 use crate::docks::find_dock_view;
 use crate::empty::empty_view;
-use crate::sight::Sight;
+use crate::view_and_docks::ViewAndDocks;
 use bike_fields::{BicycleNumber, Ident, OrderNumber, TruckNumber};
 use bike_fleet_reads::{
-    are_trucks_full, find_bike, find_order, find_truck, has_station, has_type, order_load,
-    truck_load,
+    TruckLoad, are_trucks_full, find_bike, find_order, find_truck, find_truck_load, has_station,
+    has_type,
 };
 use bike_operator::{Order, View};
 use bike_schema::StatementFault;
@@ -88,8 +89,32 @@ fn find_order_load<S: Alter>(
 {
     match order {
         None => Ok(0),
-        Some(order) => order_load(conn, number, order.truck),
+        Some(order) => {
+            let load = find_truck_load(conn, order.truck, number)?;
+            Ok(load.for_order)
+        }
     }
+}
+
+/// How many bicycles are on its truck for an order, of which this was read, where so many are on a truck: those of
+/// another truck are read.
+fn load_of_order<S: Alter>(
+    conn: &mut Connection<S>,
+    number: OrderNumber,
+    order: &Option<Order>,
+    truck: TruckNumber,
+    load: &TruckLoad,
+) -> Result<u32, StatementFault>
+    ensures { AnswersOpen S.Store conn.old conn.new result
+        (λ s m on_truck. order.now ≡ item_numbered number s.orders → IsTruckLoad s truck number load.now
+        → on_truck ≡ order_load s number) }
+{
+    if let Some(row) = order {
+        if row.truck.get() == truck.get() {
+            return Ok(load.for_order);
+        }
+    }
+    find_order_load(conn, number, order)
 }
 
 /// The view for a bicycle that is loaded.
@@ -99,26 +124,24 @@ pub(crate) fn view_to_load<S: Alter>(
     truck: TruckNumber,
     order: OrderNumber,
     bike: BicycleNumber,
-) -> Result<View, StatementFault>
+) -> Result<ViewAndDocks, StatementFault>
     ensures { Answers S.Store conn.old conn.new result
-        (λ s m view. view ≡ view_of s (command.Load truck order bike)) }
+        (λ s m x. IsFoundFor s m (command.Load truck order bike) x) }
 {
-    let loaded = truck_load(conn, truck)?;
+    let load = find_truck_load(conn, truck, order)?;
+    let row = find_order(alloc, conn, order)?;
+    let on_truck = load_of_order(conn, order, &row, truck, &load)?;
     let truck = find_truck(conn, truck)?;
-    let found = find_order(alloc, conn, order)?;
-    let on_truck = find_order_load(conn, order, &found)?;
-    let view = find_bike_view(alloc, conn, bike)?;
-    Ok(View {
-        truck,
-        loaded,
-        order: found,
-        on_truck,
-        ..view
-    })
+    let mut found = find_bike_view(alloc, conn, bike)?;
+    found.view.truck = truck;
+    found.view.loaded = load.all;
+    found.view.order = row;
+    found.view.on_truck = on_truck;
+    Ok(found)
 }
 
 /// The end of an order at a side.
-pub fn end_at(side: Side, order: &Order) -> &OrderEnd
+fn end_at(side: Side, order: &Order) -> &OrderEnd
     ensures { result.now ≡ end_of_order side order.now }
 {
     match side {
@@ -127,35 +150,35 @@ pub fn end_at(side: Side, order: &Order) -> &OrderEnd
     }
 }
 
-/// The dock at an end of an order, where there is one: the depot has none.
+/// The dock at an end of an order, where there is one, with the docks of its station: the depot has none.
 fn find_end_view<S: Alter>(
     alloc: Global,
     conn: &mut Connection<S>,
     end: &OrderEnd,
     dock: u32,
-) -> Result<Sight, StatementFault>
+) -> Result<ViewAndDocks, StatementFault>
     ensures { AnswersOpen S.Store conn.old conn.new result
-        (λ s m x. (x.view ≡ end_view s end.now dock) × IsEndRead s m end.now dock x.numbers x.mark) }
+        (λ s m x. (x.view ≡ end_view s end.now dock) × (x.docks ≡ end_docks s end.now)) }
 {
     match end {
-        OrderEnd::Depot => Ok(Sight::plain(empty_view())),
+        OrderEnd::Depot => Ok(ViewAndDocks::plain(empty_view())),
         OrderEnd::Station(station) => find_dock_view(alloc, conn, station, dock),
     }
 }
 
-/// The dock at a side of an order, where both are there.
+/// The dock at a side of an order, where both are there, with the docks of its station.
 fn find_side_view<S: Alter>(
     alloc: Global,
     conn: &mut Connection<S>,
     order: &Option<Order>,
     side: Side,
     dock: u32,
-) -> Result<Sight, StatementFault>
+) -> Result<ViewAndDocks, StatementFault>
     ensures { AnswersOpen S.Store conn.old conn.new result
-        (λ s m x. (x.view ≡ side_view s order.now side dock) × IsSideRead s m order.now side dock x.numbers x.mark) }
+        (λ s m x. (x.view ≡ side_view s order.now side dock) × (x.docks ≡ side_docks s order.now side)) }
 {
     match order {
-        None => Ok(Sight::plain(empty_view())),
+        None => Ok(ViewAndDocks::plain(empty_view())),
         Some(order) => find_end_view(alloc, conn, end_at(side, order), dock),
     }
 }
@@ -169,18 +192,18 @@ pub(crate) fn view_to_unload<S: Alter>(
     bike: BicycleNumber,
     side: Side,
     dock: UnloadDock,
-) -> Result<Sight, StatementFault>
+) -> Result<ViewAndDocks, StatementFault>
     ensures { Answers S.Store conn.old conn.new result
-        (λ s m x. IsSight s m (command.Unload truck order bike side dock) x) }
+        (λ s m x. IsFoundFor s m (command.Unload truck order bike side dock) x) }
 {
     let truck = find_truck(conn, truck)?;
     let bike = find_bike(alloc, conn, bike)?;
     let order = find_order(alloc, conn, order)?;
-    let mut seen = find_side_view(alloc, conn, &order, side, dock.get())?;
-    seen.view.truck = truck;
-    seen.view.bike = bike;
-    seen.view.order = order;
-    Ok(seen)
+    let mut found = find_side_view(alloc, conn, &order, side, dock.get())?;
+    found.view.truck = truck;
+    found.view.bike = bike;
+    found.view.order = order;
+    Ok(found)
 }
 
 /// The view for an order that is closed.

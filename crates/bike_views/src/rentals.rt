@@ -8,13 +8,13 @@ ghost use Rattle.bike_operator.specs.View.{planned_rental, rental_at, rental_of,
 ghost use Rattle.bike_schema.specs.Answers.{Answers};
 ghost use Rattle.bike_views.specs.Known.{IsKnown};
 ghost use Rattle.bike_views.specs.Open.{AnswersOpen};
-ghost use Rattle.bike_views.specs.Sight.{IsSight};
+ghost use Rattle.bike_views.specs.ViewAndDocks.{IsFoundFor};
 ghost use Rattle.bike_views.specs.Parts.{rental_bike, rental_bike_at};
 
 use crate::docks::find_dock_view;
 use crate::empty::empty_view;
 use crate::figures::{Known, is_ledger_full};
-use crate::sight::Sight;
+use crate::view_and_docks::ViewAndDocks;
 use bike_fields::{BicycleNumber, DockNumber, Ident, RentalNumber, RiderNumber};
 use bike_fixed::Cents;
 use bike_fleet_reads::find_bike;
@@ -65,7 +65,7 @@ fn find_rental_view<S: Alter>(
 {
     match find_rental(alloc, conn, rental)? {
         None => Ok(None),
-        Some(stored) => find_planned_rental(alloc, conn, rental, stored.rental, stored.refunded),
+        Some((found, refunded)) => find_planned_rental(alloc, conn, rental, found, refunded),
     }
 }
 
@@ -94,19 +94,19 @@ pub(crate) fn view_to_start<S: Alter>(
     station: &Ident,
     dock: DockNumber,
     known: &Known,
-) -> Result<Sight, StatementFault>
+) -> Result<ViewAndDocks, StatementFault>
     ensures { Answers S.Store conn.old conn.new result
-        (λ s m x. IsKnown s known.now → IsSight s m (command.Start rider station.now dock) x) }
+        (λ s m x. IsKnown s known.now → IsFoundFor s m (command.Start rider station.now dock) x) }
 {
-    let found = find_rider(conn, rider)?;
+    let rider_view = find_rider(conn, rider)?;
     let is_riding = is_riding(conn, rider, known.newest_tells)?;
     let is_ledger_full = is_ledger_full(conn, known.figures.entries)?;
-    let mut seen = find_dock_view(alloc, conn, station, dock.get())?;
-    seen.view.rider = found;
-    seen.view.is_riding = is_riding;
-    seen.view.is_ledger_full = is_ledger_full;
-    seen.view.rentals = known.figures.rentals;
-    Ok(seen)
+    let mut found = find_dock_view(alloc, conn, station, dock.get())?;
+    found.view.rider = rider_view;
+    found.view.is_riding = is_riding;
+    found.view.is_ledger_full = is_ledger_full;
+    found.view.rentals = known.figures.rentals;
+    Ok(found)
 }
 
 /// The view for the end of a rental, where there are so many entries.
@@ -117,17 +117,17 @@ pub(crate) fn view_to_end<S: Alter>(
     station: &Ident,
     dock: DockNumber,
     entries: u32,
-) -> Result<Sight, StatementFault>
+) -> Result<ViewAndDocks, StatementFault>
     ensures { Answers S.Store conn.old conn.new result
-        (λ s m x. entries ≡ length s.entries → IsSight s m (command.End bike station.now dock) x) }
+        (λ s m x. entries ≡ length s.entries → IsFoundFor s m (command.End bike station.now dock) x) }
 {
     let bike = find_bike(alloc, conn, bike)?;
     let rental = find_rental_of(alloc, conn, &bike)?;
-    let mut seen = find_dock_view(alloc, conn, station, dock.get())?;
-    seen.view.bike = bike;
-    seen.view.rental = rental;
-    seen.view.entries = entries;
-    Ok(seen)
+    let mut found = find_dock_view(alloc, conn, station, dock.get())?;
+    found.view.bike = bike;
+    found.view.rental = rental;
+    found.view.entries = entries;
+    Ok(found)
 }
 
 /// The bicycle of the rental, and the rental with its plan.
@@ -159,7 +159,7 @@ fn find_rental_bike_at<S: Alter>(
             bike: None,
             rental: None,
         }),
-        Some(stored) => find_rental_bike(alloc, conn, rental, stored.rental, stored.refunded),
+        Some((found, refunded)) => find_rental_bike(alloc, conn, rental, found, refunded),
     }
 }
 

@@ -1,18 +1,21 @@
 //! What the commands on stations and their docks name.
 
-ghost use Rattle.std.specs.Prelude.{◌≡◌};
+ghost use Rattle.std.specs.Prelude.{◌≡◌, ℕ};
 ghost use Rattle.bike_commands.specs.declared.command.Command.TheVariants as command;
 ghost use Rattle.bike_operator.specs.View.{empty_view, has_region, station_at, view_of};
 ghost use Rattle.bike_schema.specs.Answers.{Answers};
 ghost use Rattle.bike_views.specs.Open.{AnswersOpen};
+ghost use Rattle.bike_views.specs.ViewAndDocks.{IsFoundFor};
 
 use crate::empty::empty_view;
+use crate::view_and_docks::{StationDocks, ViewAndDocks};
 use bike_catalogue::Station;
 use bike_fields::Ident;
-use bike_fleet_reads::{are_stations_full, find_station, has_region};
+use bike_fleet_reads::{are_stations_full, find_station, find_station_row, has_region};
 use bike_operator::View;
 use bike_schema::StatementFault;
 use sqlite::{Alter, Connection};
+use std::alloc::Global;
 
 /// The view for a new station.
 pub(crate) fn view_to_add_station<S: Alter>(
@@ -31,7 +34,7 @@ pub(crate) fn view_to_add_station<S: Alter>(
     })
 }
 
-/// The station alone, for its flags, its position and docks that it gets.
+/// The station alone, for its flags and its position.
 pub(crate) fn find_station_view<S: Alter>(
     conn: &mut Connection<S>,
     station: &Ident,
@@ -43,6 +46,26 @@ pub(crate) fn find_station_view<S: Alter>(
     Ok(View {
         station,
         ..empty_view()
+    })
+}
+
+/// The view for docks that a station gets, however many, with the docks that it has.
+pub(crate) fn view_to_add_docks<S: Alter>(
+    alloc: Global,
+    conn: &mut Connection<S>,
+    station: &Ident,
+) -> Result<ViewAndDocks, StatementFault>
+    ensures { Answers S.Store conn.old conn.new result
+        (λ s m x. (count : ℕ) → IsFoundFor s m (command.AddDocks station.now count) x) }
+{
+    let row = find_station_row(conn, station)?;
+    let docks = StationDocks::new(alloc, station, row.numbers, None)?;
+    Ok(ViewAndDocks {
+        view: View {
+            station: row.station,
+            ..empty_view()
+        },
+        docks: Some(docks),
     })
 }
 

@@ -2,7 +2,7 @@
 use Rattle.std.proofs.Common.{List, ℕ, pos, [], ◌∷◌, codes, refl}
 use Rattle.std.specs.Borrow.{Bor}
 use Rattle.sqlite_value.specs.declared.value.Value.TheVariants.{Int, Text}
-use Rattle.bike_attributes.specs.Values.{SegmentRow}
+use Rattle.bike_fields.specs.Values.{SegmentRow}
 use Rattle.bike_catalogue.specs.Rows.{PlanRow, TypeRow, RegionRow, SettingsRow, SystemRow}
 use Rattle.bike_book.specs.Tables.{System, Plans, Segments, Types, Regions}
 use Rattle.bike_book.specs.Rows.{number_value, system_row, plan_row, segment_row, type_row, region_row}

@@ -2,9 +2,9 @@
 use Rattle.std.proofs.Common.{List, ℕ, pos, [], ◌∷◌, codes, refl}
 use Rattle.std.specs.Borrow.{Bor}
 use Rattle.sqlite_value.specs.declared.value.Value.TheVariants.{Int, Text}
-use Rattle.bike_attributes.specs.NameKinds.{kind_text}
-use Rattle.bike_attributes.specs.declared.name_kind.NameKind.{NameKind}
-use Rattle.bike_attributes.specs.declared.name_kind.NameKind.TheVariants as named
+use Rattle.bike_fields.specs.NameKinds.{kind_text}
+use Rattle.bike_fields.specs.declared.name_kind.NameKind.{NameKind}
+use Rattle.bike_fields.specs.declared.name_kind.NameKind.TheVariants as named
 use Rattle.bike_operator.specs.Operator.{name_key}
 use Rattle.bike_book.specs.Tables.{System, Plans, Types, Regions, Stations, MoreNames}
 use Rattle.bike_book.specs.Rows.{name_row}

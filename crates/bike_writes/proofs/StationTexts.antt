@@ -4,7 +4,7 @@ use Rattle.std.specs.Borrow.{Bor}
 use Rattle.sqlite_value.specs.declared.value.Value.TheVariants.{Int, Text}
 use Rattle.sqlite.specs.Values.{or_null}
 use Rattle.bike_rows.proofs.ParamLemmas.{text_suits}
-use Rattle.bike_attributes.specs.Values.{PositionRow}
+use Rattle.bike_fields.specs.Values.{PositionRow}
 use Rattle.bike_catalogue.specs.Rows.{StationRow}
 use Rattle.bike_operator.specs.Steps.{new_station}
 use Rattle.bike_operator.specs.Changes.{text_in}

@@ -5,9 +5,8 @@ ghost use Rattle.bike_book.specs.declared.row_change.RowChange.TheVariants as ro
 ghost use Rattle.bike_book.specs.Writes.{record_write, write_of};
 ghost use Rattle.bike_schema.specs.Calls.{Writes};
 
-use bike_attributes::Segment;
 use bike_catalogue::{Plan, Region, Settings, System, VehicleType};
-use bike_fields::Ident;
+use bike_fields::{Ident, Segment};
 use bike_rows::write::run;
 use bike_schema::{Staged, StatementFault};
 use sqlite::{Alter, params};

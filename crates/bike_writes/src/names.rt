@@ -4,8 +4,7 @@ ghost use Rattle.bike_accepted.specs.declared.change.Change.TheVariants as chang
 ghost use Rattle.bike_book.specs.Writes.{record_write};
 ghost use Rattle.bike_schema.specs.Calls.{Writes};
 
-use bike_attributes::NameKind;
-use bike_fields::{Ident, Language, Name};
+use bike_fields::{Ident, Language, Name, NameKind};
 use bike_rows::write::run;
 use bike_schema::{Staged, StatementFault};
 use sqlite::{Alter, params};

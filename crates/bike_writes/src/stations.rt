@@ -6,9 +6,8 @@ ghost use Rattle.bike_book.specs.Writes.{record_write, write_of};
 ghost use Rattle.bike_schema.specs.Calls.{Writes};
 
 use crate::columns::{seconds_of, text_in};
-use bike_attributes::Position;
 use bike_catalogue::Station;
-use bike_fields::Ident;
+use bike_fields::{Ident, Position};
 use bike_fixed::Moment;
 use bike_rows::write::run;
 use bike_schema::{Staged, StatementFault};

@@ -2,7 +2,7 @@ use Rattle.std.proofs.Common.{rules, refl, sym, subst, arith}
 use Rattle.sqlite.specs.State.{HasCleanDisk}
 use Rattle.sqlite.specs.Files.{file_state}
 use Rattle.bike_schema.specs.Stands.{TreesStandFor}
-use Rattle.bike_earlier.specs.Stores.{TreesStandForAt}
+use Rattle.bike_recognition.specs.EarlierVersions.Stores.{TreesStandForAt}
 use Rattle.bike_app.proofs.file.run_file.Goals as goal
 
 pub returns-in-Ok-clause-done : goal.returns-in-Ok-clause-done

@@ -1,7 +1,7 @@
 use Rattle.std.proofs.Common.{◌≡◌, is_some, None, sym, ap, ◌∙◌}
 use Rattle.std.specs.FinMap as map
 use Rattle.bike_operator.specs.declared.view.View.{View}
-use Rattle.bike_places.proofs.TestLemmas.{no_station}
+use Rattle.bike_laws.proofs.SingleSteps.TestLemmas.{no_station}
 use Rattle.bike_core.proofs.Stations.{none_docked, none_broken}
 use Rattle.bike_core.proofs.decide_catalogue.decide_add_station.Goals as goal
 

@@ -1,5 +1,5 @@
 use Rattle.std.proofs.Common.{ℕ, Ok, Err, ap, ◌∙◌, arith}
-use Rattle.bike_queries.specs.declared.rentals.RentalInfo.{RentalInfo}
+use Rattle.bike_summaries.specs.declared.rental.RentalInfo.{RentalInfo}
 use Rattle.bike_days.proofs.WalkLemmas.{text, walk_begins, walk_writes, walk_goes, walk_ends, walk_runs_out, first_failed, next_failed, header_failed, row_failed, table_told}
 use Rattle.bike_days.proofs.Sources.{rentals, rental_asks, rentals_told}
 use Rattle.bike_days.proofs.tables.write_rentals.Goals as goal

@@ -8,7 +8,7 @@ use Rattle.bike_operator.specs.Operator.{Operator}
 use Rattle.bike_accepted.specs.Effects.{Decides}
 use Rattle.bike_booking.specs.Booking.{AreTexts}
 use Rattle.bike_schema.specs.Stands.{AllLeft}
-use Rattle.bike_desk.specs.declared.serve.Served.{Served}
+use Rattle.bike_desk.specs.declared.serve.Outcome.{Outcome}
 use Rattle.bike_desk.specs.Desk.{TreesStandForEither}
 use Rattle.bike_desk.specs.Serving.{Serves}
 use Rattle.bike_desk.proofs.KeepLemmas.{on_err, kept_stores}
@@ -20,7 +20,7 @@ pub returns-in-Err-clause-ok : goal.returns-in-Err-clause-ok
 returns-in-Err-clause-ok g c = rw (sym c.request.view_is) (λ clean s t keeps it.
     let q : Request = record { caller = c.request.inside.caller; key = c.request.inside.key; command = c.request.inside.command } in
     let is = step_refused s t q c.args.now it.later it.anew c.in-Err.refusal (c.in-Err.ensures.decides s it.view_is) in
-    let served : Served = record { reply = Refused c.in-Err.refusal; figures = Some c.args.figures.now } in
+    let served : Outcome = record { reply = Refused c.in-Err.refusal; figures = Some c.args.figures.now } in
     subst (λ (p : Reply × Operator). Serves (state g.S.Store c.args.conn.now) p served) (sym is) (record { reply = refl; keeps = keeps; figures = it.figures_are }))
 
 pub returns-in_err-store_accepted-in-Ok-clause-failed : goal.returns-in_err-store_accepted-in-Ok-clause-failed
@@ -31,9 +31,9 @@ returns-in_err-store_accepted-in-Ok-clause-failed g c = rw (sym c.request.view_i
     let found = c.in-Ok.ensures.found s sound it.view_is in
     let told : AreTexts s c.args.now q (record { caller = c.args.asked.caller; key = c.as_str-key.result; command = c.args.asked.text; reply = c.as_str.result }) =
     record { caller = rw (sym c.request.view_is) at c.requires.asked.caller; key = c.as_str-key.ensures.text; command = rw (sym c.request.view_is) at c.requires.asked.text; reply = c.as_str.ensures.value ∙ c.text-spelled.ensures ∙ ap reply_text decides.1 } in
-    let after = later_read (state g.S.Store c.args.conn.now).now s t c.args.now q c.args.figures.now c.args.sight.now c.in-Ok.accepted c.books_accepted.ensures.sums sound it c.request.invariant decides c.after-after.ensures in
-    let accepts = accepts_read (state g.S.Store c.args.conn.now).now s t c.args.now q c.args.figures.now c.args.sight.now c.in-Ok.accepted c.after-after.result _ sound it c.request.invariant decides found after told in
-    let left = c.store_accepted.ensures.left clean s q keeps it.sight accepts in
+    let after = later_read (state g.S.Store c.args.conn.now).now s t c.args.now q c.args.figures.now c.args.found.now c.in-Ok.accepted c.books_accepted.ensures.sums sound it c.request.invariant decides c.after-after.ensures in
+    let accepts = accepts_read (state g.S.Store c.args.conn.now).now s t c.args.now q c.args.figures.now c.args.found.now c.in-Ok.accepted c.after-after.result _ sound it c.request.invariant decides found after told in
+    let left = c.store_accepted.ensures.left clean s q keeps it.found_for accepts in
     on_err _ (subst (λ (p : Reply × Operator). AllLeft (state g.S.Store c.store_accepted.new.conn) (TreesStandForEither s p.1)) (sym (step_accepted s t q c.args.now it.later it.anew decides.0)) left))
 
 pub returns-in_ok-store_accepted-in-Ok-clause-ok : goal.returns-in_ok-store_accepted-in-Ok-clause-ok
@@ -44,12 +44,12 @@ returns-in_ok-store_accepted-in-Ok-clause-ok g c = rw (sym c.request.view_is) (�
     let found = c.in-Ok.ensures.found s sound it.view_is in
     let told : AreTexts s c.args.now q (record { caller = c.args.asked.caller; key = c.as_str-key.result; command = c.args.asked.text; reply = c.as_str.result }) =
     record { caller = rw (sym c.request.view_is) at c.requires.asked.caller; key = c.as_str-key.ensures.text; command = rw (sym c.request.view_is) at c.requires.asked.text; reply = c.as_str.ensures.value ∙ c.text-spelled.ensures ∙ ap reply_text decides.1 } in
-    let after = later_read (state g.S.Store c.args.conn.now).now s t c.args.now q c.args.figures.now c.args.sight.now c.in-Ok.accepted c.books_accepted.ensures.sums sound it c.request.invariant decides c.after-after.ensures in
-    let accepts = accepts_read (state g.S.Store c.args.conn.now).now s t c.args.now q c.args.figures.now c.args.sight.now c.in-Ok.accepted c.after-after.result _ sound it c.request.invariant decides found after told in
-    let made = c.in_ok-store_accepted-in-Ok.ensures.made clean s q keeps it.sight accepts in
+    let after = later_read (state g.S.Store c.args.conn.now).now s t c.args.now q c.args.figures.now c.args.found.now c.in-Ok.accepted c.books_accepted.ensures.sums sound it c.request.invariant decides c.after-after.ensures in
+    let accepts = accepts_read (state g.S.Store c.args.conn.now).now s t c.args.now q c.args.figures.now c.args.found.now c.in-Ok.accepted c.after-after.result _ sound it c.request.invariant decides found after told in
+    let made = c.in_ok-store_accepted-in-Ok.ensures.made clean s q keeps it.found_for accepts in
     let figures = figures_read s c.args.now q c.in-Ok.accepted c.books_accepted.ensures.figures it.figures_are decides found after in
     let step_is = step_accepted s t q c.args.now it.later it.anew decides.0 in
-    let served : Served = record { reply = c.in-Ok.accepted.reply; figures = Some c.after-after.result } in
+    let served : Outcome = record { reply = c.in-Ok.accepted.reply; figures = Some c.after-after.result } in
     subst (λ (p : Reply × Operator). Serves (state g.S.Store c.store_accepted.new.conn) p served) (sym step_is) (record { reply = decides.1; keeps = made; figures = figures }))
 
 pub returns-in-Err-clause-others : goal.returns-in-Err-clause-others
@@ -63,9 +63,9 @@ returns-in_ok-store_accepted-in-Ok-clause-others g c = rw (sym c.request.view_is
     let found = c.in-Ok.ensures.found s sound it.view_is in
     let told : AreTexts s c.args.now q (record { caller = c.args.asked.caller; key = c.as_str-key.result; command = c.args.asked.text; reply = c.as_str.result }) =
     record { caller = rw (sym c.request.view_is) at c.requires.asked.caller; key = c.as_str-key.ensures.text; command = rw (sym c.request.view_is) at c.requires.asked.text; reply = c.as_str.ensures.value ∙ c.text-spelled.ensures ∙ ap reply_text decides.1 } in
-    let after = later_read (state g.S.Store c.args.conn.now).now s t c.args.now q c.args.figures.now c.args.sight.now c.in-Ok.accepted c.books_accepted.ensures.sums sound it c.request.invariant decides c.after-after.ensures in
-    let accepts = accepts_read (state g.S.Store c.args.conn.now).now s t c.args.now q c.args.figures.now c.args.sight.now c.in-Ok.accepted c.after-after.result _ sound it c.request.invariant decides found after told in
-    c.in_ok-store_accepted-in-Ok.ensures.others clean s q keeps it.sight accepts)
+    let after = later_read (state g.S.Store c.args.conn.now).now s t c.args.now q c.args.figures.now c.args.found.now c.in-Ok.accepted c.books_accepted.ensures.sums sound it c.request.invariant decides c.after-after.ensures in
+    let accepts = accepts_read (state g.S.Store c.args.conn.now).now s t c.args.now q c.args.figures.now c.args.found.now c.in-Ok.accepted c.after-after.result _ sound it c.request.invariant decides found after told in
+    c.in_ok-store_accepted-in-Ok.ensures.others clean s q keeps it.found_for accepts)
 
 pub returns-in-Err-clause-rests : goal.returns-in-Err-clause-rests
 returns-in-Err-clause-rests g c clean s t keeps it same = refl

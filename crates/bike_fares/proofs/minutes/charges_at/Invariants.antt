@@ -1,5 +1,5 @@
 use Rattle.std.proofs.Common.{◌≡◌, ◌*◌, take, pos, neg_ℤ, ◌≤ℤ◌}
-use Rattle.bike_attributes.specs.declared.limits.TheConstants.{GREATEST_RATE}
+use Rattle.bike_fields.specs.declared.limits.TheConstants.{GREATEST_RATE}
 use Rattle.bike_fares.specs.Pricing.{per_min_pricing}
 use Rattle.bike_fares.proofs.minutes.charges_at.Given as goal
 

@@ -8,4 +8,4 @@ returns-clause-wrote g c =
     (member_then c.moment_member.ensures.wrote c.moment_member.ensures.place.0
     (member_then (rw (c.get.ensures.value, c.ttl.ensures) at c.whole_member.ensures.wrote) c.whole_member.ensures.place.0
     (member_last c.text_member.ensures.wrote)))
-    c.text_member.ensures.place.0 c.name.ensures.wrote
+    c.text_member.ensures.place.0 c.member.ensures.wrote

@@ -3,5 +3,5 @@ use Rattle.bike_feed_texts.proofs.frame.open_list.Goals as goal
 
 pub returns-clause-wrote : goal.returns-clause-wrote
 returns-clause-wrote g c =
-    list_head_then c.args.system.now c.args.moment c.args.name.now c.open_feed.ensures.wrote c.open_feed.ensures.place.0
-    c.begin_object.ensures.wrote c.begin_object.ensures.place.0 c.name.ensures.wrote c.name.ensures.place.0 c.begin_array.ensures.wrote
+    list_head_then c.args.system.now c.args.moment c.args.name.plain.now c.open_feed.ensures.wrote c.open_feed.ensures.place.0
+    c.begin_object.ensures.wrote c.begin_object.ensures.place.0 c.member.ensures.wrote c.member.ensures.place.0 c.begin_array.ensures.wrote

@@ -2,4 +2,4 @@ use Rattle.bike_feed_texts.proofs.Objects.{name_then}
 use Rattle.bike_feed_texts.proofs.members.micro_member.Goals as goal
 
 pub returns-clause-wrote : goal.returns-clause-wrote
-returns-clause-wrote g c = name_then c.name.ensures.wrote c.name.ensures.place.0 c.micro.ensures.wrote
+returns-clause-wrote g c = name_then c.member.ensures.wrote c.member.ensures.place.0 c.micro.ensures.wrote

@@ -4,5 +4,5 @@ use Rattle.bike_feed_texts.proofs.status.type_counts_member.Goals as goal
 
 pub returns-clause-wrote : goal.returns-clause-wrote
 returns-clause-wrote g c =
-    name_value c.name.ensures.wrote c.name.ensures.place.0
+    name_value c.member.ensures.wrote c.member.ensures.place.0
     (array_then c.begin_array.ensures.wrote c.write_type_counts.ensures.wrote c.end_array.ensures.wrote)

@@ -7,5 +7,5 @@ returns-clause-wrote g c =
     information_head_then c.args.system.now c.args.moment c.open_feed.ensures.wrote
     c.open_feed.ensures.place.0 c.begin_object.ensures.wrote
     c.begin_object.ensures.place.0 (member_last (rw (c.as_str.ensures.text, c.system_id.ensures) at c.text_member.ensures.wrote))
-    c.text_member.ensures.place.0 c.name.ensures.wrote
-    c.name.ensures.place.0 c.begin_array.ensures.wrote
+    c.text_member.ensures.place.0 c.member.ensures.wrote
+    c.member.ensures.place.0 c.begin_array.ensures.wrote

@@ -1,5 +1,5 @@
 use Rattle.std.proofs.Common.{sym, ap, ◌∙◌}
-use Rattle.bike_incoming.proofs.Once.{asks_once}
+use Rattle.bike_http_request.proofs.Once.{asks_once}
 use Rattle.bike_http.specs.Exchange.{response_of, operator_after}
 use Rattle.bike_http.proofs.laws.answered_once.Goals as goal
 

@@ -1,8 +1,8 @@
-use Rattle.std.proofs.Common.{◌≡◌, ◌∙◌, ℕ, max, inr, sym, ap, refl, subst, arith}
+use Rattle.std.proofs.Common.{◌≡◌, ◌∙◌, ℕ, max, inr, ap, refl, subst, arith}
 use Rattle.sqlite.specs.State.{HasCleanDisk}
 use Rattle.bike_operator.specs.Operator.{Operator}
 use Rattle.bike_feeds.specs.Desk.{desk_state}
-use Rattle.bike_answers.specs.declared.answer.Answer.TheVariants as answer
+use Rattle.bike_http_response.specs.declared.answer.Answer.TheVariants as answer
 use Rattle.bike_http.specs.Telling.{Publishes}
 use Rattle.bike_http.proofs.Told.{query_undone, responds}
 use Rattle.bike_http.proofs.respond.publish.Goals as goal
@@ -16,8 +16,8 @@ returns-in-Ok-clause-sent g c clean s at =
 
 pub returns-in-Err-clause-sent : goal.returns-in-Err-clause-sent
 returns-in-Err-clause-sent g c clean s at =
-    responds g.S.Store c.now.new.self s s _ answer.Unavailable _ _ c.send.result
-    (inr (refl, query_undone g.S.Store c.args.desk.now c.now.new.self s s clean at (λ (o : Operator) (now : ℕ). now ≡ o.now) c.in-Err.field-0 c.in-Err.ensures.query)) c.send.ensures
+    responds g.S.Store c.now.new.self s s _ answer.Unavailable _ _ c.write_answer.result
+    (inr (refl, query_undone g.S.Store c.args.desk.now c.now.new.self s s clean at (λ (o : Operator) (now : ℕ). now ≡ o.now) c.in-Err.field-0 c.in-Err.ensures.query)) c.write_answer.ensures
 
 pub returns-in-Ok-clause-rests : goal.returns-in-Ok-clause-rests
 returns-in-Ok-clause-rests g c clean s at on =

@@ -1,5 +1,5 @@
 use Rattle.std.proofs.Common.{inl, inr, sym, ap, refl}
-use Rattle.bike_answers.specs.declared.answer.Answer.TheVariants as answer
+use Rattle.bike_http_response.specs.declared.answer.Answer.TheVariants as answer
 use Rattle.bike_http.specs.Shown.{not_found}
 use Rattle.bike_http.specs.Exchange.{feed_response}
 use Rattle.bike_http.proofs.Told.{responds}
@@ -18,18 +18,18 @@ pub returns-in-Err-SystemMissing-clause-sent : goal.returns-in-Err-SystemMissing
 returns-in-Err-SystemMissing-clause-sent g c clean s at =
     let h = rw c.in-Err-SystemMissing.field-0-is at c.in-Err-SystemMissing.ensures in
     let none = h.desk.missing clean s at refl in
-    responds g.S.Store c.write_feed.new.desk s s _ not_found _ _ c.send.result (inl (sym (ap (feed_response s c.args.moment c.args.feed) none.0), none.1)) c.send.ensures
+    responds g.S.Store c.write_feed.new.desk s s _ not_found _ _ c.write_answer.result (inl (sym (ap (feed_response s c.args.moment c.args.feed) none.0), none.1)) c.write_answer.ensures
 
 pub returns : goal.returns
 returns g c =
     let h = c.in-Err.ensures in
     record {
       clean = h.desk.clean;
-      sent = λ clean s at. responds g.S.Store c.write_feed.new.desk s s _ answer.Unavailable _ _ c.send-in-Err.result
-          (inr (refl, feed_undone g.S.Store c.args.desk.now c.write_feed.new.desk s s c.in-Err.field-0 clean at h.desk)) c.send-in-Err.ensures;
+      sent = λ clean s at. responds g.S.Store c.write_feed.new.desk s s _ answer.Unavailable _ _ c.write_answer-in-Err.result
+          (inr (refl, feed_undone g.S.Store c.args.desk.now c.write_feed.new.desk s s c.in-Err.field-0 clean at h.desk)) c.write_answer-in-Err.ensures;
       rests = h.desk.rests;
       stays = λ is_stopped. (h.desk.stays is_stopped).1;
-      refuses = λ is_stopped. c.send-in-Err.ensures;
+      refuses = λ is_stopped. c.write_answer-in-Err.ensures;
     }
 
 pub returns-in-Ok-clause-rests : goal.returns-in-Ok-clause-rests

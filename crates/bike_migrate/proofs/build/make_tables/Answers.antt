@@ -1,4 +1,4 @@
-use Rattle.bike_earlier.specs.declared.earlier.Earlier.TheVariants.{First, Second}
+use Rattle.bike_recognition.specs.declared.earlier_versions.earlier.Earlier.TheVariants.{First, Second}
 use Rattle.bike_migrate.proofs.StepLemmas.{does_then, does_under, does_weaker}
 use Rattle.bike_migrate.proofs.BuildLemmas.{newer_unnamed, makes_first, makes_second}
 use Rattle.bike_migrate.proofs.build.make_tables.Goals as goal

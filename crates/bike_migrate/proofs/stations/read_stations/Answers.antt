@@ -2,7 +2,7 @@ use Rattle.std.proofs.Common.{rules, []}
 use Rattle.sqlite.specs.declared.error.Error.{Error}
 use Rattle.bike_rows.specs.Stands.{Stands}
 use Rattle.bike_rows.proofs.ChainLaws.{reads_as}
-use Rattle.bike_earlier.specs.Earlier.{stations_layout}
+use Rattle.bike_recognition.specs.EarlierVersions.Earlier.{stations_layout}
 use Rattle.bike_migrate.specs.Raised.{old_stations}
 use Rattle.bike_migrate.proofs.ReadLemmas.{reads_all, reads_none, asks_old}
 use Rattle.bike_migrate.proofs.stations.read_stations.Goals as goal

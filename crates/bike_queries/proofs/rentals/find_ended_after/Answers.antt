@@ -1,15 +1,15 @@
 use Rattle.std.proofs.Common.{sym, ◌∙◌}
-use Rattle.bike_ledger.specs.Ledger.{refunded_of}
-use Rattle.bike_schema.proofs.AnswerLemmas.{answers_then, answers_both}
-use Rattle.bike_queries.specs.Infos.{rental_info}
+use Rattle.bike_book.specs.Stored.{stored_rental}
+use Rattle.bike_schema.proofs.AnswerLemmas.{answers_then}
+use Rattle.bike_queries.specs.Spans.{ended_after, ended_info}
 use Rattle.bike_queries.proofs.SpanLemmas.{ended_shown, none_mapped}
 use Rattle.bike_queries.proofs.rentals.find_ended_after.Goals as goal
 
-pub returns-in_default : goal.returns-in_default
-returns-in_default g c =
-    answers_then _ _ c.in_ok-rental.ensures (λ s m sound listing is. none_mapped (λ e. e.0) (λ e. (e.0, rental_info (refunded_of e.0 s.entries) e.1)) _ (sym c.in_default.is ∙ is))
+pub returns-in_ok-read_ended-in-Some : goal.returns-in_ok-read_ended-in-Some
+returns-in_ok-read_ended-in-Some g c =
+    answers_then _ _ c.in_ok-row.ensures (λ s m sound listing is.
+    ended_shown s.entries (ended_after s c.args.number c.args.begin c.args.end) (c.in_ok-read_ended-in-Some.ensures s.entries) (sym c.in-Some.is ∙ is))
 
-pub returns-in-Some-2 : goal.returns-in-Some-2
-returns-in-Some-2 g c =
-    answers_then _ _ (answers_both _ _ c.in_ok-rental.ensures c.in_ok-info.ensures) (λ s m sound listing both.
-    ended_shown s c.args.number c.args.begin c.args.end c.in-Some.rental c.in-Some-2.info (sym c.in-Some.is ∙ both.0) (sym c.in-Some-2.is ∙ both.1))
+pub returns-in-None : goal.returns-in-None
+returns-in-None g c =
+    answers_then _ _ c.in_ok-row.ensures (λ s m sound listing is. none_mapped (stored_rental s.entries) (ended_info s.entries) _ (sym c.in-None.is ∙ is))

@@ -1,5 +1,5 @@
-use Rattle.bike_attributes.specs.Vehicle.{form_of, form_text}
-use Rattle.bike_attributes.proofs.Vehicles.{form_full}
+use Rattle.bike_fields.specs.Vehicle.{form_of, form_text}
+use Rattle.bike_fields.proofs.Vehicles.{form_full}
 use Rattle.bike_queries.proofs.NextLemmas.{named_read}
 use Rattle.bike_queries.proofs.types.form_at.Goals as goal
 

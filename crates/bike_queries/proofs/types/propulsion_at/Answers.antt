@@ -1,5 +1,5 @@
-use Rattle.bike_attributes.specs.Vehicle.{propulsion_of, propulsion_text}
-use Rattle.bike_attributes.proofs.Vehicles.{propulsion_full}
+use Rattle.bike_fields.specs.Vehicle.{propulsion_of, propulsion_text}
+use Rattle.bike_fields.proofs.Vehicles.{propulsion_full}
 use Rattle.bike_queries.proofs.NextLemmas.{named_read}
 use Rattle.bike_queries.proofs.types.propulsion_at.Goals as goal
 

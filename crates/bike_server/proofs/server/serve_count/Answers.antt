@@ -16,7 +16,7 @@ loop-turn-init g c = record {
 
 pub serve_arrival-requires : goal.serve_arrival-requires
 serve_arrival-requires g c =
-    opens g.A.Arrivals.may_fail g.A.Reader.Read.remaining g.A.Writer.Write.contents (g.A.Arrivals.known c.loop-turn.arrivals) (g.A.Arrivals.known c.accept.new.self) c.in-Ok-Some.arrival
+    opens g.A.Arrivals.may_fail g.A.Arrivals.connected g.A.Reader.Read.remaining g.A.Writer.Write.contents (g.A.Arrivals.known c.loop-turn.arrivals) (g.A.Arrivals.known c.accept.new.self) c.in-Ok-Some.arrival
     (rw c.in-Ok-Some.field-0-is at c.in-Ok-Some.ensures)
 
 pub returns-in-Ok-None-clause-clean : goal.returns-in-Ok-None-clause-clean
@@ -32,7 +32,7 @@ returns-in-Ok-None-clause-goes_on g c on stopped = absurd (let e : true ≡ fals
 
 pub returns-in-Ok-None-clause-serves : goal.returns-in-Ok-None-clause-serves
 returns-in-Ok-None-clause-serves g c clean s at =
-    no_more g.S.Store g.A.Arrivals.may_fail g.A.Reader.Read.remaining g.A.Writer.Write.contents c.loop-turn.desk s c.args.count c.loop-turn._turn c.loop-turn-test.true
+    no_more g.S.Store g.A.Arrivals.may_fail g.A.Arrivals.connected g.A.Reader.Read.remaining g.A.Writer.Write.contents c.loop-turn.desk s c.args.count c.loop-turn._turn c.loop-turn-test.true
     (g.A.Arrivals.known c.loop-turn.arrivals) (g.A.Arrivals.known c.accept.new.self) (g.A.Arrivals.known c.args.arrivals.now)
     (c.loop-turn.invariant.served clean s at) (rw c.in-Ok-None.field-0-is at c.in-Ok-None.ensures)
 
@@ -49,7 +49,7 @@ returns-in-Err-clause-goes_on g c on stopped = absurd (let e : true ≡ false = 
 
 pub returns-in-Err-clause-serves : goal.returns-in-Err-clause-serves
 returns-in-Err-clause-serves g c clean s at =
-    fails g.S.Store g.A.Arrivals.may_fail g.A.Reader.Read.remaining g.A.Writer.Write.contents c.loop-turn.desk s c.args.count c.loop-turn._turn c.loop-turn-test.true
+    fails g.S.Store g.A.Arrivals.may_fail g.A.Arrivals.connected g.A.Reader.Read.remaining g.A.Writer.Write.contents c.loop-turn.desk s c.args.count c.loop-turn._turn c.loop-turn-test.true
     (g.A.Arrivals.known c.loop-turn.arrivals) (g.A.Arrivals.known c.accept.new.self) c.in-Err.field-0 (g.A.Arrivals.known c.args.arrivals.now)
     (c.loop-turn.invariant.served clean s at) c.in-Err.ensures
 
@@ -67,7 +67,7 @@ pub returns-then-stopped-clause-serves : goal.returns-then-stopped-clause-serves
 returns-then-stopped-clause-serves g c clean s at =
     let it = c.serve_arrival.ensures in
     let early : HasCleanDisk (desk_state g.S.Store c.loop-turn.desk) = omega (arith, clean, it.clean) in
-    stopped_here g.S.Store g.A.Arrivals.may_fail g.A.Reader.Read.remaining g.A.Writer.Write.contents c.loop-turn.desk c.serve_arrival.new.desk s c.loop-turn._turn
+    stopped_here g.S.Store g.A.Arrivals.may_fail g.A.Arrivals.connected g.A.Reader.Read.remaining g.A.Writer.Write.contents c.loop-turn.desk c.serve_arrival.new.desk s c.loop-turn._turn
     (g.A.Arrivals.known c.loop-turn.arrivals) (g.A.Arrivals.known c.accept.new.self) (g.A.Arrivals.known c.serve_arrival.new.arrivals) c.in-Ok-Some.arrival
     (it.served clean) (rw c.in-Ok-Some.field-0-is at c.in-Ok-Some.ensures) (g.A.Arrivals.known c.args.arrivals.now) (c.loop-turn.invariant.served early s at)
     c.args.count c.loop-turn-test.true (sym c.stopped.ensures ∙ c.if-stopped.true)
@@ -87,7 +87,7 @@ loop-turn-preserved g c =
           (now.calls, now.good, now.goes_on goes_on);
       served = λ clean s at.
           let early : HasCleanDisk (desk_state g.S.Store c.loop-turn.desk) = omega (arith, clean, it.clean) in
-          one_more g.S.Store g.A.Arrivals.may_fail g.A.Reader.Read.remaining g.A.Writer.Write.contents c.loop-turn.desk c.serve_arrival.new.desk s c.loop-turn._turn
+          one_more g.S.Store g.A.Arrivals.may_fail g.A.Arrivals.connected g.A.Reader.Read.remaining g.A.Writer.Write.contents c.loop-turn.desk c.serve_arrival.new.desk s c.loop-turn._turn
           (g.A.Arrivals.known c.loop-turn.arrivals) (g.A.Arrivals.known c.accept.new.self) (g.A.Arrivals.known c.serve_arrival.new.arrivals) c.in-Ok-Some.arrival
           (it.served clean) (rw c.in-Ok-Some.field-0-is at c.in-Ok-Some.ensures) (g.A.Arrivals.known c.args.arrivals.now) (c.loop-turn.invariant.served early s at) goes_on;
     }

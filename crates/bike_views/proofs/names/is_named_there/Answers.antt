@@ -1,7 +1,7 @@
 use Rattle.std.proofs.Common.{◌≡◌, ◌⊎◌, inl, inr, List, ℕ, sym, ap, ◌∙◌}
 use Rattle.std.specs.FinMap as map
-use Rattle.bike_attributes.specs.declared.name_kind.NameKind.{NameKind}
-use Rattle.bike_attributes.specs.declared.name_kind.NameKind.TheVariants as named
+use Rattle.bike_fields.specs.declared.name_kind.NameKind.{NameKind}
+use Rattle.bike_fields.specs.declared.name_kind.NameKind.TheVariants as named
 use Rattle.bike_operator.specs.Operator.{Operator}
 use Rattle.bike_operator.specs.Names.{has_named}
 use Rattle.bike_schema.proofs.AnswerLemmas.{reads_weaker}

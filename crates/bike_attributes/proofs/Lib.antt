@@ -1,2 +1,0 @@
-pub mod Vehicles
-pub mod NameKinds

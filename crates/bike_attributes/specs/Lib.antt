@@ -1,4 +1,0 @@
-pub mod Values
-pub mod Faults
-pub mod Vehicle
-pub mod NameKinds

@@ -1,7 +1,0 @@
-use Rattle.std.proofs.Common.{IsTrue}
-use Rattle.bike_connections.specs.Ahead.{Loses}
-use Rattle.bike_connections.proofs.connections.Connections.accept_some.Given as goal
-
--- some may have ended or come in so far
-abbrev pub invariant-loop-turn : goal.invariant-loop-turn
-invariant-loop-turn g l = IsTrue g.N.Socket.Socket.is_known → Loses l.fn.self l.self

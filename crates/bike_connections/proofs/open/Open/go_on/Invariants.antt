@@ -1,7 +1,0 @@
-use Rattle.std.proofs.Common.{IsTrue}
-use Rattle.bike_connections.specs.Ahead.{Loses}
-use Rattle.bike_connections.proofs.open.Open.go_on.Given as goal
-
--- some may have ended so far
-abbrev pub invariant-loop-turn : goal.invariant-loop-turn
-invariant-loop-turn g l = IsTrue g.S.Socket.is_known → Loses l.fn.self l.self

@@ -1,3 +1,0 @@
-mod StationsTexts
-mod StandsLemmas
-mod FoundLemmas

@@ -1,8 +1,0 @@
-use Rattle.bike_earlier.proofs.StationsTexts.{first_defined, second_defined}
-use Rattle.bike_earlier.proofs.earlier.Earlier.stations_definition.Goals as goal
-
-pub returns-in-First : goal.returns-in-First
-returns-in-First c = rw c.in-First.is first_defined
-
-pub returns-in-Second : goal.returns-in-Second
-returns-in-Second c = rw c.in-Second.is second_defined

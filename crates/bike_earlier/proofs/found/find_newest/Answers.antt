@@ -1,7 +1,0 @@
-use Rattle.std.proofs.Common.{refl}
-use Rattle.bike_rows.proofs.ChainLaws.{reads_as}
-use Rattle.bike_earlier.proofs.FoundLemmas.{whole_if}
-use Rattle.bike_earlier.proofs.found.find_newest.Goals as goal
-
-pub returns-in-Ours : goal.returns-in-Ours
-returns-in-Ours g c = reads_as c.in_ok-recognise_tables.ensures (λ db is. whole_if db _ c.in-Ours.is is)

@@ -1,6 +1,0 @@
-pub mod Fields
-pub mod Fronts
-pub mod Digits
-pub mod Fits
-pub mod Parts
-pub mod Taken

@@ -1,8 +1,0 @@
-use Rattle.std.proofs.Common.{◌≡◌, drop, map}
-use Rattle.httparse.specs.Spans.{header_bytes}
-use Rattle.bike_heads.specs.Length.{body_length}
-use Rattle.bike_heads.proofs.Fields.{left}
-use Rattle.bike_heads.proofs.length.body_length.Given as goal
-
-abbrev pub invariant-loop-at : goal.invariant-loop-at
-invariant-loop-at l = body_length (map (header_bytes l.bytes) l.fields) ≡ left l.told (drop l.at (map (header_bytes l.bytes) l.fields))

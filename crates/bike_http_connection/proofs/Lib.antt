@@ -1,0 +1,6 @@
+pub mod Settling
+pub mod Awaiting
+pub mod Complete
+pub mod Sending
+pub mod Reading
+pub mod Beginning

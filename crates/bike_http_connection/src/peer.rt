@@ -1,0 +1,114 @@
+//! The client of a connection.
+
+ghost use Rattle.std.specs.Prelude.{◌≡◌};
+ghost use Rattle.bike_http_connection.specs.Connected.{peer_as, answered};
+
+use crate::answer::Answer;
+use crate::connection::Connection;
+use crate::limits::PATIENCE;
+use crate::socket::{Socket, Wants};
+use bike_fixed::Moment;
+use std::io;
+use std::time::Duration;
+
+/// What the system tells of a socket, by which key.
+#[derive(Clone, Copy, PartialEq, Eq)]
+enum Watched {
+    Nothing,
+    Reads(usize),
+    Writes(usize),
+}
+
+/// A client's socket, the moment at which its connection was accepted, and when it is given up, since this began.
+#[derive(Drop)]
+pub struct Peer<S> {
+    pub(crate) socket: S,
+    pub(crate) moment: Moment,
+    end: Duration,
+    watched: Watched,
+}
+
+impl<S: Socket> Peer<S> {
+    /// A socket that was accepted at this moment, which is now.
+    pub(crate) fn new(socket: S, moment: Moment, now: Duration) -> Peer<S>
+        ensures socket { result.socket ≡ socket }
+        ensures moment { result.moment ≡ moment }
+    {
+        Peer {
+            socket,
+            moment,
+            end: now.saturating_add(Duration::from_secs(PATIENCE)),
+            watched: Watched::Nothing,
+        }
+    }
+
+    /// When the connection was accepted.
+    pub fn moment(&self) -> Moment
+        ensures { result ≡ self.now.moment }
+    {
+        self.moment
+    }
+
+    /// The connection with its answer, which may have been made before all of the request was read (`is_early`).
+    pub fn into_answered(self, answer: Answer, is_early: bool) -> Connection<S>
+        ensures { result ≡ answered (peer_as S.input S.taken self) answer }
+    {
+        Connection::sending(self, answer, is_early)
+    }
+
+    /// When it is given up.
+    pub(crate) fn end(&self) -> Duration {
+        self.end
+    }
+
+    /// Gives it up no later than at this moment.
+    pub(crate) fn end_by(&mut self, end: Duration)
+        ensures { self.new ≡ record self.old { end = self.new.end } }
+    {
+        if end < self.end {
+            self.end = end;
+        }
+    }
+
+    /// Has the system tell what is wanted from now on.
+    fn watch(
+        &mut self,
+        registry: &S::Registry,
+        key: usize,
+        wanted: Watched,
+        wants: Wants,
+    ) -> io::Result<()>
+        ensures kept { S.coming self.new.socket ≡ S.coming self.old.socket }
+        ensures moment { self.new.moment ≡ self.old.moment }
+        ensures own { S.input self.new.socket ≡ S.input self.old.socket }
+        ensures taken { S.taken self.new.socket ≡ S.taken self.old.socket }
+    {
+        let before = self.watched;
+        if before == wanted {
+            return Ok(());
+        }
+        self.watched = wanted;
+        self.socket
+            .watch(registry, key, wants, before == Watched::Nothing)
+    }
+
+    /// Has the system tell when it can be read.
+    pub(crate) fn watch_reads(&mut self, registry: &S::Registry, key: usize) -> io::Result<()>
+        ensures kept { S.coming self.new.socket ≡ S.coming self.old.socket }
+        ensures moment { self.new.moment ≡ self.old.moment }
+        ensures own { S.input self.new.socket ≡ S.input self.old.socket }
+        ensures taken { S.taken self.new.socket ≡ S.taken self.old.socket }
+    {
+        self.watch(registry, key, Watched::Reads(key), Wants::Reads)
+    }
+
+    /// Has the system tell when it can be written.
+    pub(crate) fn watch_writes(&mut self, registry: &S::Registry, key: usize) -> io::Result<()>
+        ensures kept { S.coming self.new.socket ≡ S.coming self.old.socket }
+        ensures moment { self.new.moment ≡ self.old.moment }
+        ensures own { S.input self.new.socket ≡ S.input self.old.socket }
+        ensures taken { S.taken self.new.socket ≡ S.taken self.old.socket }
+    {
+        self.watch(registry, key, Watched::Writes(key), Wants::Writes)
+    }
+}

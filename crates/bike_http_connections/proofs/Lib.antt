@@ -1,0 +1,5 @@
+pub mod Losing
+pub mod Giving
+pub mod Opening
+pub mod Requests
+pub mod Picking

@@ -1,0 +1,7 @@
+use Rattle.std.proofs.Common.{IsTrue}
+use Rattle.bike_http_connections.specs.Ahead.{Loses}
+use Rattle.bike_http_connections.proofs.connections.Connections.next.Given as goal
+
+-- some may have ended or come in so far
+abbrev pub invariant-loop-turn : goal.invariant-loop-turn
+invariant-loop-turn g l = IsTrue g.N.Socket.Socket.is_known → Loses l.fn.self l.self

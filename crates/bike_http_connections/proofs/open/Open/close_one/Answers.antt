@@ -1,0 +1,11 @@
+use Rattle.std.proofs.Common.{refl}
+use Rattle.bike_http_connections.proofs.Losing.{back_again, ends_there}
+use Rattle.bike_http_connections.proofs.open.Open.close_one.Goals as goal
+
+pub returns-then-is_answered : goal.returns-then-is_answered
+returns-then-is_answered g c =
+    back_again c.args.self.now c.remove.new.self _ c.put_back.new.self c.in-Some.connection _ refl c.end_by.ensures
+    c.in-Some.ensures.taken c.put_back.ensures
+
+pub returns-else-is_answered : goal.returns-else-is_answered
+returns-else-is_answered g c = ends_there c.args.self.now c.remove.new.self c.in-Some.connection c.in-Some.ensures.taken

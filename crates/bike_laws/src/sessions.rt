@@ -1,0 +1,53 @@
+//! The laws. What acts in a list of sessions is one list of requests, their history, so what holds of each list holds
+//! of it.
+
+ghost use Rattle.std.specs.Prelude.{◌≡◌, ◌++◌, ◌∷◌, List, length, take, drop};
+ghost use Rattle.bike_operator.specs.Operator.{Operator};
+ghost use Rattle.bike_operator.specs.Sound.{IsSound};
+ghost use Rattle.bike_operator.specs.Runs.{Call, after, replies};
+ghost use Rattle.bike_laws.specs.History.{accepted_of, last_moment_of, IsInOrder, IsServedAgain};
+ghost use Rattle.bike_laws.specs.Sessions.{Session, IsSession, AreCallsOf, history, after_sessions, AcceptsOnce};
+ghost use Rattle.bike_laws.specs.Sessions.{AnswersAgain, RefusesOthers, LeavesRetriesOut};
+
+/// The law of acceptance: of all requests with one caller and key, in whichever sessions they come, at most one is
+/// accepted.
+pub fn once_law()
+    ensures { (s : Operator) (xs : List Session) → AcceptsOnce s xs }
+{}
+
+/// The law of retries: once a request was accepted in some session, a request with its caller and key changes nothing,
+/// later in the session or in any that follows. With an equal command it is answered as the first was, and with another
+/// it is refused.
+pub fn retry_law()
+    ensures again { (s : Operator) (xs : List Session) → AnswersAgain s xs }
+    ensures reused { (s : Operator) (xs : List Session) → RefusesOthers s xs }
+{}
+
+/// The law of lists without retries: requests whose caller and key are kept when they come can be left out of all
+/// sessions.
+pub fn without_retries_law()
+    ensures { (s : Operator) (xs : List Session) → LeavesRetriesOut s xs }
+{}
+
+/// The law of answers: what was answered in a session are the replies to its first requests in the history of all
+/// sessions.
+pub fn answers_law()
+    ensures { (s : Operator) (xs ys : List Session) (x : Session) → IsSession x
+        → take x.answered (replies (after_sessions s xs) x.calls)
+        ≡ take x.answered (drop (length (history xs)) (replies s (history (xs ++ x ∷ ys)))) }
+{}
+
+/// The law of the history: the requests that a list adds to an operator's history, served at the moments that they have
+/// there, lead to the operator after the list, and each is answered as it was. So a copy of a database that is served
+/// what was accepted since stands where the first one stands. No moment of a history lies before an earlier one, and
+/// the last is the operator's.
+pub fn history_law()
+    ensures again { (s : Operator) (cs : List Call) → IsServedAgain s cs }
+    ensures order { (s : Operator) (cs : List Call) → IsInOrder s.now (accepted_of s cs) }
+    ensures last { (s : Operator) (cs : List Call) → (after s cs).now ≡ last_moment_of s.now (accepted_of s cs) }
+{}
+
+/// The law of soundness: the sessions of a sound operator leave a sound one.
+pub fn sound_law()
+    ensures { (s : Operator) (xs : List Session) → AreCallsOf xs → IsSound s → IsSound (after_sessions s xs) }
+{}

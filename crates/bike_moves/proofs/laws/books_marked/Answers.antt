@@ -1,8 +1,0 @@
-use Rattle.bike_moves.proofs.MarkedBooks.{marked_empty, marked_held}
-use Rattle.bike_moves.proofs.laws.books_marked.Goals as goal
-
-pub returns-clause-empty : goal.returns-clause-empty
-returns-clause-empty c = marked_empty
-
-pub returns-clause-held : goal.returns-clause-held
-returns-clause-held c = marked_held

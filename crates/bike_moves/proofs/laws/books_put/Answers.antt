@@ -1,8 +1,0 @@
-use Rattle.bike_moves.proofs.PutBooks.{put_away, put_at_dock}
-use Rattle.bike_moves.proofs.laws.books_put.Goals as goal
-
-pub returns-clause-away : goal.returns-clause-away
-returns-clause-away c = put_away
-
-pub returns-clause-at_dock : goal.returns-clause-at_dock
-returns-clause-at_dock c = put_at_dock

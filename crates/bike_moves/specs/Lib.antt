@@ -1,5 +1,0 @@
-pub mod Facts
-pub mod AddedOrSet
-pub mod Ends
-pub mod Put
-pub mod PutLaws

@@ -1,5 +1,0 @@
-use Rattle.bike_places.proofs.MarkLaw as mark
-use Rattle.bike_places.proofs.counts.mark_law.Goals as goal
-
-pub returns : goal.returns
-returns c = λ s next station dock broken h sound. mark.mark_law s next station dock broken h sound

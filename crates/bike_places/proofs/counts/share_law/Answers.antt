@@ -1,5 +1,0 @@
-use Rattle.bike_places.proofs.ShareLaw as share
-use Rattle.bike_places.proofs.counts.share_law.Goals as goal
-
-pub returns : goal.returns
-returns c = λ s at broken b h. share.share_law s at broken b h

@@ -1,0 +1,3 @@
+pub mod StationsTexts
+pub mod StandsLemmas
+pub mod FoundLemmas

@@ -1,0 +1,8 @@
+use Rattle.bike_recognition.proofs.EarlierVersions.StationsTexts.{first_rowids, second_rowids}
+use Rattle.bike_recognition.proofs.earlier_versions.earlier.Earlier.stations_rowids.Goals as goal
+
+pub returns-in-First : goal.returns-in-First
+returns-in-First c = rw c.in-First.is first_rowids
+
+pub returns-in-Second : goal.returns-in-Second
+returns-in-Second c = rw c.in-Second.is second_rowids

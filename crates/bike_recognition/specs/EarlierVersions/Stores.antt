@@ -1,0 +1,42 @@
+-- When a database stands for an operator at a version.
+use Rattle.std.specs.Prelude.{◌≡◌, ℕ, ◌≤◌, List, [], ◌∷◌, Option, Some, None}
+use Rattle.std.specs.FinMap as fin
+use Rattle.sqlite_trees.specs.Tree.{Trees}
+use Rattle.sqlite_schema.specs.declared.schema.Schema.{Schema}
+use Rattle.sqlite.specs.Effect.{Database, IsDatabase}
+use Rattle.bike_ledger.specs.Ledger.{cash_of, revenue_of}
+use Rattle.bike_operator.specs.Operator.{Operator, Station}
+use Rattle.bike_operator.specs.Sound.{IsSound}
+use Rattle.bike_book.specs.Tables.{Tables}
+use Rattle.bike_book.specs.Rows.{meta_row}
+use Rattle.bike_book.specs.Stored.{Listed, IsListing, tables_for}
+use Rattle.bike_schema.specs.Stands.{StandsFor}
+use Rattle.bike_recognition.specs.declared.earlier_versions.earlier.Earlier.{Earlier}
+use Rattle.bike_recognition.specs.declared.earlier_versions.earlier.TheConstants.{MOST_DOCKS_BEFORE}
+use Rattle.bike_recognition.specs.EarlierVersions.Earlier.{number_of, tables_at, IsAt}
+
+-- the tables of the operator, with the version's number in meta's row
+abbrev pub tables_for_at : Earlier → Operator → Listed → Tables
+tables_for_at e s m = record (tables_for s m) { meta = meta_row (number_of e) s.now (cash_of s.entries) (revenue_of s.entries) ∷ [] }
+
+-- no station has more docks than an earlier version allows
+abbrev pub HasFewDocks : Operator → Type 0
+HasFewDocks s = (id : List ℕ) (x : Station) → fin.get s.stations id ≡ Some x → x.row.docks ≤ MOST_DOCKS_BEFORE
+
+-- At an earlier version the tables are those of the operator, who is sound, with rows for these docks and counts.
+pub record StoresAt (e : Earlier) (db : Database) (s : Operator) : Type 0 where
+  pub is_at : IsAt e db
+  pub sound : IsSound s
+  pub few_docks : HasFewDocks s
+  pub listed : Listed
+  pub listing : IsListing s listed
+  pub tables : tables_at e db ≡ tables_for_at e s listed
+
+-- THE DATABASE STANDS FOR THE OPERATOR at a version: an earlier one, or, where none is named, the newest
+abbrev pub StandsForAt : Option Earlier → Database → Operator → Type 0
+StandsForAt None db s = StandsFor db s
+StandsForAt (Some e) db s = IsDatabase db × StoresAt e db s
+
+-- the same of stored trees, which hold their own schema
+abbrev pub TreesStandForAt : Option Earlier → Operator → Trees → Type 0
+TreesStandForAt v s trees = (schema : Schema) × StandsForAt v (record { schema = schema; trees = trees }) s

@@ -1,2 +1,0 @@
-mod PartLemmas
-pub mod SightLemmas
