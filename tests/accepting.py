@@ -20,9 +20,10 @@ PASSING = [
 # What is over with one try: the connection of this failure alone is gone.
 OVER_AT_ONCE = errno.ECONNABORTED, errno.EINTR
 # How long accepting fails, in seconds, and how often it is tried then, for each of these seconds.
-FAILING, MOST_TRIES = 1, 16
-# Within how many seconds of the end of it the next client is answered, on a busy machine, and who is open meanwhile.
-SOON = 1
+FAILING, LEAST_TRIES, MOST_TRIES = 1, 3, 16
+# Within how many seconds of the end of it the next client is answered, and who is open meanwhile. That it is tried again
+# soon is told by the count of tries; these seconds leave room for a disk on which one commit takes some of them.
+SOON = 8
 # How many nanoseconds of a processor the failing may take.
 MOST_WORK = 200_000_000
 
@@ -99,7 +100,7 @@ def failing(server, system, clients, number, is_alone):
             work, tries, took = processor(server.child) - work, system.tried(), time.monotonic() - begun
             assert server.child.poll() is None, f"{name}: it ended"
             if number not in OVER_AT_ONCE:
-                assert 1 <= tries <= MOST_TRIES * took, f"{name}: {tries} tries in {took:.1f} seconds"
+                assert LEAST_TRIES <= tries <= MOST_TRIES * took, f"{name}: {tries} tries in {took:.1f} seconds"
                 assert work < MOST_WORK * took, f"{name}: {work} ns of a processor in {took:.1f} seconds"
             since = time.monotonic()
             system.accept()

@@ -595,7 +595,7 @@ def is_stopped(child):
 ENDS = [(signal.SIGKILL, False), (signal.SIGTERM, False), (signal.SIGHUP, False)]
 ENDS += [(signal.SIGTERM, True), (signal.SIGHUP, True), (signal.SIGINT, True), *[(signal.SIGKILL, True)] * 10]
 # Within how many seconds the program goes on.
-AT_ONCE = 1
+AT_ONCE = 5
 
 
 def test_a_script_that_is_ended(program):

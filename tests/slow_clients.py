@@ -20,8 +20,9 @@ from shared import (
 )
 
 PATIENCE, MOST_OPEN, DESCRIPTORS = 10, 1000, 1016
-# What a busy machine may take, in seconds: for an answer, and beyond the patience until a connection is closed.
-SOON, SLACK = 2, 3
+# What a busy machine with a slow disk may take, in seconds: for an answer, and beyond the patience until a connection
+# is closed. An answer that waits for a slow client takes as long as the patience is.
+SOON, SLACK = 5, 5
 # How long what is sent behind an early answer is still read.
 LINGER = 0.2
 # How much more memory many connections take, and so do all answers under way.
@@ -217,7 +218,7 @@ def feeds_wait_for_room(case):
         slow = begin(server, [lambda: Slow(server, UNREAD)] * 20)
         for it in slow:
             it.go_on()
-        time.sleep(SLACK)
+        time.sleep(3)
 
         def beside(number):
             return waited(server, office(f"k{number}", f"add-rider\t{1000 + number}"), DONE)
@@ -337,7 +338,7 @@ def a_store_that_fails(case):
             slow = [Slow(server, it) for it in MANNERS for _ in range(5)]
             for it in slow:
                 it.go_on()
-            time.sleep(SOON)
+            time.sleep(2)
 
             def asked(number):
                 with contextlib.suppress(ConnectionError):
@@ -467,7 +468,7 @@ def test_clients_that_send_on(program):
                 with contextlib.suppress(OSError):
                     client.sendall(b"x" * 1000)
             at, left = time.monotonic() - begun, server.descriptors() - before
-            assert at < LINGER + 2 * SOON, f"{left} are open after {at:.1f} seconds"
+            assert at < LINGER + SOON, f"{left} are open after {at:.1f} seconds"
             took = waited(server, get("/riders/9"), error(404)) + waited(server, STATUS, status)
             assert took < SOON, took
             time.sleep(0.02)
