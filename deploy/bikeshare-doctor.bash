@@ -1,4 +1,4 @@
-# Completion of bikeshare-doctor's words in bash.
+# Completion of bikeshare-doctor's subcommands in bash.
 
 _bikeshare_doctor() {
     local typed=${COMP_WORDS[COMP_CWORD]} word=${COMP_WORDS[1]} known=

@@ -1,10 +1,10 @@
-# Completion of bikeshare's words in bash. tests/package.py compares it with the program's usage text.
+# Completion of bikeshare's subcommands in bash. tests/package.py compares it with the program's usage text.
 
 _bikeshare() {
     local at place=0 word=
     COMPREPLY=()
 
-    # The word, and how many values stand behind it. An option takes the next one, or what bash parts from it at the sign =.
+    # The subcommand, and how many values stand behind it. An option takes the next one, or what bash parts from it at the sign =.
     for ((at = 1; at < COMP_CWORD; at++)); do
         case ${COMP_WORDS[at]} in
         --at | --port | --count)

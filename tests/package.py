@@ -282,8 +282,8 @@ def test_package(program):
 
 
 def usage_of(program):
-    """The parts of the usage text: its first line, the words and the options, each with what is said of it, and the
-    lines behind them."""
+    """The parts of the usage text: its first line, the subcommands and the options, each with what is said of it, and
+    the lines behind them."""
     status, _, said = program.run("--help")
     first, *lines = said.decode().splitlines()
     rows = [re.fullmatch(r"  (\S.*?)  +(\S.*)", it).groups() for it in lines if it.startswith(" ")]
@@ -323,12 +323,12 @@ def sections_of(page):
 
 
 def test_the_manual_page_tells_the_usage_text(program):
-    """Its words, options and values are those of the usage text, in the same words; its statuses are those of
+    """Its subcommands, options and values are those of the usage text, in the same words; its statuses are those of
     docs/OPERATOR.md."""
     first, words, options, values = usage_of(program)
     page = sections_of((DEPLOY / "bikeshare.1").read_text())
     assert page["SYNOPSIS"] == [("", first)], page["SYNOPSIS"]
-    for name, wanted in (("WORDS", words), ("OPTIONS", options), ("VALUES", [("", it) for it in values])):
+    for name, wanted in (("SUBCOMMANDS", words), ("OPTIONS", options), ("VALUES", [("", it) for it in values])):
         for one, other in zip(page[name], wanted):
             assert one == other, (name, one, other)
         assert len(page[name]) == len(wanted), (name, page[name])

@@ -444,7 +444,8 @@ def test_words(program):
         ("-a.db", ["-a.db"]),
     ):
         words.is_mistaken(program, f"{extra} is unexpected; wanted is {form}", "raise", *given)
-    assert words.refused(program, "Raise", "a.db").startswith("bikeshare: Raise is no word of bikeshare; wanted is ")
+    said = words.refused(program, "Raise", "a.db")
+    assert said.startswith("bikeshare: Raise is no subcommand of bikeshare; wanted is "), said
     file = of_sql(program.folder, 1)
     file.rename(file.with_name("-city.db"))
     assert program.run("raise", "--", "-city.db", given=b"x\n") == DONE

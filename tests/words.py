@@ -185,8 +185,8 @@ def test_first_words_that_are_none(program):
         ["start", "city.db"], ["Init", "city.db"], ["city.db"], ["-x"], ["--"], ["--", "init", "city.db"],
         ["help", "nothing"],
     ):
-        is_mistaken(program, f"{words[0]} is no word of bikeshare; wanted is {wanted}", *words)
-    is_mistaken(program, f"(empty) is no word of bikeshare; wanted is {wanted}", "")
+        is_mistaken(program, f"{words[0]} is no subcommand of bikeshare; wanted is {wanted}", *words)
+    is_mistaken(program, f"(empty) is no subcommand of bikeshare; wanted is {wanted}", "")
 
 
 def test_values_that_are_missing(program):
@@ -278,14 +278,14 @@ def test_what_was_typed_is_shown_on_one_line(program):
         is_mistaken(program, f"NAME is {shown}; wanted is {FEEDS}", "feed", "city.db", text)
         is_mistaken(
             program,
-            f"{shown} is no word of bikeshare; wanted is init, check, raise, lines, feed, day, import or serve",
+            f"{shown} is no subcommand of bikeshare; wanted is init, check, raise, lines, feed, day, import or serve",
             text,
         )
 
 
 def test_words_that_are_not_utf_8(program):
     said = refused(program, "init", b"\xff")
-    assert said == f"bikeshare: a word isn't UTF-8; wanted is UTF-8\n{helped(program, '--help')}", said
+    assert said == f"bikeshare: an argument isn't UTF-8; wanted is UTF-8\n{helped(program, '--help')}", said
 
 
 # ---- Every word over a file that is refused, that others have tables in, or that isn't there

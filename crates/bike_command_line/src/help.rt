@@ -1,5 +1,5 @@
-//! How the program is used: all its words, or one of them. The texts stand in pieces, which are joined when they are
-//! written.
+//! How the program is used: all its subcommands, or one of them. The texts stand in pieces, which are joined when they
+//! are written.
 
 ghost use Rattle.std.specs.Prelude.{◌≡◌, ◌⊎◌, codes, true};
 ghost use Rattle.bike_command_line.specs.Program.{form_of, has_line, tells, word_of};
@@ -8,7 +8,7 @@ ghost use Rattle.bike_command_line.specs.declared.task.Task.{Task};
 
 use crate::word::Word;
 
-// Each word with what it takes, and what it does.
+// Each subcommand with what it takes, and what it does.
 const INIT: &str = "init FILE";
 
 const INIT_DOES: &str =
@@ -80,7 +80,7 @@ const ROW: &str = "  ";
 
 const FIRST_ROW: &str = "\n\n  ";
 
-/// The word with what it takes.
+/// The subcommand with what it takes.
 pub(crate) fn form_of(word: Word) -> &'static str
     ensures { (task : Task) → word_of task ≡ word → result.now ≡ form_of task }
 {
@@ -96,7 +96,7 @@ pub(crate) fn form_of(word: Word) -> &'static str
     }
 }
 
-/// How the program is used, with a line for each word and for each option.
+/// How the program is used, with a line for each subcommand and for each option.
 pub fn usage() -> &'static [&'static str]
     ensures words { (task : Task) → tells (text_of result.now) task ≡ true }
     ensures at { has_line (text_of result.now) (codes "--at M") ≡ true }
@@ -105,7 +105,7 @@ pub fn usage() -> &'static [&'static str]
 {
     &[
         HEAD,
-        "[WORD FILE ..]",
+        "[SUBCOMMAND FILE ..]",
         FIRST_ROW,
         INIT,
         INIT_DOES,
@@ -141,11 +141,11 @@ pub fn usage() -> &'static [&'static str]
         DAY_IS,
         IMPORT_IS,
         FILE_IS,
-        "No words at all are lines :memory:.\n",
+        "No arguments at all mean lines :memory:.\n",
     ]
 }
 
-/// How one word is used: its line, and those of its options and its values.
+/// How one subcommand is used: its line, and those of its options and its values.
 pub fn usage_of(word: Word) -> &'static [&'static str]
     ensures word { (task : Task) → word_of task ≡ word → tells (text_of result.now) task ≡ true }
     ensures at { (word ≡ Word.Feed) ⊎ (word ≡ Word.Import) → has_line (text_of result.now) (codes "--at M") ≡ true }

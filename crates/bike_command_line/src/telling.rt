@@ -1,4 +1,4 @@
-//! How a mistake is told: a line that says what is wrong and what is wanted, and the usage of the word.
+//! How a mistake is reported: a line that says what is wrong and what is wanted, and the usage of the subcommand.
 
 use crate::help::{FEEDS, form_of, usage, usage_of};
 use crate::mistake::Mistake;
@@ -6,13 +6,13 @@ use crate::value::Value;
 use crate::word::Word;
 use std::fmt;
 
-/// The names of the words.
-const WORDS: &str = "init, check, raise, lines, feed, day, import or serve";
+/// The names of the subcommands.
+const SUBCOMMANDS: &str = "init, check, raise, lines, feed, day, import or serve";
 
-/// How many characters of a word are shown.
+/// How many characters of an argument are shown.
 const MOST_SHOWN: usize = 60;
 
-/// A word as it is shown: in characters that are seen, on one line, and cut where it is long.
+/// An argument as it is shown: in characters that are seen, on one line, and cut where it is long.
 #[derive(Drop)]
 struct Shown<'a>(&'a str);
 
@@ -58,7 +58,7 @@ fn name_of(option: &str) -> &str {
     }
 }
 
-/// What is wanted behind an option of the word.
+/// What is wanted behind an option of the subcommand.
 fn wanted_behind(word: Word, option: &str) -> &'static str {
     match Value::behind(word, option) {
         Some(value) => wanted_as(value),
@@ -103,12 +103,12 @@ impl fmt::Display for Line<'_> {
     fn fmt<W: fmt::Write>(&self, f: &mut fmt::Formatter<W>) -> fmt::Result {
         match self.0 {
             Mistake::Help { .. } => Ok(()),
-            Mistake::NoText => f.write_str("bikeshare: a word isn't UTF-8; wanted is UTF-8\n"),
+            Mistake::NoText => f.write_str("bikeshare: an argument isn't UTF-8; wanted is UTF-8\n"),
             Mistake::UnknownWord { text } => {
-                let word = Shown(text);
+                let first = Shown(text);
                 writeln!(
                     f,
-                    "bikeshare: {word} is no word of bikeshare; wanted is {WORDS}"
+                    "bikeshare: {first} is no subcommand of bikeshare; wanted is {SUBCOMMANDS}"
                 )
             }
             Mistake::Unexpected { word, text } => {
@@ -127,7 +127,7 @@ impl fmt::Display for Line<'_> {
                 let (name, form) = (word.name(), form_of(word));
                 writeln!(
                     f,
-                    "bikeshare: the words are none of {name}; wanted is {form}"
+                    "bikeshare: the arguments are none of {name}; wanted is {form}"
                 )
             }
             Mistake::Missing { value, .. } => {
@@ -142,8 +142,8 @@ impl fmt::Display for Line<'_> {
     }
 }
 
-/// What is wrong and what is wanted, on a line, and how the word is used, or the program where it is no word's. Of a
-/// wish for help the usage alone.
+/// What is wrong and what is wanted, on a line, and how the subcommand is used, or the program if it belongs to none.
+/// Of a wish for help the usage alone.
 impl fmt::Display for Mistake<'_> {
     fn fmt<W: fmt::Write>(&self, f: &mut fmt::Formatter<W>) -> fmt::Result {
         let usage = match self.word() {
