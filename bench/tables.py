@@ -208,7 +208,7 @@ GOALS = [
         ),
     ),
     Row(
-        "- `station_information` of 5,000, with three further names each, beside none", "twice of it", "", "",
+        "- `station_information` of 5,000, with three further names each, compared with none", "twice of it", "", "",
         "{bikeshare.names:3} times",
         reached=at_most("bikeshare.names", 2),
     ),
@@ -225,7 +225,7 @@ GOALS = [
         for size, most in ((100_000, 5), (1_000_000, 80))
     ),
     Row(
-        "- the audit beside opening: 100,000 rentals; 1,000,000", "0.4 of it", "", "",
+        "- the audit compared with opening: 100,000 rentals; 1,000,000", "0.4 of it", "", "",
         "{bikeshare.audit-100000}; {bikeshare.audit-1000000}",
         reached=lambda it: "; ".join(yes(it[f"bikeshare.audit-{size}"] <= 0.4) for size in (100_000, 1_000_000)),
     ),
@@ -249,7 +249,7 @@ GOALS = [
         reached=at_most("bikeshare.served-1000000", 40),
     ),
     Row(
-        "11. the table of a day among 1,000,000 rentals", "2 s", "", "", "{bikeshare.day-1000000} s behind the opening",
+        "11. the table of a day among 1,000,000 rentals", "2 s", "", "", "{bikeshare.day-1000000} s after the opening",
         reached=at_most("bikeshare.day-1000000", 2),
     ),
     Row(
@@ -259,13 +259,13 @@ GOALS = [
         reached=growth_reached,
     ),
     Row(
-        "13. a start of a rider with 4,000 rentals, beside one of a rider with none, once each rental was read",
+        "13. a start of a rider with 4,000 rentals, compared with one of a rider with none, once each rental was read",
         "1.5 times of it", "", "", "{bikeshare.many} and {bikeshare.none} microseconds, {bikeshare.past:3} times",
         reached=at_most("bikeshare.past", 1.5),
     ),
     Row(
-        "14. a city without regions and further names, beside before schema 3: instructions of a request; a feed; "
-        "opening"
+        "14. a city without regions and further names, compared with before schema 3: instructions of a request; "
+        "a feed; opening"
     ),
 ]
 REQUESTS = [
