@@ -243,6 +243,53 @@ def test_widths_of_code(program):
     assert files and not wide, wide
 
 
+FUNCTION = re.compile(r"\s*(?:pub(?:\(\w+\))? )?(?:const |unsafe )*fn (\w+)")
+CLAUSE = re.compile(r"\s*(requires|ensures) ")
+# A contract of so many clauses is laid out in groups, and none of these has more than so many.
+LONG_CONTRACT = 6
+LONGEST_GROUP = 9
+
+
+def groups_of_clauses(text):
+    """The functions of a file, each with its clauses: those before the first comment of its contract, and those after
+    each. A clause may go over lines."""
+    name, groups, within = None, [], 0
+    for line in text.splitlines():
+        function, clause = FUNCTION.match(line), CLAUSE.match(line)
+        if function:
+            name, groups, within = function[1], [[]], 0
+        if name and (within or clause):
+            groups[-1] += [] if within else [clause[1]]
+            within += line.count("{") - line.count("}")
+        elif name and line.lstrip().startswith("// "):
+            groups.append([])
+        elif name and line.rstrip().endswith(("{", "{}", ";")):
+            yield name, groups
+            name = None
+
+
+def is_laid_out(groups):
+    """Each clause of a long contract has a comment before its group, but for what callers owe."""
+    if sum(map(len, groups)) < LONG_CONTRACT:
+        return True
+    return "ensures" not in groups[0] and all(0 < len(it) <= LONGEST_GROUP for it in groups[1:])
+
+
+def test_long_contracts_are_laid_out(program):
+    """Before each group of clauses a comment says what the group promises."""
+    clauses = "    requires { a }\n    ensures b { let c = 1 in\n        c ≡ record { d = c;\n        } }\n"
+    assert list(groups_of_clauses(f"pub fn f()\n{clauses}    // D.\n{clauses}{{\n    // E.\n}}\nfn g() {{\n}}\n")) == [
+        ("f", [["requires", "ensures"], ["requires", "ensures"]]), ("g", [[]])
+    ]
+    owed, promised = ["requires"] * 4, ["ensures"] * 2
+    assert is_laid_out([promised * 2]) and is_laid_out([owed, promised, promised])
+    assert not any(map(is_laid_out, ([owed + promised], [owed, promised, []], [[], promised * 5])))
+    files = sorted((TOP / "crates").glob("*/src/**/*.rt"))
+    contracts = [(it, *each) for it in files for each in groups_of_clauses(it.read_text(encoding="utf-8"))]
+    bare = [(str(it.relative_to(TOP)), name) for it, name, groups in contracts if not is_laid_out(groups)]
+    assert len(contracts) > 1000 and not bare, bare
+
+
 PUBLIC = re.compile(r"\s*pub (?:const |unsafe )?(?:fn|struct|enum|trait|const|type|static) (\w+)")
 
 

@@ -12,6 +12,7 @@ ghost use Rattle.bike_book.specs.NotThere.{WhereSound, NoRefundsYet, NoBalanceYe
 
 /// The laws of the changes of the catalogue.
 pub fn books_catalogue()
+    // Records of the catalogue that are set or added.
     ensures set_system { Everywhere SetSystemLaw }
     ensures add_plan { Everywhere AddPlanLaw }
     ensures add_type { Everywhere AddTypeLaw }
@@ -20,10 +21,12 @@ pub fn books_catalogue()
     ensures add_station { Everywhere AddStationLaw }
     ensures set_station { Everywhere SetStationLaw }
     ensures set_region { Everywhere SetRegionLaw }
+    // Names that are set, and those in a further language that are added, set or removed.
     ensures add_name { Everywhere AddNameLaw }
     ensures set_own_name { Everywhere SetOwnNameLaw }
     ensures set_further_name { Everywhere SetFurtherNameLaw }
     ensures remove_name { Everywhere RemoveNameLaw }
+    // Corrections of the system, and of where a station lies.
     ensures change_system { Everywhere ChangeSystemLaw }
     ensures move_station { Everywhere MoveStationLaw }
 {}

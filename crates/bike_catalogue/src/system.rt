@@ -101,6 +101,7 @@ impl System {
         base_url: &str,
         ttl: TimeToLive,
     ) -> Result<System, AllocError>
+        // Each text keeps the bounds of its field.
         requires system_id { is_ident system_id.now ≡ true }
         requires language { is_language language.now ≡ true }
         requires name { is_name name.now ≡ true }
@@ -109,6 +110,7 @@ impl System {
         requires timezone { is_ascii_field timezone.now ≡ true }
         requires currency { is_currency currency.now ≡ true }
         requires base_url { is_ascii_field base_url.now ≡ true }
+        // The system is made of these fields.
         ensures { IfOk result (λ system. system ≡ system_of_fields system_id.now language.now name.now opening_hours.now
             feed_contact_email.now timezone.now currency.now base_url.now ttl) }
     {

@@ -17,9 +17,11 @@ use bike_feed_texts::Feed;
 /// that begins with a hyphen. A FILE that begins with a hyphen stands behind `--`, and an option may stand before the
 /// FILE. The numbers of what is asked lie within their bounds.
 pub fn word_laws()
+    // Each task that is spelled as usual is read, and what is read lies within its bounds.
     ensures file { (task : Task) (file : Text) → starts_with_minus file ≡ false → IsWithin task
         → Ask (words_for task file) task file }
     ensures within { (texts : List Text) (task : Task) (file : Text) → Ask texts task file → IsWithin task }
+    // A FILE behind `--`; nothing without a FILE, or with two, a flag, another word or a wish for help.
     ensures dashes { Ask (parted (codes "init -- -f")) (Task.OnFile FileTask.Init) (codes "-f") }
     ensures bare { (task : Task) → AskNothing (name_of task ∷ []) }
     ensures second { AskNothing (parted (codes "check f g")) }
@@ -28,6 +30,7 @@ pub fn word_laws()
     ensures help { AskNothing (parted (codes "help")) }
     ensures flag_help { AskNothing (parted (codes "--help")) }
     ensures word_help { AskNothing (parted (codes "lines --help")) }
+    // A feed, now or at a moment; nothing without a known NAME, or with a moment out of its bounds.
     ensures feed { Ask (parted (codes "feed f station_status"))
         (Task.OnFile (FileTask.Feed Feed.StationStatus None)) (codes "f") }
     ensures feed_at { Ask (parted (codes "feed f station_status --at 1700000000"))
@@ -37,11 +40,13 @@ pub fn word_laws()
     ensures signed { AskNothing (parted (codes "feed f gbfs --at -1")) }
     ensures tied { AskNothing (parted (codes "feed f gbfs --at=-1")) }
     ensures late { AskNothing (parted (codes "feed f gbfs --at 253402300800")) }
+    // A day table; nothing without a known WHICH and a ZONE.
     ensures day { (date zone : Bor Text) → date.now ≡ codes "x" → zone.now ≡ codes "-1"
         → Ask (parted (codes "day -- f rentals x -1"))
         (Task.OnFile (FileTask.Day DayTable.Rentals date zone)) (codes "f") }
     ensures no_table { AskNothing (parted (codes "day f riders 2024-03-31 UTC0")) }
     ensures no_zone { AskNothing (parted (codes "day f entries 2024-03-31")) }
+    // An import, now or at a moment; nothing without a NAME that is an identifier.
     ensures import { (name : Bor Text) → name.now ≡ codes "harbor-2"
         → Ask (parted (codes "import f harbor-2")) (Task.OnFile (FileTask.Import name None)) (codes "f") }
     ensures import_at { (name : Bor Text) → name.now ≡ codes "harbor-2"
@@ -49,6 +54,7 @@ pub fn word_laws()
         (Task.OnFile (FileTask.Import name (Some 1700000000))) (codes "f") }
     ensures no_ident { AskNothing (parted (codes "import f Harbor")) }
     ensures unnamed { AskNothing (parted (codes "import f")) }
+    // Serving; nothing without a port, of a number out of its bounds, or of an option twice or at another word.
     ensures serve { Ask (parted (codes "serve f --port 8080")) (Task.Serve 8080 None) (codes "f") }
     ensures serve_one { Ask (parted (codes "serve f --port 0 --count 1"))
         (Task.Serve 0 (Some 1)) (codes "f") }

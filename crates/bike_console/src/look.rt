@@ -76,11 +76,14 @@ fn stand_in<D: Disk, S: Start>(
     log: Memory,
     db: Option<Memory>,
 ) -> (KeptFiles<D>, Files<Looked<D, S>>)
+    // The files hold what they held at the start, and can be used.
     requires held { HoldsOnly D.Disk S.Start.log files.log × HoldsOnly D.Disk S.Start.db files.db }
     requires usable { IsTrue (memory_is_usable log) × IsTrue (D.Disk.is_usable files.db) }
+    // A copy has the bytes of its file, if the disk is clean.
     requires log { IsClean D.Disk files.log → memory_bytes log ≡ S.Start.log }
     requires db { IfSome db (λ copy. IsTrue (memory_is_usable copy)
         × (IsClean D.Disk files.db → memory_bytes copy ≡ S.Start.db)) }
+    // What stands in their place shows those bytes, and can be used.
     ensures seen { AreSeen D.Disk S.Start result.0 (shown_by D.Disk S.Start result.1) }
     ensures usable { AreUsable D.Disk S.Start result.1 }
 {

@@ -53,9 +53,11 @@ pub fn booked(balance: Cents, entry: Entry, refunded: Option<Cents>) -> Booked
 
 /// The fare of a rental that ends now, booked by the closing rule.
 pub fn fare_booked(entries: u32, row: &RentalView, now: Moment) -> Booked
+    // The ledger has room, the rental began, and its rider has a balance.
     requires few { entries < MOST_ENTRIES }
     requires began { row.now.rental.start ≤ now }
     requires balance { IsBalance row.now.balance }
+    // The entry: a fare of this rental to its rider, with the next number.
     ensures entry { result.entry ≡ record {
       number = entries + 1;
       kind = kind.Fare;
@@ -64,6 +66,7 @@ pub fn fare_booked(entries: u32, row: &RentalView, now: Moment) -> Booked
       amount = fare_now row.now now;
       at = now;
     } }
+    // The balance with it; nothing is refunded.
     ensures balance { result.balance ≡ row.now.balance +ℤ credit kind.Fare (fare_now row.now now) }
     ensures refunded { result.refunded ≡ None }
 {

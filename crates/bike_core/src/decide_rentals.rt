@@ -265,8 +265,11 @@ struct Refunding<'a> {
 
 /// The refund, or the first refusal of it.
 fn check_refund(view: &View, amount: Payment) -> Result<Refunding<'_>, Refusal>
+    // The refunds so far are no more than the fare.
     requires { IfSome view.now.rental (λ r. IfSome r.rental.closing (λ c. IsRefundable view.now.entries r c.fare)) }
+    // Exactly the first refusal of the tests, or none.
     ensures tests { (rental : ℕ) → refusal_in result ≡ first (tests view.now (command.Refund rental amount)) }
+    // Not refused: the rental of the view is closed, an entry has room, and what is refunded with this.
     ensures rental { IfOk result (λ r. view.now.rental ≡ Some r.rental.now) }
     ensures is_closed { IfOk result (λ r. IsSome r.rental.now.rental.closing) }
     ensures room { IfOk result (λ r. view.now.is_ledger_full ≡ false) }

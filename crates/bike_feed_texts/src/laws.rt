@@ -34,10 +34,12 @@ pub fn further_name_laws()
 /// `close_list` writes. Of the system's, what `open_information` writes, the languages, and what `close_information`
 /// writes.
 pub fn list_text_laws()
+    // The feed of the system, with the list of its languages.
     ensures system_information { (s : Operator) (x : SystemRow) (seconds : ℕ)
         → text_of (feed_tree s x Feed.SystemInformation seconds) ≡ information_head_text x seconds
         ++ (items_text false (items text (x.language ∷ further_languages s))
         ++ information_end_text x (further_names s named.System x.system_id)) }
+    // The feeds that are a list.
     ensures vehicle_types { (s : Operator) (x : SystemRow) (seconds : ℕ)
         → text_of (feed_tree s x Feed.VehicleTypes seconds) ≡ list_head_text x seconds (codes "vehicle_types")
         ++ (items_text false (items (type_element s x) (values s.types)) ++ list_end_text) }

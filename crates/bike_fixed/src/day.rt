@@ -66,10 +66,12 @@ fn pair(digits: (u8, u8)) -> Option<u8>
 
 /// The date of a century, a year of it, a month and a day.
 fn date_of(century: u8, year: u8, month: u8, day: u8) -> Option<Date>
+    // Each number has two digits at most.
     requires century { century ≤ 99 }
     requires year { year ≤ 99 }
     requires month { month ≤ 99 }
     requires day { day ≤ 99 }
+    // The date of that year, month and day, or none where there is no such day.
     ensures some { IfSome result (IsYmd (pos (century * 100 + year)) (pos month) (pos day)) }
     ensures none { IfNone result (IsDate (pos (century * 100 + year)) (pos month) (pos day) → ⊥) }
 {

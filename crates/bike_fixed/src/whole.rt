@@ -59,12 +59,14 @@ pub fn signed_text(number: i64) -> ArrayString<20>
 /// The laws of reading: a number is read from a text exactly where the text is its decimal and it lies in the range, so
 /// its own text is read back.
 pub fn number_laws()
+    // Natural numbers: what is read is right, what is right is read, and a decimal is read back.
     ensures sound { (low high : ℕ) (text : List ℕ) (n : ℕ) → number_of low high text ≡ Some n
         → IsNumber low high text n }
     ensures full { (low high : ℕ) (text : List ℕ) (n : ℕ) → high < 2 ^ 64 → IsNumber low high text n
         → number_of low high text ≡ Some n }
     ensures read_back { (low high n : ℕ) → high < 2 ^ 64 → low ≤ n → n ≤ high
         → number_of low high (decimal n) ≡ Some n }
+    // The same of integers.
     ensures signed_sound { (low high : ℤ) (text : List ℕ) (z : ℤ) → signed_of low high text ≡ Some z
         → IsSignedNumber low high text z }
     ensures signed_full { (low high : ℤ) (text : List ℕ) (z : ℤ) → FitsSigned w64 z

@@ -75,10 +75,13 @@ impl JsonState {
 
     /// Begins an object, as a value.
     pub fn begin_object<W: Output>(&mut self, out: &mut W) -> Result<(), WriteFault>
+        // A value may come here, and one level more has room.
         requires value { IsTrue (takes_value self.old.top) }
         requires room { length self.old.round < 16 }
+        // What is written, and where the text then stands: in an empty object.
         ensures wrote { WroteNext self.old self.new (W.contents out.old) (W.contents out.new) (123 ∷ []) }
         ensures place { IsAt self.new Level.EmptyObject (after_value self.old.top ∷ self.old.round) }
+        // A failure is told, and counts nothing.
         ensures count { self.new.failed ≡ true → self.new.count ≡ self.old.count }
         ensures outcome { is_ok result ≡ not self.new.failed }
     {
@@ -87,10 +90,13 @@ impl JsonState {
 
     /// Ends the object that is open, where no name waits for its value.
     pub fn end_object<W: Output>(&mut self, out: &mut W) -> Result<(), WriteFault>
+        // The object that is open may end here.
         requires name { IsTrue (takes_name self.old.top) }
         requires round { 0 < length self.old.round }
+        // What is written, and where the text then stands: behind the object.
         ensures wrote { Wrote self.old self.new (W.contents out.old) (W.contents out.new) (125 ∷ []) }
         ensures place { self.old.round ≡ self.new.top ∷ self.new.round }
+        // A failure is told, and counts nothing.
         ensures count { self.new.failed ≡ true → self.new.count ≡ self.old.count }
         ensures outcome { is_ok result ≡ not self.new.failed }
     {
@@ -99,10 +105,13 @@ impl JsonState {
 
     /// Begins an array, as a value.
     pub fn begin_array<W: Output>(&mut self, out: &mut W) -> Result<(), WriteFault>
+        // A value may come here, and one level more has room.
         requires value { IsTrue (takes_value self.old.top) }
         requires room { length self.old.round < 16 }
+        // What is written, and where the text then stands: in an empty array.
         ensures wrote { WroteNext self.old self.new (W.contents out.old) (W.contents out.new) (91 ∷ []) }
         ensures place { IsAt self.new Level.EmptyArray (after_value self.old.top ∷ self.old.round) }
+        // A failure is told, and counts nothing.
         ensures count { self.new.failed ≡ true → self.new.count ≡ self.old.count }
         ensures outcome { is_ok result ≡ not self.new.failed }
     {
@@ -111,10 +120,13 @@ impl JsonState {
 
     /// Ends the array that is open.
     pub fn end_array<W: Output>(&mut self, out: &mut W) -> Result<(), WriteFault>
+        // The array that is open may end here.
         requires array { IsTrue (takes_array_end self.old.top) }
         requires round { 0 < length self.old.round }
+        // What is written, and where the text then stands: behind the array.
         ensures wrote { Wrote self.old self.new (W.contents out.old) (W.contents out.new) (93 ∷ []) }
         ensures place { self.old.round ≡ self.new.top ∷ self.new.round }
+        // A failure is told, and counts nothing.
         ensures count { self.new.failed ≡ true → self.new.count ≡ self.old.count }
         ensures outcome { is_ok result ≡ not self.new.failed }
     {

@@ -63,10 +63,13 @@ impl<W: Output + Drop> JsonWriter<W> {
 
     /// Begins an object, as a value.
     pub fn begin_object(&mut self) -> Result<(), WriteFault>
+        // A value may come here, and one level more has room.
         requires value { IsTrue (takes_value self.old.place.top) }
         requires room { length self.old.place.round < 16 }
+        // What is written, and where the text then stands: in an empty object.
         ensures wrote { WroteNext self.old.place self.new.place self.old.contents self.new.contents (123 ∷ []) }
         ensures place { IsAt self.new.place Level.EmptyObject (after_value self.old.place.top ∷ self.old.place.round) }
+        // A failure is told, and counts nothing.
         ensures count { self.new.place.failed ≡ true → self.new.place.count ≡ self.old.place.count }
         ensures outcome { is_ok result ≡ not self.new.place.failed }
     {
@@ -75,10 +78,13 @@ impl<W: Output + Drop> JsonWriter<W> {
 
     /// Ends the object that is open, where no name waits for its value.
     pub fn end_object(&mut self) -> Result<(), WriteFault>
+        // The object that is open may end here.
         requires name { IsTrue (takes_name self.old.place.top) }
         requires round { 0 < length self.old.place.round }
+        // What is written, and where the text then stands: behind the object.
         ensures wrote { Wrote self.old.place self.new.place self.old.contents self.new.contents (125 ∷ []) }
         ensures place { self.old.place.round ≡ self.new.place.top ∷ self.new.place.round }
+        // A failure is told, and counts nothing.
         ensures count { self.new.place.failed ≡ true → self.new.place.count ≡ self.old.place.count }
         ensures outcome { is_ok result ≡ not self.new.place.failed }
     {
@@ -87,10 +93,13 @@ impl<W: Output + Drop> JsonWriter<W> {
 
     /// Begins an array, as a value.
     pub fn begin_array(&mut self) -> Result<(), WriteFault>
+        // A value may come here, and one level more has room.
         requires value { IsTrue (takes_value self.old.place.top) }
         requires room { length self.old.place.round < 16 }
+        // What is written, and where the text then stands: in an empty array.
         ensures wrote { WroteNext self.old.place self.new.place self.old.contents self.new.contents (91 ∷ []) }
         ensures place { IsAt self.new.place Level.EmptyArray (after_value self.old.place.top ∷ self.old.place.round) }
+        // A failure is told, and counts nothing.
         ensures count { self.new.place.failed ≡ true → self.new.place.count ≡ self.old.place.count }
         ensures outcome { is_ok result ≡ not self.new.place.failed }
     {
@@ -99,10 +108,13 @@ impl<W: Output + Drop> JsonWriter<W> {
 
     /// Ends the array that is open.
     pub fn end_array(&mut self) -> Result<(), WriteFault>
+        // The array that is open may end here.
         requires array { IsTrue (takes_array_end self.old.place.top) }
         requires round { 0 < length self.old.place.round }
+        // What is written, and where the text then stands: behind the array.
         ensures wrote { Wrote self.old.place self.new.place self.old.contents self.new.contents (93 ∷ []) }
         ensures place { self.old.place.round ≡ self.new.place.top ∷ self.new.place.round }
+        // A failure is told, and counts nothing.
         ensures count { self.new.place.failed ≡ true → self.new.place.count ≡ self.old.place.count }
         ensures outcome { is_ok result ≡ not self.new.place.failed }
     {

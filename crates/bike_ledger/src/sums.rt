@@ -70,17 +70,20 @@ pub fn refundable(fare: Cents, refunded: Cents) -> Cents
 /// The law of one more entry: the balance of its rider changes by its credit and no other rider's does,
 /// and cash, revenue and the refunds of a rental change by what its kind adds.
 pub fn entry_law()
+    // The balances of riders.
     ensures balance { (es : List Entry) (e : Entry) (rider : ℕ)
         → balance_of rider (es ++ e ∷ []) ≡ balance_of rider es +ℤ share rider e }
     ensures own { (es : List Entry) (e : Entry)
         → balance_of e.rider (es ++ e ∷ []) ≡ balance_of e.rider es +ℤ credit e.kind e.amount }
     ensures others { (es : List Entry) (e : Entry) (rider : ℕ) → e.rider ≢ rider
         → balance_of rider (es ++ e ∷ []) ≡ balance_of rider es }
+    // The cash, the revenue, and the refunds of a rental.
     ensures cash { (es : List Entry) (e : Entry) → cash_of (es ++ e ∷ []) ≡ cash_of es +ℤ cash_in e.kind e.amount }
     ensures revenue { (es : List Entry) (e : Entry)
         → revenue_of (es ++ e ∷ []) ≡ revenue_of es +ℤ revenue_in e.kind e.amount }
     ensures refunded { (es : List Entry) (e : Entry) (rental : ℕ)
         → refunded_of rental (es ++ e ∷ []) ≡ refunded_of rental es +ℤ given_back_of rental e }
+    // Any figure that is summed over the entries.
     ensures any_sum { (figure : Entry → ℤ) (es : List Entry) (e : Entry)
         → total figure (es ++ e ∷ []) ≡ total figure es +ℤ figure e }
 {}

@@ -35,11 +35,14 @@ fn memory_of(alloc: Global, bytes: &[u8]) -> Result<Memory, CopyFault>
 /// fails.
 pub fn copy_of<D: Disk>(alloc: Global, file: &mut D) -> Result<Memory, CopyFault>
     requires { IsTrue (D.Disk.is_usable file.old) }
+    // A copy has the bytes of the file, if the disk is clean, and can be used.
     ensures same { IfOk result (λ copy. IsClean D.Disk file.new → memory_bytes copy ≡ D.Disk.seen file.old) }
     ensures usable { IfOk result (λ copy. IsTrue (memory_is_usable copy)) }
+    // `Unread` comes of a further fault of the disk, and no fault is forgotten.
     ensures failed { result ≡ Err Unread → IsClean D.Disk file.new
         → MoreFaults (D.Disk.faults file.old) (D.Disk.faults file.new) }
     ensures counts { D.Disk.faults file.old ≤ D.Disk.faults file.new }
+    // The file is only read.
     ensures read { OnlyReads D.Disk file.old file.new }
 {
     let Ok(length) = file.len() else {

@@ -11,6 +11,7 @@ ghost use Rattle.bike_readings.specs.SoundRows.{HasBounds};
 /// The law of readings: what a row spells is that of which it is made, and each record within its bounds is spelled by
 /// its row.
 pub fn reads_both_ways()
+    // The totals, and the catalogue with its stations.
     ensures meta { MetaReading }
     ensures system { SystemReading }
     ensures plans { PlanReading }
@@ -19,13 +20,16 @@ pub fn reads_both_ways()
     ensures regions { RegionReading }
     ensures stations { StationReading }
     ensures docks { DockReading }
+    // The fleet and the riders.
     ensures bikes { BikeReading }
     ensures trucks { TruckReading }
     ensures riders { RiderReading }
+    // What was done: rentals, orders, entries and kept requests.
     ensures rentals { RentalReading }
     ensures orders { OrderReading }
     ensures entries { EntryReading }
     ensures kept { KeptReading }
+    // Counts at stations, and names in further languages.
     ensures counts { CountReading }
     ensures more_names { NameReading }
 {}

@@ -24,18 +24,22 @@ ghost use Rattle.bike_queries.specs.declared.pages.TheConstants.{STATIONS_A_PAGE
 
 /// How many there may be of each record.
 pub fn record_limits()
+    // Plans, types, regions, and names in further languages.
     ensures plans { limit.MOST_PLANS ≡ 256 }
     ensures types { limit.MOST_TYPES ≡ 32 }
     ensures regions { limit.MOST_REGIONS ≡ 256 }
     ensures further_names { limit.MOST_FURTHER_NAMES ≡ 3 }
+    // Stations, and docks of one, now and in earlier versions of the tables.
     ensures stations { limit.MOST_STATIONS ≡ 5000 }
     ensures docks { number.MOST_DOCKS ≡ 500 }
     ensures docks_before { MOST_DOCKS_BEFORE ≡ 200 }
+    // The fleet, the riders, and what is never removed.
     ensures bikes { limit.MOST_BIKES ≡ 100000 }
     ensures trucks { limit.MOST_TRUCKS ≡ 1000 }
     ensures riders { limit.MOST_RIDERS ≡ 500000 }
     ensures orders { limit.MOST_ORDERS ≡ 10000000 }
     ensures entries { limit.MOST_ENTRIES ≡ 100000000 }
+    // Segments of a plan; and the newest version of the tables.
     ensures segments { catalogue.MOST_SEGMENTS ≡ 8 }
     ensures version { NEWEST ≡ 3 }
 {}
@@ -43,18 +47,22 @@ pub fn record_limits()
 /// The greatest numbers of fields. Money is in hundredths, a coordinate in microdegrees, a time in seconds, a range in
 /// metres.
 pub fn number_bounds()
+    // Numbers of records, and bicycles on a truck or in an order.
     ensures name { number.GREATEST_NUMBER ≡ 999999 }
     ensures serial { number.GREATEST_SERIAL ≡ 100000000 }
     ensures carried { number.MOST_CARRIED ≡ 60 }
+    // A payment, and the fields of plans, types and the system.
     ensures payment { number.GREATEST_PAYMENT ≡ 1000000 }
     ensures price { number.GREATEST_PRICE ≡ 1000000 }
     ensures rate { catalogue.GREATEST_RATE ≡ 100000 }
     ensures minute { number.LAST_MINUTE ≡ 100000 }
     ensures range { number.GREATEST_RANGE ≡ 1000000 }
     ensures time_to_live { number.LONGEST_TIME_TO_LIVE ≡ 86400 }
+    // Places and moments.
     ensures latitude { catalogue.GREATEST_LATITUDE ≡ 90000000 }
     ensures coordinate { GREATEST_COORDINATE ≡ 180000000 }
     ensures moment { LAST_MOMENT ≡ 253402300799 }
+    // A fare, a balance, and the time that a fare charges.
     ensures fare { GREATEST_FARE ≡ pos 34561800000 }
     ensures balance { GREATEST_BALANCE ≡ pos 3456179965438200000 }
     ensures charged_seconds { rental.LONGEST ≡ 2592000 }
@@ -63,6 +71,7 @@ pub fn number_bounds()
 
 /// The lengths of texts in bytes, and how many fields a head has at most.
 pub fn text_bounds()
+    // Fields of records and requests.
     ensures ident { text.LONGEST_IDENT ≡ 36 }
     ensures key { text.LONGEST_KEY ≡ 64 }
     ensures shortest_language { text.SHORTEST_LANGUAGE ≡ 2 }
@@ -70,6 +79,7 @@ pub fn text_bounds()
     ensures currency { text.CURRENCY_LENGTH ≡ 3 }
     ensures name { text.LONGEST_NAME ≡ 120 }
     ensures ascii { text.LONGEST_ASCII ≡ 200 }
+    // A line of input, and the head and body of an HTTP request.
     ensures line { LINE_LENGTH ≡ 4096 }
     ensures head { HEAD_LENGTH ≡ 8192 }
     ensures fields { MOST_FIELDS ≡ 32 }
@@ -79,11 +89,14 @@ pub fn text_bounds()
 /// How many reads of its input one call makes at most, how many bytes one read of lines asks for, how many rows an
 /// import has, and how many stations a page of a feed.
 pub fn input_bounds()
+    // Reads that one call makes.
     ensures http_reads { http.MOST_READS ≡ 20000 }
     ensures line_reads { lines.MOST_READS ≡ 1000000000 }
     ensures import_reads { csv.MOST_READS ≡ 1000000 }
+    // Bytes that are read for a record of an import, and its rows.
     ensures import_record { csv.MOST_RECORD ≡ 65536 }
     ensures import_rows { MOST_ROWS ≡ 1000000 }
+    // Bytes of a read of lines, and stations of a page.
     ensures line_read { READ_LENGTH ≡ 65536 }
     ensures page { STATIONS_A_PAGE ≡ 64 }
 {}

@@ -72,13 +72,17 @@ pub fn serve_count<S: Alter, A: Arrivals>(
     arrivals: &mut A,
     count: u64,
 ) -> Result<(), ServerFault>
+    // Whatever comes: the desk, or a crash, leaves the operator after good requests.
     ensures clean { doubt (desk_state S.Store desk.old).is_clean ≤ doubt (desk_state S.Store desk.new).is_clean }
     ensures kept { OfOperator S.Store desk.old desk.new (λ s. ServesRequests S.Store desk.new s) }
+    // `StoreFailed` is told of a stopped desk, and wherever one stops.
     ensures stopped { result ≡ Err ServerFault.StoreFailed → IsTrue desk.new.is_stopped }
     ensures goes_on { desk.old.is_stopped ≡ false → IsTrue desk.new.is_stopped → result ≡ Err ServerFault.StoreFailed }
+    // Where it is known what comes: each is answered once, in order, as the operator answers.
     ensures serves { OfOperator S.Store desk.old desk.new (λ s.
         IfSome (A.known arrivals.old) (λ before. IsSomeAnd (A.known arrivals.new)
         (λ after. ServesInOrder S.Store desk.new A.may_fail s count before after result))) }
+    // No other fault ends it.
     ensures faults { IfErr result (λ fault. (fault ≡ ServerFault.StoreFailed) ⊎ (fault ≡ ServerFault.AcceptFailed)) }
 {
     for _turn in 0..count {

@@ -71,11 +71,15 @@ impl LineBuffer {
 
     /// Reads once; false at the end of the input.
     fn fill<R: Read>(&mut self, reader: &mut R) -> io::Result<bool>
+        // Nothing is held back.
         requires { self.old ≡ [] }
+        // What was read is held, and no more than one read takes.
         ensures bytes { OnOk result (Consumes (R.remaining reader.old) (R.remaining reader.new) self.new) }
         ensures bound { length self.new ≤ READ_LENGTH }
+        // True where bytes came, false at the end of the input alone.
         ensures more { IfOk result (λ more. more ≡ true → 0 < length self.new) }
         ensures end { IfOk result (λ more. more ≡ false → (self.new ≡ []) × IsAtEnd (R.remaining reader.new)) }
+        // After a failed read nothing is held, and what is known of the input stays.
         ensures err { OnErr result ((self.new ≡ []) × Keeps (R.remaining reader.old) (R.remaining reader.new)) }
     {
         self.start = 0;
@@ -118,6 +122,7 @@ impl LineBuffer {
         line: &mut Line<KEPT>,
         reads: &mut u32,
     ) -> Result<bool, ReadFault>
+        // The next line is taken, of all that is held back or ahead; a fault may come within it.
         ensures taken { IfOk result (λ more. Takes KEPT (prepend_known self.old (R.remaining reader.old))
             (prepend_known self.new (R.remaining reader.new)) more line.new) }
         ensures fault { OnErr result (Interrupts KEPT (prepend_known self.old (R.remaining reader.old))
