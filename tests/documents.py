@@ -418,6 +418,14 @@ def test_quoted_code_stands_in_its_file(program):
     assert counts["docs/READING.md"] > 80 and counts["README.md"] > 5 and counts["CONTRIBUTING.md"] > 1, counts
 
 
+def test_quoted_sentence_stands_in_proved(program):
+    """The sentence of docs/PROVED.md that docs/READING.md follows to its contract stands there."""
+    reading, proved = (" ".join(documents()[f"docs/{it}.md"].split()) for it in ("READING", "PROVED"))
+    sentence = re.search(r'"([^"]+)"', reading.split("## 8. ", 1)[1])[1]
+    parts = sentence.split(" .. ")
+    assert len(parts) == 2 and all(it in proved for it in parts), parts
+
+
 # What files of the toolchain, of a made program or of a configured machine are named by, and names that stand for many.
 ELSEWHERE = re.compile(
     r"sqlite\w*/specs/.*|std/specs/.*|crates/bikeshare/out/.*|(?:FIRST|SHORTER)_PROOFS\.md|/etc/.*|.*@.*|"
