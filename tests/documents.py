@@ -360,7 +360,7 @@ def test_counts(program):
     commands = len(re.findall(r"^\| \*\*[a-z-]+\*\* \|", rules, re.M))
     replies = formats_.split("## 3. Answer lines", 1)[1].split("\n## ", 1)[0].count("\n| ") - 1
     contracts = len(re.findall(r"^## \d+\. [^`\n]+: `[\w:]+`$", reading, re.M))
-    made = (TOP / "crates/bike_schema/src/create.rt").read_text(encoding="utf-8").count('"CREATE INDEX ')
+    made = (TOP / "crates/bike_schema/src/indexes.rt").read_text(encoding="utf-8").count('"CREATE INDEX ')
     own = texts["docs/ARCHITECTURE.md"].split("of their own in all documents:", 1)[1].split("## ", 1)[0]
     own = own.count("**") // 2
     queries = re.search(r"Each of ten queries .*?\*By\* (.*?)\(`query`", texts["docs/PROVED.md"])[1].count("`") // 2

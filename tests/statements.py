@@ -10,6 +10,8 @@ SERVING = (
     "bike_views", "bike_writes",
 )
 TEXT = re.compile(r'"((?:SELECT|INSERT|UPDATE|DELETE|REPLACE|WITH)\b(?:[^"\\]|\\.)*)"', re.S)
+# An INSERT that `table!` of bike_book makes of the table's columns.
+MADE = re.compile(r"\btable!\((insert \w+)\)")
 OF_A_DAY = {
     "SELECT * FROM entries WHERE entry > ?1 AND at >= ?2 AND at < ?3 ORDER BY entry LIMIT 1",
     "SELECT * FROM rentals WHERE rental > ?1 AND finish >= ?2 AND finish < ?3 ORDER BY rental LIMIT 1",
@@ -36,7 +38,9 @@ def test_the_engine_keeps_all(program):
         for crate in SERVING
         for file in sorted((TOP / "crates" / crate / "src").rglob("*.rt"))
     ]
-    texts = {text for source in sources for text in TEXT.findall(source)}
+    made = {text for source in sources for text in MADE.findall(source)}
+    assert "insert entries" in made, "the statements that add rows aren't those"
+    texts = made.union(*map(TEXT.findall, sources))
     assert OF_A_DAY < texts, "the statements of a day's tables aren't those"
     assert OF_A_CORRECTION < texts, "the statements of corrections aren't those"
     usual = texts - OF_A_DAY - OF_A_CORRECTION

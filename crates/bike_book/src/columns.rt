@@ -24,7 +24,7 @@ pub mod meta {
     pub const REVENUE: usize = 5;
 
     /// How many there are.
-    pub const COLUMNS: usize = 6;
+    pub const COLUMNS: usize = crate::table!(count meta);
 }
 
 /// The columns of `system`.
@@ -60,7 +60,7 @@ pub mod system {
     pub const TTL: usize = 9;
 
     /// How many there are.
-    pub const COLUMNS: usize = 10;
+    pub const COLUMNS: usize = crate::table!(count system);
 }
 
 /// The columns of `plans`.
@@ -81,7 +81,7 @@ pub mod plans {
     pub const DESCRIPTION: usize = 4;
 
     /// How many there are.
-    pub const COLUMNS: usize = 5;
+    pub const COLUMNS: usize = crate::table!(count plans);
 }
 
 /// The columns of `segments`.
@@ -105,7 +105,7 @@ pub mod segments {
     pub const FINISH: usize = 5;
 
     /// How many there are.
-    pub const COLUMNS: usize = 6;
+    pub const COLUMNS: usize = crate::table!(count segments);
 }
 
 /// The columns of `types`.
@@ -129,7 +129,7 @@ pub mod types {
     pub const PLAN_ID: usize = 5;
 
     /// How many there are.
-    pub const COLUMNS: usize = 6;
+    pub const COLUMNS: usize = crate::table!(count types);
 }
 
 /// The columns of `regions`.
@@ -141,7 +141,7 @@ pub mod regions {
     pub const NAME: usize = 1;
 
     /// How many there are.
-    pub const COLUMNS: usize = 2;
+    pub const COLUMNS: usize = crate::table!(count regions);
 }
 
 /// The columns of `stations_3`, and of its earlier tables: the first of these ends before the region.
@@ -183,7 +183,7 @@ pub mod stations {
     pub const REGION_ID: usize = 11;
 
     /// How many there are.
-    pub const COLUMNS: usize = 12;
+    pub const COLUMNS: usize = crate::table!(count stations);
 }
 
 /// The columns of `docks`.
@@ -198,7 +198,7 @@ pub mod docks {
     pub const BROKEN: usize = 2;
 
     /// How many there are.
-    pub const COLUMNS: usize = 3;
+    pub const COLUMNS: usize = crate::table!(count docks);
 }
 
 /// The columns of `bikes`. Those from `STATION_ID` on tell the place.
@@ -228,7 +228,7 @@ pub mod bikes {
     pub const ORD: usize = 7;
 
     /// How many there are.
-    pub const COLUMNS: usize = 8;
+    pub const COLUMNS: usize = crate::table!(count bikes);
 }
 
 /// The columns of `trucks`.
@@ -240,7 +240,7 @@ pub mod trucks {
     pub const CAPACITY: usize = 1;
 
     /// How many there are.
-    pub const COLUMNS: usize = 2;
+    pub const COLUMNS: usize = crate::table!(count trucks);
 }
 
 /// The columns of `riders`.
@@ -255,7 +255,7 @@ pub mod riders {
     pub const BALANCE: usize = 2;
 
     /// How many there are.
-    pub const COLUMNS: usize = 3;
+    pub const COLUMNS: usize = crate::table!(count riders);
 }
 
 /// The columns of `rentals`. Those of the closing are NULL while it is open.
@@ -291,7 +291,7 @@ pub mod rentals {
     pub const REFUNDED: usize = 9;
 
     /// How many there are.
-    pub const COLUMNS: usize = 10;
+    pub const COLUMNS: usize = crate::table!(count rentals);
 }
 
 /// The columns of `orders`.
@@ -321,7 +321,7 @@ pub mod orders {
     pub const IS_OPEN: usize = 7;
 
     /// How many there are.
-    pub const COLUMNS: usize = 8;
+    pub const COLUMNS: usize = crate::table!(count orders);
 }
 
 /// The columns of `entries`.
@@ -345,7 +345,7 @@ pub mod entries {
     pub const AT: usize = 5;
 
     /// How many there are.
-    pub const COLUMNS: usize = 6;
+    pub const COLUMNS: usize = crate::table!(count entries);
 }
 
 /// The columns of `kept`.
@@ -363,7 +363,7 @@ pub mod kept {
     pub const REPLY: usize = 3;
 
     /// How many there are.
-    pub const COLUMNS: usize = 4;
+    pub const COLUMNS: usize = crate::table!(count kept);
 }
 
 /// The columns of `counts`.
@@ -381,7 +381,7 @@ pub mod counts {
     pub const DISABLED: usize = 3;
 
     /// How many there are.
-    pub const COLUMNS: usize = 4;
+    pub const COLUMNS: usize = crate::table!(count counts);
 }
 
 /// The columns of `more_names`.
@@ -399,5 +399,5 @@ pub mod more_names {
     pub const NAME: usize = 3;
 
     /// How many there are.
-    pub const COLUMNS: usize = 4;
+    pub const COLUMNS: usize = crate::table!(count more_names);
 }

@@ -8,6 +8,7 @@
 pub mod columns;
 mod laws;
 mod row_change;
+mod tables;
 mod version;
 
 pub use bike_operator::BikeState;

@@ -1,9 +1,18 @@
 -- What the statements do to a database.
-use Rattle.std.proofs.Common.{◌≡◌, ℕ, true, false, List, [], ◌∷◌, map, codes, get_or, None, Some, Ok, refl, sym, ap, ap₂, subst, ◌∙◌, inl, inr}
-use Rattle.std.specs.List.{list_all}
-use Rattle.std.proofs.lemmas.Bool.{and_parts}
+use Rattle.std.proofs.Common.{◌≡◌, ℕ, true, false, List, [], ◌∷◌, map, length, get_or, zero, suc, ◌+◌, ◌<◌, ◌≤◌, arith, codes, None, Some, Ok, refl, sym, ap, ap₂, subst, ◌∙◌, inl, inr}
+use Rattle.std.specs.List.{list_all, range_with_len, zip}
+use Rattle.std.proofs.lemmas.List.{length-map, get_or-map}
+use Rattle.std.proofs.lemmas.Simd.{map-map}
+use Rattle.std.proofs.lemmas.List.FromFn.{fill_by_all}
+use Rattle.std.proofs.lemmas.Bool.{and_parts, cases_eq}
+use Rattle.std.specs.Array.{IsFromFnResultFrom}
+use Rattle.std.specs.Fn.{Called}
+use denote.Param.Members.{Mut}
 use Rattle.sqlite_value.specs.declared.value.Value.{Value}
 use Rattle.sqlite_value.specs.declared.value.Value.TheVariants.{Null, Int, Text}
+use Rattle.sqlite_value.specs.declared.value.ValueRef.{ValueRef}
+use Rattle.sqlite_value.specs.declared.value.ValueRef.TheVariants as lent
+use Rattle.sqlite_value.specs.Value.{owned}
 use Rattle.sqlite_value.specs.Order.{Row, column}
 use Rattle.sqlite_tied.specs.Compute.{everything}
 use Rattle.sqlite_sql.specs.Query.{Query}
@@ -22,7 +31,7 @@ use Rattle.sqlite.specs.Effect.{Database, IsDatabase}
 use Rattle.sqlite.specs.Given.{IsPlain}
 use Rattle.sqlite.specs.Listing.{understood}
 use Rattle.sqlite.specs.State.{State, Writes, Executes, ExecutesIn, ExecutesInside}
-use Rattle.sqlite.specs.Values.{bound_value}
+use Rattle.sqlite.specs.Values.{bound, bound_value}
 use Rattle.sqlite.proofs.Callers.{command_of, statement_of, runs_as}
 use Rattle.bike_sql.specs.Inserts.{IsInsert}
 use Rattle.bike_sql.proofs.InsertLaws.{insert_is}
@@ -41,6 +50,7 @@ use Rattle.bike_rows.proofs.TextLemmas.{IsUpdate, update_means, IsSelect}
 use Rattle.bike_rows.proofs.SelectLaws.{every_column, ordered_rows}
 use Rattle.bike_rows.proofs.KeyLemmas.{IsKeyAt}
 use Rattle.bike_rows.proofs.WriteLaws.{row_put, row_updated, row_terms, width}
+use Rattle.bike_book.specs.declared.columns.stations.TheConstants as stations
 use Rattle.bike_book.specs.declared.version.TheConstants.{NEWEST}
 use Rattle.bike_book.specs.Tables.{TableName, Meta, Stations, MoreNames, keys_of}
 use Rattle.bike_book.specs.Rows.{number_value}
@@ -50,6 +60,7 @@ use Rattle.bike_schema.specs.Layouts.{layout_of, name_of}
 use Rattle.bike_schema.specs.Makes.{Puts}
 use Rattle.bike_schema.specs.Tables.{IsOurs, tables_of, is_parent}
 use Rattle.bike_schema.proofs.KeyLemmas.{unique_key}
+use Rattle.bike_schema.proofs.InsertTexts.{insert_text}
 use Rattle.bike_schema.proofs.MakeFacts.{text_of, declared, index_only, each_told}
 use Rattle.bike_schema.proofs.MakeTexts.{IsOnlyCreate, understood_as}
 use Rattle.bike_schema.proofs.MakesLemmas.{adds_row, sets_columns}
@@ -58,11 +69,11 @@ use Rattle.bike_recognition.specs.declared.earlier_versions.earlier.Earlier.{Ear
 use Rattle.bike_recognition.specs.declared.earlier_versions.earlier.Earlier.TheVariants.{First, Second}
 use Rattle.bike_recognition.specs.EarlierVersions.Earlier.{stations_name, stations_layout}
 use Rattle.bike_migrate.specs.Raised.{MakesTable, MakesIndex, filled_names, WritesOnly, DropsStations, version_write}
-use Rattle.bike_migrate.specs.Stations.{station_row, is_text, is_whole, IsStationRow, AsksRows}
+use Rattle.bike_migrate.specs.Stations.{station_row, may_hold, IsStationRow, AsksRows}
 use Rattle.bike_schema.proofs.MakeLemmas.{adds}
 use Rattle.bike_schema.proofs.GrowthLemmas.{still_unnamed, made_stands, made_empty, all_stay}
 use Rattle.bike_rows.proofs.IndexLaw as index
-use Rattle.bike_schema.specs.Creates.{index_texts}
+use Rattle.bike_schema.specs.declared.indexes.TheConstants.{MORE_NAMES_BY_LANGUAGE, MORE_NAMES_BY_THING}
 use Rattle.bike_schema.specs.Indexes.{TableIndex, more_names_by_language, more_names_by_thing}
 use Rattle.bike_schema.proofs.IndexLemmas.{Tells, index_added, index_there}
 use Rattle.bike_migrate.proofs.SpareLemmas.{spares_less, among_first, among_rest, spares_making, spares_indexing, spares_inserting, spares_updating, spares_dropping}
@@ -102,10 +113,10 @@ creates t old new unnamed count ran =
 
 -- the statements that make the indexes of further names, by their languages and by what they name
 abbrev pub language_text : List ℕ
-language_text = get_or index_texts 3 []
+language_text = MORE_NAMES_BY_LANGUAGE.now
 
 abbrev pub thing_text : List ℕ
-thing_text = get_or index_texts 4 []
+thing_text = MORE_NAMES_BY_THING.now
 
 pub language_only : IsOnlyIndex (first language_text)
 language_only = index_only.1.1.1.0
@@ -164,7 +175,7 @@ version_set old new ours count ran =
 -- ---- INSERT of a station
 
 abbrev station_text : List ℕ
-station_text = codes "INSERT INTO stations_3 VALUES (?1, ?2, ?3, ?4, ?5, ?6, ?7, ?8, ?9, ?10, ?11, ?12)"
+station_text = insert_text Stations
 
 inserts_station : (s : Schema) (tree : ℕ) → IsInsert s (table_of (layout_of Stations) tree) (first station_text) (Values (row_terms (layout_of Stations)) (width (layout_of Stations)))
 unfolding everything
@@ -176,35 +187,35 @@ station_writes db ours =
     means_writes db.schema station_text _ (insert_is db.schema it.at (table_of (layout_of Stations) it.tree) it.has station_text (Values (row_terms (layout_of Stations)) (width (layout_of Stations))) (inserts_station db.schema it.tree)).0 tt
 
 -- what it may hold, a column stores as it is
-text_suits : (v : Value) → is_text v ≡ true → suits Words v ≡ true
-text_suits Null h = refl
-text_suits (Text t) h = refl
-text_suits v h = absurd (let e = h in cc)
+kind_suits : (k : Kind) (v : Value) → may_hold k v ≡ true → suits k v ≡ true
+kind_suits Integer Null h = refl
+kind_suits Integer (Int n) h = refl
+kind_suits Words Null h = refl
+kind_suits Words (Text t) h = refl
+kind_suits k v h = absurd (let e = h in cc)
 
-whole_suits : (v : Value) → is_whole v ≡ true → suits Integer v ≡ true
-whole_suits Null h = refl
-whole_suits (Int n) h = refl
-whole_suits v h = absurd (let e = h in cc)
+all_suit : (cs : List Column) (row : Row) (n : ℕ) → list_all (λ (x : ℕ × Kind). may_hold x.1 (column row x.0)) (zip (range_with_len n (length (map (λ c. c.kind) cs))) (map (λ c. c.kind) cs)) ≡ true
+    → suit_all cs (map (column row) (range_with_len n (length cs))) ≡ true
+all_suit [] row n h = refl
+all_suit (c ∷ cs) row n h = let both = and_parts (may_hold c.kind (column row n)) _ h in rw (kind_suits c.kind (column row n) both.0) (all_suit cs row (n + 1) both.1)
 
 station_suits : (row : Row) → IsStationRow row → suit_all (layout_of Stations).columns (station_row row) ≡ true
-station_suits row it =
-    let text = λ (at : ℕ). is_text (column row at) in
-    let whole = λ (at : ℕ). is_whole (column row at) in
-    let t0 = and_parts (text 0) (list_all text (1 ∷ 11 ∷ [])) it.texts in
-    let t1 = and_parts (text 1) (list_all text (11 ∷ [])) t0.1 in
-    let t11 = and_parts (text 11) true t1.1 in
-    let w2 = and_parts (whole 2) (list_all whole (3 ∷ 4 ∷ 5 ∷ 6 ∷ 7 ∷ 8 ∷ 9 ∷ 10 ∷ [])) it.wholes in
-    let w3 = and_parts (whole 3) (list_all whole (4 ∷ 5 ∷ 6 ∷ 7 ∷ 8 ∷ 9 ∷ 10 ∷ [])) w2.1 in
-    let w4 = and_parts (whole 4) (list_all whole (5 ∷ 6 ∷ 7 ∷ 8 ∷ 9 ∷ 10 ∷ [])) w3.1 in
-    let w5 = and_parts (whole 5) (list_all whole (6 ∷ 7 ∷ 8 ∷ 9 ∷ 10 ∷ [])) w4.1 in
-    let w6 = and_parts (whole 6) (list_all whole (7 ∷ 8 ∷ 9 ∷ 10 ∷ [])) w5.1 in
-    let w7 = and_parts (whole 7) (list_all whole (8 ∷ 9 ∷ 10 ∷ [])) w6.1 in
-    let w8 = and_parts (whole 8) (list_all whole (9 ∷ 10 ∷ [])) w7.1 in
-    let w9 = and_parts (whole 9) (list_all whole (10 ∷ [])) w8.1 in
-    let w10 = and_parts (whole 10) true w9.1 in
-    let s = λ (at : ℕ) (h : text at ≡ true). text_suits (column row at) h in
-    let n = λ (at : ℕ) (h : whole at ≡ true). whole_suits (column row at) h in
-    rw (s 0 t0.0, s 1 t1.0, n 2 w2.0, n 3 w3.0, n 4 w4.0, n 5 w5.0, n 6 w6.0, n 7 w7.0, n 8 w8.0, n 9 w9.0, n 10 w10.0, s 11 t11.0) refl
+station_suits row it = all_suit (layout_of Stations).columns row 0 it
+
+-- .. reads that leave the reader as it is give its values in order ..
+module _ {F : Type 0} {g : Mut F (ℕ × Unit {0}) ValueRef} (row : Row) (f : F) (reads : (i : ℕ) (y : ValueRef) (q : F) → Called g f (i, tt) y q → (q ≡ f) × (owned y ≡ column row i)) (values : List ValueRef) where
+  value_is : (n i : ℕ) → IsFromFnResultFrom g f values i n → (k : ℕ) (d : ValueRef) → i ≤ k → k < i + n → owned (get_or values k d) ≡ column row k
+  value_is zero i each k d from to = absurd (omega (arith, from, to))
+  value_is (suc n) i (q, y, at, called, rest) k d from to = elim (cases_eq k i) [
+    | inl same ↦ rw same (ap owned (at.1 d) ∙ (reads i y q called).1)
+    | inr other ↦ value_is n (i + 1) (subst (λ h. IsFromFnResultFrom g h values (i + 1) n) (reads i y q called).0 rest) k d (omega (arith, from, other)) (omega (arith, to))
+  ]
+
+  pub values_are : length values ≡ stations.COLUMNS → IsFromFnResultFrom g f values 0 stations.COLUMNS → bound values ≡ map bound_value (station_row row)
+  values_are long each =
+      fill_by_all (λ at. bound_value (column row at)) (bound values) stations.COLUMNS Null (length-map values _ ∙ long)
+      (λ k within. get_or-map _ values k lent.Null _ (omega (arith, long, within)) ∙ ap bound_value (value_is stations.COLUMNS 0 each k lent.Null (omega arith) (omega (arith, within))))
+      ∙ sym (map-map bound_value (column row) (range_with_len 0 stations.COLUMNS))
 
 -- .. and a call binds it as it is
 bound_same : (k : Kind) (v : Value) → suits k v ≡ true → bound_value v ≡ v

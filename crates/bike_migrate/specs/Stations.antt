@@ -1,42 +1,40 @@
 -- The rows of an old table of stations.
-use Rattle.std.specs.Prelude.{◌≡◌, ℕ, ◌<◌, pos, int_le, Bool, true, false, List, [], ◌∷◌, map, take, slice_get, Option, Some, None}
-use Rattle.std.specs.List.{range_with_len, list_all}
+use Rattle.std.specs.Prelude.{◌≡◌, ℕ, ◌<◌, pos, int_le, Bool, true, false, List, [], map, length, take, slice_get, Option, Some, None}
+use Rattle.std.specs.List.{range_with_len, list_all, zip}
 use Rattle.sqlite_value.specs.declared.value.Value.{Value}
 use Rattle.sqlite_value.specs.declared.value.Value.TheVariants.{Null, Int, Text}
 use Rattle.sqlite_value.specs.Order.{Row, column}
 use Rattle.sqlite_rules.specs.Lists.{Has}
+use Rattle.sqlite_schema.specs.declared.schema.Kind.{Kind}
+use Rattle.sqlite_schema.specs.declared.schema.Kind.TheVariants.{Integer, Text as Words}
 use Rattle.bike_rows.specs.Answer.{HasOneAnswer}
 use Rattle.bike_rows.specs.Layout.{Layout}
 use Rattle.bike_rows.specs.Stands.{rows_of, Stands}
+use Rattle.bike_book.specs.Tables.{Stations}
+use Rattle.bike_book.specs.declared.columns.stations.TheConstants as stations
+use Rattle.bike_schema.specs.Layouts.{layout_of}
 use Rattle.sqlite.specs.Effect.{Database}
 use Rattle.bike_recognition.specs.declared.earlier_versions.earlier.TheConstants.{MOST_DOCKS_BEFORE}
 
 -- the row as one of today: a column that it hasn't is NULL
 abbrev pub station_row : Row → Row
-station_row row = map (column row) (range_with_len 0 12)
+station_row row = map (column row) (range_with_len 0 stations.COLUMNS)
 
--- what a column of texts may hold, and what one of whole numbers
-abbrev pub is_text : Value → Bool
-is_text Null = true
-is_text (Text text) = true
-is_text _ = false
+-- what a column of the kind may hold
+abbrev pub may_hold : Kind → Value → Bool
+may_hold Integer Null = true
+may_hold Integer (Int n) = true
+may_hold Words Null = true
+may_hold Words (Text text) = true
+may_hold _ _ = false
 
-abbrev pub is_whole : Value → Bool
-is_whole Null = true
-is_whole (Int n) = true
-is_whole _ = false
-
--- the columns of a station that hold texts, and those that hold whole numbers
-abbrev pub text_places : List ℕ
-text_places = 0 ∷ 1 ∷ 11 ∷ []
-
-abbrev pub whole_places : List ℕ
-whole_places = 2 ∷ 3 ∷ 4 ∷ 5 ∷ 6 ∷ 7 ∷ 8 ∷ 9 ∷ 10 ∷ []
+-- each column of the row holds what one of its kind may hold
+abbrev pub has_kinds : Row → List Kind → Bool
+has_kinds row kinds = list_all (λ (x : ℕ × Kind). may_hold x.1 (column row x.0)) (zip (range_with_len 0 (length kinds)) kinds)
 
 -- each column of it holds what it may hold in the newest table
-pub record IsStationRow (row : Row) : Type 0 where
-  pub texts : list_all (λ at. is_text (column row at)) text_places ≡ true
-  pub wholes : list_all (λ at. is_whole (column row at)) whole_places ≡ true
+abbrev pub IsStationRow : Row → Type 0
+IsStationRow row = has_kinds row (map (λ c. c.kind) (layout_of Stations).columns) ≡ true
 
 -- These are the rows as they are copied, each under the key that it had.
 pub record AreCopies (rows copies : List Row) : Type 0 where

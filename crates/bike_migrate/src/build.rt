@@ -15,29 +15,30 @@ ghost use Rattle.bike_migrate.specs.Raised.{DropsStations};
 
 use crate::copy::fill;
 use crate::inside::run;
+use bike_book::table;
 use bike_recognition::Earlier;
-use bike_schema::{INDEXES, StatementFault, TABLES};
+use bike_schema::{StatementFault, indexes};
 use sqlite::{Alter, Connection, Row};
 
 /// Makes the table of regions.
 fn create_regions<S: Alter>(conn: &mut Connection<S>) -> Result<(), StatementFault>
     ensures { ChangesInside S.Store (IsUnnamed Regions) conn.old conn.new result (MakesTable Regions) }
 {
-    run(conn, TABLES[5], &[])
+    run(conn, table!(create regions), &[])
 }
 
 /// Makes the table of stations.
 fn create_stations<S: Alter>(conn: &mut Connection<S>) -> Result<(), StatementFault>
     ensures { ChangesInside S.Store (IsUnnamed Stations) conn.old conn.new result (MakesTable Stations) }
 {
-    run(conn, TABLES[6], &[])
+    run(conn, table!(create stations), &[])
 }
 
 /// Makes the table of further names.
 fn create_names<S: Alter>(conn: &mut Connection<S>) -> Result<(), StatementFault>
     ensures { ChangesInside S.Store (IsUnnamed MoreNames) conn.old conn.new result (MakesTable MoreNames) }
 {
-    run(conn, TABLES[16], &[])
+    run(conn, table!(create more_names), &[])
 }
 
 /// Makes the index of further names by their languages.
@@ -45,7 +46,7 @@ fn index_by_language<S: Alter>(conn: &mut Connection<S>) -> Result<(), Statement
     ensures { ChangesInside S.Store (TableStands MoreNames) conn.old conn.new result
         (MakesIndex more_names_by_language) }
 {
-    run(conn, INDEXES[3], &[])
+    run(conn, indexes::MORE_NAMES_BY_LANGUAGE, &[])
 }
 
 /// Makes the index of further names by what they name.
@@ -53,7 +54,7 @@ fn index_by_thing<S: Alter>(conn: &mut Connection<S>) -> Result<(), StatementFau
     ensures { ChangesInside S.Store (TableStands MoreNames) conn.old conn.new result
         (MakesIndex more_names_by_thing) }
 {
-    run(conn, INDEXES[4], &[])
+    run(conn, indexes::MORE_NAMES_BY_THING, &[])
 }
 
 /// Makes the indexes of further names.

@@ -7,27 +7,17 @@ ghost use Rattle.bike_migrate.specs.Raised.{version_write, station_writes, fill_
 ghost use Rattle.bike_migrate.specs.Stations.{IsStationRow};
 
 use crate::inside::run;
-use crate::stations::{are_texts, are_wholes, value_at};
-use bike_book::NEWEST;
+use crate::stations::{has_kinds, value_at};
 use bike_book::columns::stations;
+use bike_book::{NEWEST, table};
 use bike_schema::StatementFault;
+use sqlite::types::ValueRef;
 use sqlite::{Alter, Connection, Row, params};
+use sqlite_schema::schema::Kind;
+use std::array;
 
-/// The columns of a station that hold texts.
-const TEXTS: [usize; 3] = [stations::STATION_ID, stations::NAME, stations::REGION_ID];
-
-/// Those that hold whole numbers.
-const WHOLES: [usize; 9] = [
-    stations::LAT,
-    stations::LON,
-    stations::DOCKS,
-    stations::INSTALLED,
-    stations::RENTING,
-    stations::RETURNING,
-    stations::REPORTED,
-    stations::FREE,
-    stations::BROKEN,
-];
+/// The kinds of a station's columns.
+const KINDS: [Kind; stations::COLUMNS] = table!(kinds stations);
 
 /// Sets the version in the row of `meta` to the newest.
 fn set_version<S: Alter>(conn: &mut Connection<S>) -> Result<(), StatementFault>
@@ -44,7 +34,7 @@ fn set_version<S: Alter>(conn: &mut Connection<S>) -> Result<(), StatementFault>
 fn is_station(row: &Row) -> bool
     ensures { IsTrue result → IsStationRow row.now }
 {
-    are_texts(row, &TEXTS) && are_wholes(row, &WHOLES)
+    has_kinds(row, &KINDS)
 }
 
 /// Adds a station.
@@ -52,24 +42,8 @@ fn put_station<S: Alter>(conn: &mut Connection<S>, row: &Row) -> Result<(), Stat
     requires { IsStationRow row.now }
     ensures { ChangesInside S.Store IsOurs conn.old conn.new result (WritesOnly (station_writes (row.now ∷ []))) }
 {
-    run(
-        conn,
-        "INSERT INTO stations_3 VALUES (?1, ?2, ?3, ?4, ?5, ?6, ?7, ?8, ?9, ?10, ?11, ?12)",
-        &[
-            value_at(row, stations::STATION_ID),
-            value_at(row, stations::NAME),
-            value_at(row, stations::LAT),
-            value_at(row, stations::LON),
-            value_at(row, stations::DOCKS),
-            value_at(row, stations::INSTALLED),
-            value_at(row, stations::RENTING),
-            value_at(row, stations::RETURNING),
-            value_at(row, stations::REPORTED),
-            value_at(row, stations::FREE),
-            value_at(row, stations::BROKEN),
-            value_at(row, stations::REGION_ID),
-        ],
-    )
+    let values: [ValueRef<'_>; stations::COLUMNS] = array::from_fn(|at| value_at(row, at));
+    run(conn, table!(insert stations), &values)
 }
 
 /// Adds a station as the old table has it. A sound database stores in a column only what suits it: anything else is

@@ -1,19 +1,19 @@
 //! The rows of an old table of stations.
 
 ghost use Rattle.std.specs.Prelude.{◌≡◌, IfOk};
-ghost use Rattle.std.specs.List.{list_all};
 ghost use Rattle.sqlite_value.specs.Order.{column};
 ghost use Rattle.sqlite_value.specs.Value.{owned};
 ghost use Rattle.bike_rows.specs.Calls.{ReadsWhere};
 ghost use Rattle.bike_recognition.specs.EarlierVersions.Earlier.{stations_layout};
 ghost use Rattle.bike_migrate.specs.Raised.{old_stations, HasOld};
-ghost use Rattle.bike_migrate.specs.Stations.{AsksRows, is_text, is_whole, has_few, IsOver};
+ghost use Rattle.bike_migrate.specs.Stations.{AsksRows, may_hold, has_kinds, has_few, IsOver};
 
 use bike_book::columns::stations;
 use bike_recognition::{Earlier, MOST_DOCKS_BEFORE};
 use bike_schema::StatementFault;
 use sqlite::types::ValueRef;
 use sqlite::{Alter, Connection, Row};
+use sqlite_schema::schema::Kind;
 
 /// The query that answers all rows of its table of stations, in the order of their keys.
 fn stations_query(earlier: Earlier) -> &'static str
@@ -44,32 +44,24 @@ pub(crate) fn value_at(row: &Row, at: usize) -> ValueRef<'_>
     row.get_ref(at).unwrap_or(ValueRef::Null)
 }
 
-/// Whether the column holds what a column of texts may hold.
-fn is_text(row: &Row, at: usize) -> bool
-    ensures { result ≡ is_text (column row.now at) }
+/// Whether the column holds what a column of the kind may hold.
+fn may_hold(row: &Row, at: usize, kind: Kind) -> bool
+    ensures { result ≡ may_hold kind (column row.now at) }
 {
-    matches!(value_at(row, at), ValueRef::Text(_) | ValueRef::Null)
+    match kind {
+        Kind::Integer => matches!(value_at(row, at), ValueRef::Int(_) | ValueRef::Null),
+        Kind::Text => matches!(value_at(row, at), ValueRef::Text(_) | ValueRef::Null),
+        _ => false,
+    }
 }
 
-/// Whether the column holds what a column of whole numbers may hold.
-fn is_whole(row: &Row, at: usize) -> bool
-    ensures { result ≡ is_whole (column row.now at) }
+/// Whether each column holds what a column of its kind may hold.
+pub(crate) fn has_kinds(row: &Row, kinds: &[Kind]) -> bool
+    ensures { result ≡ has_kinds row.now kinds.now }
 {
-    matches!(value_at(row, at), ValueRef::Int(_) | ValueRef::Null)
-}
-
-/// Whether all these columns hold what columns of texts may hold.
-pub(crate) fn are_texts(row: &Row, places: &[usize]) -> bool
-    ensures { result ≡ list_all (λ at. is_text (column row.now at)) places.now }
-{
-    places.iter().all(|at| is_text(row, *at))
-}
-
-/// Whether all these columns hold what columns of whole numbers may hold.
-pub(crate) fn are_wholes(row: &Row, places: &[usize]) -> bool
-    ensures { result ≡ list_all (λ at. is_whole (column row.now at)) places.now }
-{
-    places.iter().all(|at| is_whole(row, *at))
+    (0..kinds.len())
+        .zip(kinds.iter())
+        .all(|(at, kind)| may_hold(row, at, *kind))
 }
 
 /// Whether the station has no more docks than an earlier version allows.

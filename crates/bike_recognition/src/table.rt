@@ -8,7 +8,8 @@ ghost use Rattle.bike_schema.specs.declared.fault.StatementFault.TheVariants.{No
 ghost use Rattle.bike_recognition.specs.Names.{table_named};
 ghost use Rattle.bike_recognition.specs.Wanted.{Defines, AsksRowidsOf};
 
-use bike_schema::{StatementFault, TABLES};
+use bike_book::table;
+use bike_schema::StatementFault;
 use sqlite_resolve::define_table;
 use sqlite_schema::schema::Table;
 use std::alloc::Global;
@@ -22,7 +23,11 @@ const KEYED_KEPT: &str =
 fn kept_definition(keyed: bool) -> &'static str
     ensures { Defines result.now (layout_by keyed Kept) }
 {
-    if keyed { KEYED_KEPT } else { TABLES[14] }
+    if keyed {
+        KEYED_KEPT
+    } else {
+        table!(create kept)
+    }
 }
 
 /// A table of the schema.
@@ -53,23 +58,23 @@ impl TableName {
         ensures { result.now ≡ name_of (table_named self) }
     {
         match self {
-            TableName::Meta => "meta",
-            TableName::System => "system",
-            TableName::Plans => "plans",
-            TableName::Segments => "segments",
-            TableName::Types => "types",
-            TableName::Regions => "regions",
-            TableName::Stations => "stations_3",
-            TableName::Docks => "docks",
-            TableName::Bikes => "bikes",
-            TableName::Trucks => "trucks",
-            TableName::Riders => "riders",
-            TableName::Rentals => "rentals",
-            TableName::Orders => "orders",
-            TableName::Entries => "entries",
-            TableName::Kept => "kept",
-            TableName::Counts => "counts",
-            TableName::MoreNames => "more_names",
+            TableName::Meta => table!(name meta),
+            TableName::System => table!(name system),
+            TableName::Plans => table!(name plans),
+            TableName::Segments => table!(name segments),
+            TableName::Types => table!(name types),
+            TableName::Regions => table!(name regions),
+            TableName::Stations => table!(name stations),
+            TableName::Docks => table!(name docks),
+            TableName::Bikes => table!(name bikes),
+            TableName::Trucks => table!(name trucks),
+            TableName::Riders => table!(name riders),
+            TableName::Rentals => table!(name rentals),
+            TableName::Orders => table!(name orders),
+            TableName::Entries => table!(name entries),
+            TableName::Kept => table!(name kept),
+            TableName::Counts => table!(name counts),
+            TableName::MoreNames => table!(name more_names),
         }
     }
 
@@ -85,23 +90,23 @@ impl TableName {
         ensures { Defines result.now (layout_by keyed (table_named self)) }
     {
         match self {
-            TableName::Meta => TABLES[0],
-            TableName::System => TABLES[1],
-            TableName::Plans => TABLES[2],
-            TableName::Segments => TABLES[3],
-            TableName::Types => TABLES[4],
-            TableName::Regions => TABLES[5],
-            TableName::Stations => TABLES[6],
-            TableName::Docks => TABLES[7],
-            TableName::Bikes => TABLES[8],
-            TableName::Trucks => TABLES[9],
-            TableName::Riders => TABLES[10],
-            TableName::Rentals => TABLES[11],
-            TableName::Orders => TABLES[12],
-            TableName::Entries => TABLES[13],
+            TableName::Meta => table!(create meta),
+            TableName::System => table!(create system),
+            TableName::Plans => table!(create plans),
+            TableName::Segments => table!(create segments),
+            TableName::Types => table!(create types),
+            TableName::Regions => table!(create regions),
+            TableName::Stations => table!(create stations),
+            TableName::Docks => table!(create docks),
+            TableName::Bikes => table!(create bikes),
+            TableName::Trucks => table!(create trucks),
+            TableName::Riders => table!(create riders),
+            TableName::Rentals => table!(create rentals),
+            TableName::Orders => table!(create orders),
+            TableName::Entries => table!(create entries),
             TableName::Kept => kept_definition(keyed),
-            TableName::Counts => TABLES[15],
-            TableName::MoreNames => TABLES[16],
+            TableName::Counts => table!(create counts),
+            TableName::MoreNames => table!(create more_names),
         }
     }
 

@@ -1,5 +1,5 @@
 -- The tables as they are made: empty but for the one row of `meta`.
-use Rattle.std.proofs.Common.{◌≡◌, ℕ, pos, not, true, false, List, [], ◌∷◌, codes, map, slice_get, is_some, is_none, refl, sym, ap, subst, ◌∙◌}
+use Rattle.std.proofs.Common.{◌≡◌, ℕ, pos, not, true, false, List, [], ◌∷◌, map, slice_get, is_some, is_none, refl, sym, ap, subst, ◌∙◌}
 use Rattle.std.specs.List.{AllByRecursion, list_all}
 use Rattle.std.specs.FinMap as fin
 use Rattle.std.specs.declared.cmp.Ordering.{Ordering}
@@ -34,6 +34,7 @@ use Rattle.bike_schema.proofs.TableLemmas.{of_every, every_true}
 use Rattle.bike_schema.proofs.KeyLemmas.{unique_key}
 use Rattle.bike_schema.proofs.LayoutLemmas.{as_made}
 use Rattle.bike_schema.proofs.MakesLemmas.{continues_then, adds_row}
+use Rattle.bike_schema.proofs.InsertTexts.{insert_text}
 use Rattle.bike_schema.proofs.MakeFacts.{text_of, declared, index_only, each_told}
 use Rattle.bike_schema.proofs.IndexLemmas.{all_there}
 use Rattle.bike_schema.proofs.MakeLemmas.{adds}
@@ -112,17 +113,14 @@ none_named db none t =
 
 -- ---- the row of `meta`
 
-abbrev pub insert_text : List ℕ
-insert_text = codes "INSERT INTO meta VALUES (?1, ?2, ?3, ?4, ?5, ?6)"
-
 abbrev pub first_row : Row
 first_row = meta_row NEWEST 0 (pos 0) (pos 0)
 
-inserts : Inserts 1 (layout_of Meta) insert_text first_row
+inserts : Inserts 1 (layout_of Meta) (insert_text Meta) first_row
 unfolding everything
 inserts = row_put (unique_key Meta) (λ s tree. (refl, refl, refl, λ base. refl)) refl refl (λ rows. refl)
 
-pub adds_meta : Does (Admits first_write) (λ db. WasFree first_write (tables_of db)) (Puts (first_write ∷ [])) insert_text first_row
+pub adds_meta : Does (Admits first_write) (λ db. WasFree first_write (tables_of db)) (Puts (first_write ∷ [])) (insert_text Meta) first_row
 adds_meta = adds_row Meta (λ s. inserts)
 
 -- ---- the tables of the operator of which nothing was asked

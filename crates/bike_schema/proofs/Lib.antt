@@ -9,6 +9,7 @@ mod RunLemmas
 pub mod MakeTexts
 pub mod IndexLemmas
 pub mod MakeFacts
+pub mod InsertTexts
 pub mod MakeLemmas
 pub mod GrowthLemmas
 mod FreshLemmas

@@ -8,7 +8,8 @@ ghost use Rattle.bike_schema.specs.Creates.{RunsAll, LeavesCommit, TellsFault, M
 ghost use Rattle.bike_schema.specs.Creates.{first_write};
 
 use crate::fault::StatementFault;
-use bike_book::NEWEST;
+use crate::indexes;
+use bike_book::{NEWEST, table};
 use bike_rows::write::run;
 use sqlite::{Alter, Transaction, params};
 
@@ -21,54 +22,33 @@ pub const APP: &str = "bikeshare";
 
 /// The statements that make the tables, in the order of the schema.
 pub const TABLES: [&str; 17] = [
-    "CREATE TABLE meta (one INTEGER PRIMARY KEY, app TEXT NOT NULL, version INTEGER NOT NULL, \
-     now INTEGER NOT NULL, cash INTEGER NOT NULL, revenue INTEGER NOT NULL) STRICT",
-    "CREATE TABLE system (one INTEGER PRIMARY KEY, system_id TEXT NOT NULL, language TEXT NOT NULL, \
-     name TEXT NOT NULL, hours TEXT NOT NULL, contact TEXT NOT NULL, zone TEXT NOT NULL, \
-     currency TEXT NOT NULL, base_url TEXT NOT NULL, ttl INTEGER NOT NULL) STRICT",
-    "CREATE TABLE plans (plan_id TEXT PRIMARY KEY NOT NULL, name TEXT NOT NULL, price INTEGER NOT NULL, \
-     taxable INTEGER NOT NULL, description TEXT NOT NULL) STRICT",
-    "CREATE TABLE segments (plan_id TEXT NOT NULL, seq INTEGER NOT NULL, start INTEGER NOT NULL, \
-     rate INTEGER NOT NULL, every INTEGER NOT NULL, finish INTEGER, PRIMARY KEY (plan_id, seq)) STRICT",
-    "CREATE TABLE types (type_id TEXT PRIMARY KEY NOT NULL, name TEXT NOT NULL, form TEXT NOT NULL, \
-     propulsion TEXT NOT NULL, range_m INTEGER NOT NULL, plan_id TEXT NOT NULL) STRICT",
-    "CREATE TABLE regions (region_id TEXT PRIMARY KEY NOT NULL, name TEXT NOT NULL) STRICT",
-    "CREATE TABLE stations_3 (station_id TEXT PRIMARY KEY NOT NULL, name TEXT NOT NULL, lat INTEGER NOT NULL, \
-     lon INTEGER NOT NULL, docks INTEGER NOT NULL, installed INTEGER NOT NULL, renting INTEGER NOT NULL, \
-     \"returning\" INTEGER NOT NULL, reported INTEGER NOT NULL, free INTEGER NOT NULL, \
-     broken INTEGER NOT NULL, region_id TEXT) STRICT",
-    "CREATE TABLE docks (station_id TEXT NOT NULL, dock INTEGER NOT NULL, broken INTEGER NOT NULL, \
-     PRIMARY KEY (station_id, dock)) STRICT",
-    "CREATE TABLE bikes (bike INTEGER PRIMARY KEY, type_id TEXT NOT NULL, state INTEGER NOT NULL, \
-     station_id TEXT, dock INTEGER, rental INTEGER, truck INTEGER, ord INTEGER) STRICT",
-    "CREATE TABLE trucks (truck INTEGER PRIMARY KEY, capacity INTEGER NOT NULL) STRICT",
-    "CREATE TABLE riders (rider INTEGER PRIMARY KEY, blocked INTEGER NOT NULL, balance INTEGER NOT NULL) STRICT",
-    "CREATE TABLE rentals (rental INTEGER PRIMARY KEY, rider INTEGER NOT NULL, bike INTEGER NOT NULL, \
-     plan_id TEXT NOT NULL, from_station TEXT NOT NULL, start INTEGER NOT NULL, to_station TEXT, \
-     finish INTEGER, fare INTEGER, refunded INTEGER NOT NULL) STRICT",
-    "CREATE TABLE orders (ord INTEGER PRIMARY KEY, truck INTEGER NOT NULL, from_end TEXT NOT NULL, \
-     to_end TEXT NOT NULL, type_id TEXT NOT NULL, quantity INTEGER NOT NULL, delivered INTEGER NOT NULL, \
-     is_open INTEGER NOT NULL) STRICT",
-    "CREATE TABLE entries (entry INTEGER PRIMARY KEY, kind INTEGER NOT NULL, rider INTEGER NOT NULL, \
-     rental INTEGER NOT NULL, amount INTEGER NOT NULL, at INTEGER NOT NULL) STRICT",
-    "CREATE TABLE kept (caller TEXT NOT NULL, req_key TEXT NOT NULL, command TEXT NOT NULL, \
-     reply TEXT NOT NULL) STRICT",
-    "CREATE TABLE counts (station_id TEXT NOT NULL, type_id TEXT NOT NULL, available INTEGER NOT NULL, \
-     disabled INTEGER NOT NULL, PRIMARY KEY (station_id, type_id)) STRICT",
-    "CREATE TABLE more_names (kind TEXT NOT NULL, id TEXT NOT NULL, language TEXT NOT NULL, name TEXT NOT NULL, \
-     PRIMARY KEY (kind, id, language)) STRICT",
+    table!(create meta),
+    table!(create system),
+    table!(create plans),
+    table!(create segments),
+    table!(create types),
+    table!(create regions),
+    table!(create stations),
+    table!(create docks),
+    table!(create bikes),
+    table!(create trucks),
+    table!(create riders),
+    table!(create rentals),
+    table!(create orders),
+    table!(create entries),
+    table!(create kept),
+    table!(create counts),
+    table!(create more_names),
 ];
 
 /// The statements that make the indexes beside those of the keys.
 pub const INDEXES: [&str; 6] = [
-    "CREATE INDEX bikes_by_dock ON bikes (station_id, dock)",
-    "CREATE INDEX bikes_by_truck ON bikes (truck)",
-    "CREATE INDEX rentals_by_rider ON rentals (rider)",
-    "CREATE INDEX more_names_by_language ON more_names (language)",
-    // All that is read of a thing's names stands in it, so the table isn't read beside it.
-    "CREATE INDEX more_names_by_thing ON more_names (kind, id, language, name)",
-    // A UNIQUE index would be probed for each row whenever the file is opened.
-    "CREATE INDEX kept_by_key ON kept (caller, req_key)",
+    indexes::BIKES_BY_DOCK,
+    indexes::BIKES_BY_TRUCK,
+    indexes::RENTALS_BY_RIDER,
+    indexes::MORE_NAMES_BY_LANGUAGE,
+    indexes::MORE_NAMES_BY_THING,
+    indexes::KEPT_BY_KEY,
 ];
 
 /// Runs the statements one after another, with no parameters, up to the first that fails.
@@ -105,7 +85,7 @@ fn add_meta<S: Alter>(staged: &mut Staged<'_, S>) -> Result<(), StatementFault>
 {
     run(
         staged,
-        "INSERT INTO meta VALUES (?1, ?2, ?3, ?4, ?5, ?6)",
+        table!(insert meta),
         params![1_i64, APP, NEWEST, 0_i64, 0_i64, 0_i64],
     )
 }

@@ -6,29 +6,30 @@ ghost use Rattle.sqlite.specs.Held.{state};
 ghost use Rattle.bike_schema.specs.Indexes.{is_free, HasRoom};
 ghost use Rattle.bike_schema.specs.Tables.{names_parent, is_parent, is_unused, HasNone};
 
+use bike_book::table;
 use sqlite::{Alter, Connection};
 use sqlite_schema::names::same_name;
 use sqlite_schema::schema::{Schema, Table};
 
 /// The names of the tables.
 const TABLE_NAMES: [&str; 17] = [
-    "meta",
-    "system",
-    "plans",
-    "segments",
-    "types",
-    "regions",
-    "stations_3",
-    "docks",
-    "bikes",
-    "trucks",
-    "riders",
-    "rentals",
-    "orders",
-    "entries",
-    "kept",
-    "counts",
-    "more_names",
+    table!(name meta),
+    table!(name system),
+    table!(name plans),
+    table!(name segments),
+    table!(name types),
+    table!(name regions),
+    table!(name stations),
+    table!(name docks),
+    table!(name bikes),
+    table!(name trucks),
+    table!(name riders),
+    table!(name rentals),
+    table!(name orders),
+    table!(name entries),
+    table!(name kept),
+    table!(name counts),
+    table!(name more_names),
 ];
 
 /// The names of the tables that only an earlier schema has.

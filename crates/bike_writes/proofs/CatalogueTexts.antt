@@ -12,10 +12,11 @@ use Rattle.bike_rows.proofs.WriteLaws.{row_put, row_updated}
 use Rattle.bike_accepted.specs.declared.change.Change.TheVariants as change
 use Rattle.bike_book.specs.declared.row_change.RowChange.TheVariants as row
 use Rattle.bike_book.specs.Writes.{record_write, write_of}
+use Rattle.bike_schema.proofs.InsertTexts.{insert_text}
 use Rattle.bike_schema.proofs.KeyLemmas.{unique_key}
 use Rattle.bike_schema.proofs.MakesLemmas.{adds_row, sets_columns}
 
-pub sets_system : (x : Bor SystemRow) → Makes (codes "INSERT INTO system VALUES (?1, ?2, ?3, ?4, ?5, ?6, ?7, ?8, ?9, ?10)") (system_row x.now) (record_write (change.SetSystem x))
+pub sets_system : (x : Bor SystemRow) → Makes (insert_text System) (system_row x.now) (record_write (change.SetSystem x))
 unfolding everything
 sets_system x = adds_row System (λ s. row_put (unique_key System) (λ s tree. (refl, refl, refl, λ base. refl)) refl refl (λ rows. refl))
 
@@ -24,15 +25,15 @@ pub changes_system : (x : Bor SettingsRow) → Makes (codes "UPDATE system SET n
 unfolding everything
 changes_system x = sets_columns System _ _ (λ s. row_updated (unique_key System) 0 ((3, 1) ∷ (4, 2) ∷ (5, 3) ∷ (6, 4) ∷ (8, 5) ∷ (9, 6) ∷ []) _ (λ tree. (refl, refl, refl), refl) refl refl refl (λ r. refl) (λ r. refl))
 
-pub adds_plan : (p : Bor PlanRow) → Makes (codes "INSERT INTO plans VALUES (?1, ?2, ?3, ?4, ?5)") (plan_row p.now.plan_id p.now) (record_write (change.AddPlan p))
+pub adds_plan : (p : Bor PlanRow) → Makes (insert_text Plans) (plan_row p.now.plan_id p.now) (record_write (change.AddPlan p))
 unfolding everything
 adds_plan p = adds_row Plans (λ s. row_put (unique_key Plans) (λ s tree. (refl, refl, refl, λ base. refl)) refl refl (λ rows. refl))
 
-pub adds_segment : (plan : Bor (List ℕ)) (seq : ℕ) (g : Bor SegmentRow) → Makes (codes "INSERT INTO segments VALUES (?1, ?2, ?3, ?4, ?5, ?6)") (segment_row plan.now seq g.now) (write_of (row.AddSegment plan seq g))
+pub adds_segment : (plan : Bor (List ℕ)) (seq : ℕ) (g : Bor SegmentRow) → Makes (insert_text Segments) (segment_row plan.now seq g.now) (write_of (row.AddSegment plan seq g))
 unfolding everything
 adds_segment plan seq g = adds_row Segments (λ s. row_put (unique_key Segments) (λ s tree. (refl, refl, refl, λ base. refl)) refl (rw (number_suits g.now.end)) (λ rows. refl))
 
-pub adds_type : (t : Bor TypeRow) → Makes (codes "INSERT INTO types VALUES (?1, ?2, ?3, ?4, ?5, ?6)") (type_row t.now.type_id t.now) (record_write (change.AddType t))
+pub adds_type : (t : Bor TypeRow) → Makes (insert_text Types) (type_row t.now.type_id t.now) (record_write (change.AddType t))
 unfolding everything
 adds_type t = adds_row Types (λ s. row_put (unique_key Types) (λ s tree. (refl, refl, refl, λ base. refl)) refl refl (λ rows. refl))
 
@@ -40,6 +41,6 @@ pub sets_plan : (type_id plan : Bor (List ℕ)) → Makes (codes "UPDATE types S
 unfolding everything
 sets_plan type_id plan = sets_columns Types _ _ (λ s. row_updated (unique_key Types) 0 ((5, 1) ∷ []) _ (λ tree. (refl, refl, refl), refl) refl refl refl (λ r. refl) (λ r. refl))
 
-pub adds_region : (r : Bor RegionRow) → Makes (codes "INSERT INTO regions VALUES (?1, ?2)") (region_row r.now.region_id r.now) (record_write (change.AddRegion r))
+pub adds_region : (r : Bor RegionRow) → Makes (insert_text Regions) (region_row r.now.region_id r.now) (record_write (change.AddRegion r))
 unfolding everything
 adds_region r = adds_row Regions (λ s. row_put (unique_key Regions) (λ s tree. (refl, refl, refl, λ base. refl)) refl refl (λ rows. refl))

@@ -12,6 +12,7 @@ use Rattle.bike_operator.specs.declared.change.NewPlace.{NewPlace}
 use Rattle.bike_operator.specs.Changes.{place_of}
 use Rattle.bike_book.specs.Tables.{Bikes, Trucks}
 use Rattle.bike_book.specs.Rows.{number_value, state_number, place_columns, bike_row, truck_row}
+use Rattle.bike_schema.proofs.InsertTexts.{insert_text}
 use Rattle.bike_schema.specs.Tables.{tables_of}
 use Rattle.bike_schema.specs.Makes.{Puts}
 use Rattle.bike_schema.specs.Calls.{WasFree, Admits}
@@ -26,7 +27,7 @@ use Rattle.bike_book.specs.Writes.{Set, columns_from, record_write, write_of}
 use Rattle.bike_schema.proofs.KeyLemmas.{unique_key}
 use Rattle.bike_schema.proofs.MakesLemmas.{adds_row, sets_columns}
 
-pub adds_bike : (bike : ℕ) (type_id : Bor (List ℕ)) → Makes (codes "INSERT INTO bikes VALUES (?1, ?2, ?3, ?4, ?5, ?6, ?7, ?8)") (bike_row bike (record { type_id = type_id.now; state = Fit; place = Depot })) (record_write (change.AddBike bike type_id))
+pub adds_bike : (bike : ℕ) (type_id : Bor (List ℕ)) → Makes (insert_text Bikes) (bike_row bike (record { type_id = type_id.now; state = Fit; place = Depot })) (record_write (change.AddBike bike type_id))
 unfolding everything
 adds_bike bike type_id = adds_row Bikes (λ s. row_put (unique_key Bikes) (λ s tree. (refl, refl, refl, λ base. refl)) refl refl (λ rows. refl))
 
@@ -42,6 +43,6 @@ pub sets_bike : (bike : ℕ) (state : BikeState) (place : NewPlace) (c : PlaceCo
     → Makes (codes "UPDATE bikes SET state = ?2, station_id = ?3, dock = ?4, rental = ?5, truck = ?6, ord = ?7 WHERE bike = ?1") (number_value bike ∷ Int (state_number state) ∷ columns_of c) (write_of (row.SetBike bike state place))
 sets_bike bike state place c same = subst (λ columns. MakesPlace bike state c columns) same (sets_place bike state c)
 
-pub adds_truck : (truck capacity : ℕ) → Makes (codes "INSERT INTO trucks VALUES (?1, ?2)") (truck_row truck capacity) (record_write (change.AddTruck truck capacity))
+pub adds_truck : (truck capacity : ℕ) → Makes (insert_text Trucks) (truck_row truck capacity) (record_write (change.AddTruck truck capacity))
 unfolding everything
 adds_truck truck capacity = adds_row Trucks (λ s. row_put (unique_key Trucks) (λ s tree. (refl, refl, refl, λ base. refl)) refl refl (λ rows. refl))

@@ -10,14 +10,15 @@ use Rattle.sqlite_tied.specs.Compute.{everything}
 use Rattle.bike_rows.proofs.WriteLaws.{row_put, row_put_free, row_updated}
 use Rattle.bike_book.specs.declared.row_change.RowChange.TheVariants as row
 use Rattle.bike_book.specs.Writes.{write_of}
+use Rattle.bike_schema.proofs.InsertTexts.{insert_text}
 use Rattle.bike_schema.proofs.KeyLemmas.{unique_key}
 use Rattle.bike_schema.proofs.MakesLemmas.{adds_row, keeps_row, sets_columns}
 
-pub adds_entry : (e : Bor Entry) → Makes (codes "INSERT INTO entries VALUES (?1, ?2, ?3, ?4, ?5, ?6)") (entry_row e.now.number e.now) (write_of (row.AddEntry e))
+pub adds_entry : (e : Bor Entry) → Makes (insert_text Entries) (entry_row e.now.number e.now) (write_of (row.AddEntry e))
 unfolding everything
 adds_entry e = adds_row Entries (λ s. row_put (unique_key Entries) (λ s tree. (refl, refl, refl, λ base. refl)) refl refl (λ rows. refl))
 
-pub adds_kept : (caller key command reply : Bor (List ℕ)) → Makes (codes "INSERT INTO kept VALUES (?1, ?2, ?3, ?4)") (kept_row caller.now key.now command.now reply.now) (write_of (row.AddKept caller key command reply))
+pub adds_kept : (caller key command reply : Bor (List ℕ)) → Makes (insert_text Kept) (kept_row caller.now key.now command.now reply.now) (write_of (row.AddKept caller key command reply))
 unfolding everything
 adds_kept caller key command reply = keeps_row (λ s. row_put_free (λ s tree. (refl, refl, refl, λ base. refl)) refl refl (λ rows. refl))
 

@@ -13,6 +13,7 @@ use Rattle.sqlite_tied.specs.Compute.{everything}
 use Rattle.bike_rows.proofs.WriteLaws.{row_put, row_updated, row_removed}
 use Rattle.bike_accepted.specs.declared.change.Change.TheVariants as change
 use Rattle.bike_book.specs.Writes.{record_write}
+use Rattle.bike_schema.proofs.InsertTexts.{insert_text}
 use Rattle.bike_schema.proofs.KeyLemmas.{table_key, unique_key}
 use Rattle.bike_schema.proofs.MakesLemmas.{adds_row, sets_columns, removes_row}
 
@@ -40,7 +41,7 @@ pub sets_region_name : (id name : Bor (List ℕ)) → Makes (codes "UPDATE regio
 unfolding everything
 sets_region_name id name = sets_columns Regions _ _ (λ s. row_updated (unique_key Regions) 0 ((1, 1) ∷ []) _ (λ tree. (refl, refl, refl), refl) refl refl refl (λ r. refl) (λ r. refl))
 
-pub adds_name : (kind : NameKind) (id language name : Bor (List ℕ)) → Makes (codes "INSERT INTO more_names VALUES (?1, ?2, ?3, ?4)") (name_row (name_key kind id.now language.now) name.now) (record_write (change.AddName kind id language name))
+pub adds_name : (kind : NameKind) (id language name : Bor (List ℕ)) → Makes (insert_text MoreNames) (name_row (name_key kind id.now language.now) name.now) (record_write (change.AddName kind id language name))
 unfolding everything
 adds_name kind id language name = adds_row MoreNames (λ s. row_put (unique_key MoreNames) (λ s tree. (refl, refl, refl, λ base. refl)) refl refl (λ rows. refl))
 

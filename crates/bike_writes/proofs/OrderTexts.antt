@@ -10,10 +10,11 @@ use Rattle.sqlite_tied.specs.Compute.{everything}
 use Rattle.bike_rows.proofs.WriteLaws.{row_put, row_updated}
 use Rattle.bike_accepted.specs.declared.change.Change.TheVariants as change
 use Rattle.bike_book.specs.Writes.{record_write}
+use Rattle.bike_schema.proofs.InsertTexts.{insert_text}
 use Rattle.bike_schema.proofs.KeyLemmas.{unique_key}
 use Rattle.bike_schema.proofs.MakesLemmas.{adds_row, sets_columns}
 
-pub adds_order : (order truck : ℕ) (from_end to_end : Bor OrderEnd) (type_id : Bor (List ℕ)) (count : ℕ) → Makes (codes "INSERT INTO orders VALUES (?1, ?2, ?3, ?4, ?5, ?6, ?7, ?8)") (order_row order (record { truck = truck; from_end = from_end.now; to_end = to_end.now; type_id = type_id.now; count = count; delivered = 0; is_open = true })) (record_write (change.AddOrder order truck from_end to_end type_id count))
+pub adds_order : (order truck : ℕ) (from_end to_end : Bor OrderEnd) (type_id : Bor (List ℕ)) (count : ℕ) → Makes (insert_text Orders) (order_row order (record { truck = truck; from_end = from_end.now; to_end = to_end.now; type_id = type_id.now; count = count; delivered = 0; is_open = true })) (record_write (change.AddOrder order truck from_end to_end type_id count))
 unfolding everything
 adds_order order truck from_end to_end type_id count = adds_row Orders (λ s. row_put (unique_key Orders) (λ s tree. (refl, refl, refl, λ base. refl)) refl refl (λ rows. refl))
 

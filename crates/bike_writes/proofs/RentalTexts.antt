@@ -13,10 +13,11 @@ use Rattle.bike_rows.proofs.WriteLaws.{row_put, row_updated}
 use Rattle.bike_accepted.specs.declared.change.Change.TheVariants as change
 use Rattle.bike_book.specs.declared.row_change.RowChange.TheVariants as row
 use Rattle.bike_book.specs.Writes.{record_write, write_of}
+use Rattle.bike_schema.proofs.InsertTexts.{insert_text}
 use Rattle.bike_schema.proofs.KeyLemmas.{unique_key}
 use Rattle.bike_schema.proofs.MakesLemmas.{adds_row, sets_columns}
 
-pub adds_rental : (rental rider bike : ℕ) (plan from_station : Bor (List ℕ)) (start : ℕ) → Makes (codes "INSERT INTO rentals VALUES (?1, ?2, ?3, ?4, ?5, ?6, ?7, ?8, ?9, ?10)") (rental_row rental (record { rider = rider; bike = bike; plan = plan.now; from_station = from_station.now; start = start; closing = None }) (pos 0)) (record_write (change.AddRental rental rider bike plan from_station start))
+pub adds_rental : (rental rider bike : ℕ) (plan from_station : Bor (List ℕ)) (start : ℕ) → Makes (insert_text Rentals) (rental_row rental (record { rider = rider; bike = bike; plan = plan.now; from_station = from_station.now; start = start; closing = None }) (pos 0)) (record_write (change.AddRental rental rider bike plan from_station start))
 unfolding everything
 adds_rental rental rider bike plan from_station start = adds_row Rentals (λ s. row_put (unique_key Rentals) (λ s tree. (refl, refl, refl, λ base. refl)) refl refl (λ rows. refl))
 

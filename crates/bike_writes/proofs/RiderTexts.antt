@@ -9,10 +9,11 @@ use Rattle.bike_rows.proofs.WriteLaws.{row_put, row_updated}
 use Rattle.bike_accepted.specs.declared.change.Change.TheVariants as change
 use Rattle.bike_book.specs.declared.row_change.RowChange.TheVariants as row
 use Rattle.bike_book.specs.Writes.{record_write, write_of}
+use Rattle.bike_schema.proofs.InsertTexts.{insert_text}
 use Rattle.bike_schema.proofs.KeyLemmas.{unique_key}
 use Rattle.bike_schema.proofs.MakesLemmas.{adds_row, sets_columns}
 
-pub adds_rider : (rider : ℕ) → Makes (codes "INSERT INTO riders VALUES (?1, ?2, ?3)") (rider_row rider false (pos 0)) (record_write (change.AddRider rider))
+pub adds_rider : (rider : ℕ) → Makes (insert_text Riders) (rider_row rider false (pos 0)) (record_write (change.AddRider rider))
 unfolding everything
 adds_rider rider = adds_row Riders (λ s. row_put (unique_key Riders) (λ s tree. (refl, refl, refl, λ base. refl)) refl refl (λ rows. refl))
 

@@ -16,10 +16,11 @@ use Rattle.bike_rows.proofs.WriteLaws.{row_put, row_updated}
 use Rattle.bike_accepted.specs.declared.change.Change.TheVariants as change
 use Rattle.bike_book.specs.declared.row_change.RowChange.TheVariants as row
 use Rattle.bike_book.specs.Writes.{record_write, write_of}
+use Rattle.bike_schema.proofs.InsertTexts.{insert_text}
 use Rattle.bike_schema.proofs.KeyLemmas.{unique_key}
 use Rattle.bike_schema.proofs.MakesLemmas.{adds_row, sets_columns}
 
-pub adds_station : (x : Bor StationRow) (reported : ℕ) → Makes (codes "INSERT INTO stations_3 VALUES (?1, ?2, ?3, ?4, ?5, ?6, ?7, ?8, ?9, ?10, ?11, ?12)") (station_row x.now.station_id (new_station x.now reported) (pos x.now.docks) 0) (record_write (change.AddStation x reported))
+pub adds_station : (x : Bor StationRow) (reported : ℕ) → Makes (insert_text Stations) (station_row x.now.station_id (new_station x.now reported) (pos x.now.docks) 0) (record_write (change.AddStation x reported))
 unfolding everything
 adds_station x reported = adds_row Stations (λ s. row_put (unique_key Stations) (λ s tree. (refl, refl, refl, λ base. refl)) refl refl (λ rows. refl))
 
@@ -43,7 +44,7 @@ pub sets_region : (station : Bor (List ℕ)) (region : Option (Bor (List ℕ))) 
 unfolding everything
 sets_region station region = sets_columns Stations _ _ (λ s. row_updated (unique_key Stations) 0 ((11, 1) ∷ []) _ (λ tree. (refl, refl, refl), refl) refl refl (rw (text_suits (text_in region))) (λ r. refl) (λ r. refl))
 
-pub adds_dock : (station : Bor (List ℕ)) (dock : ℕ) (broken : Bool) → Makes (codes "INSERT INTO docks VALUES (?1, ?2, ?3)") (dock_row station.now dock broken) (write_of (row.AddDock station dock broken))
+pub adds_dock : (station : Bor (List ℕ)) (dock : ℕ) (broken : Bool) → Makes (insert_text Docks) (dock_row station.now dock broken) (write_of (row.AddDock station dock broken))
 unfolding everything
 adds_dock station dock broken = adds_row Docks (λ s. row_put (unique_key Docks) (λ s tree. (refl, refl, refl, λ base. refl)) refl refl (λ rows. refl))
 
@@ -51,7 +52,7 @@ pub sets_dock : (station : Bor (List ℕ)) (dock : ℕ) (broken : Bool) → Make
 unfolding everything
 sets_dock station dock broken = sets_columns Docks _ _ (λ s. row_updated (unique_key Docks) 0 ((2, 2) ∷ []) _ (λ tree. (refl, refl, refl), refl) refl refl refl (λ r. refl) (λ r. refl))
 
-pub adds_count : (station type_id : Bor (List ℕ)) (available disabled : ℕ) → Makes (codes "INSERT INTO counts VALUES (?1, ?2, ?3, ?4)") (count_row station.now type_id.now available disabled) (write_of (row.AddCount station type_id available disabled))
+pub adds_count : (station type_id : Bor (List ℕ)) (available disabled : ℕ) → Makes (insert_text Counts) (count_row station.now type_id.now available disabled) (write_of (row.AddCount station type_id available disabled))
 unfolding everything
 adds_count station type_id available disabled = adds_row Counts (λ s. row_put (unique_key Counts) (λ s tree. (refl, refl, refl, λ base. refl)) refl refl (λ rows. refl))
 

@@ -5,6 +5,7 @@ ghost use Rattle.bike_book.specs.declared.row_change.RowChange.TheVariants as ro
 ghost use Rattle.bike_book.specs.Writes.{record_write, write_of};
 ghost use Rattle.bike_schema.specs.Calls.{Writes};
 
+use bike_book::table;
 use bike_catalogue::{Plan, Region, Settings, System, VehicleType};
 use bike_fields::{Ident, Segment};
 use bike_rows::write::run;
@@ -20,7 +21,7 @@ pub(crate) fn set_system<S: Alter>(
 {
     run(
         tx,
-        "INSERT INTO system VALUES (?1, ?2, ?3, ?4, ?5, ?6, ?7, ?8, ?9, ?10)",
+        table!(insert system),
         params![
             1_i64,
             system.system_id().as_str(),
@@ -64,7 +65,7 @@ pub(crate) fn add_plan<S: Alter>(tx: &mut Staged<'_, S>, plan: &Plan) -> Result<
 {
     run(
         tx,
-        "INSERT INTO plans VALUES (?1, ?2, ?3, ?4, ?5)",
+        table!(insert plans),
         params![
             plan.plan_id().as_str(),
             plan.name().as_str(),
@@ -86,7 +87,7 @@ pub(crate) fn add_segment<S: Alter>(
 {
     run(
         tx,
-        "INSERT INTO segments VALUES (?1, ?2, ?3, ?4, ?5, ?6)",
+        table!(insert segments),
         params![
             plan.as_str(),
             seq,
@@ -107,7 +108,7 @@ pub(crate) fn add_type<S: Alter>(
 {
     run(
         tx,
-        "INSERT INTO types VALUES (?1, ?2, ?3, ?4, ?5, ?6)",
+        table!(insert types),
         params![
             vehicle_type.type_id().as_str(),
             vehicle_type.name().as_str(),
@@ -143,7 +144,7 @@ pub(crate) fn add_region<S: Alter>(
 {
     run(
         tx,
-        "INSERT INTO regions VALUES (?1, ?2)",
+        table!(insert regions),
         params![region.region_id().as_str(), region.name().as_str()],
     )
 }

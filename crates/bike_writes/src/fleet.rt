@@ -10,6 +10,7 @@ ghost use Rattle.bike_schema.specs.Calls.{Writes};
 ghost use Rattle.bike_writes.specs.Columns.{columns_of};
 
 use crate::columns::state_number;
+use bike_book::table;
 use bike_fields::Ident;
 use bike_operator::{BikeState, NewPlace};
 use bike_rows::write::run;
@@ -62,7 +63,7 @@ pub(crate) fn add_bike<S: Alter>(
 {
     run(
         tx,
-        "INSERT INTO bikes VALUES (?1, ?2, ?3, ?4, ?5, ?6, ?7, ?8)",
+        table!(insert bikes),
         params![
             bike,
             type_id.as_str(),
@@ -109,9 +110,5 @@ pub(crate) fn add_truck<S: Alter>(
 ) -> Result<(), StatementFault>
     ensures { Writes S.Store tx.old.conn tx.new.conn result (record_write (change.AddTruck truck capacity)) }
 {
-    run(
-        tx,
-        "INSERT INTO trucks VALUES (?1, ?2)",
-        params![truck, capacity],
-    )
+    run(tx, table!(insert trucks), params![truck, capacity])
 }

@@ -5,6 +5,7 @@ ghost use Rattle.bike_book.specs.Writes.{write_of};
 ghost use Rattle.bike_schema.specs.Calls.{Writes};
 
 use crate::columns::{kind_number, seconds_of};
+use bike_book::table;
 use bike_fixed::{Cents, Moment};
 use bike_ledger::Entry;
 use bike_rows::write::run;
@@ -20,7 +21,7 @@ pub(crate) fn add_entry<S: Alter>(
 {
     run(
         tx,
-        "INSERT INTO entries VALUES (?1, ?2, ?3, ?4, ?5, ?6)",
+        table!(insert entries),
         params![
             entry.number().get(),
             kind_number(entry.kind()),
@@ -45,7 +46,7 @@ pub(crate) fn add_kept<S: Alter>(
 {
     run(
         tx,
-        "INSERT INTO kept VALUES (?1, ?2, ?3, ?4)",
+        table!(insert kept),
         params![caller, key, command, reply],
     )
 }

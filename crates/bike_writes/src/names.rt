@@ -4,6 +4,7 @@ ghost use Rattle.bike_accepted.specs.declared.change.Change.TheVariants as chang
 ghost use Rattle.bike_book.specs.Writes.{record_write};
 ghost use Rattle.bike_schema.specs.Calls.{Writes};
 
+use bike_book::table;
 use bike_fields::{Ident, Language, Name, NameKind};
 use bike_rows::write::run;
 use bike_schema::{Staged, StatementFault};
@@ -48,7 +49,7 @@ pub(crate) fn add_name<S: Alter>(
 {
     run(
         tx,
-        "INSERT INTO more_names VALUES (?1, ?2, ?3, ?4)",
+        table!(insert more_names),
         params![kind.as_str(), id.as_str(), language.as_str(), name.as_str()],
     )
 }

@@ -5,6 +5,7 @@ ghost use Rattle.bike_book.specs.Writes.{record_write};
 ghost use Rattle.bike_schema.specs.Calls.{Writes};
 
 use crate::columns::end_text;
+use bike_book::table;
 use bike_fields::Ident;
 use bike_rows::write::run;
 use bike_schema::{Staged, StatementFault};
@@ -26,7 +27,7 @@ pub(crate) fn add_order<S: Alter>(
 {
     run(
         tx,
-        "INSERT INTO orders VALUES (?1, ?2, ?3, ?4, ?5, ?6, ?7, ?8)",
+        table!(insert orders),
         params![
             order,
             truck,

@@ -6,6 +6,7 @@ ghost use Rattle.bike_book.specs.Writes.{record_write, write_of};
 ghost use Rattle.bike_schema.specs.Calls.{Writes};
 
 use crate::columns::{seconds_of, text_in};
+use bike_book::table;
 use bike_fields::Ident;
 use bike_fixed::{Cents, Moment};
 use bike_rows::write::run;
@@ -27,7 +28,7 @@ pub(crate) fn add_rental<S: Alter>(
 {
     run(
         tx,
-        "INSERT INTO rentals VALUES (?1, ?2, ?3, ?4, ?5, ?6, ?7, ?8, ?9, ?10)",
+        table!(insert rentals),
         params![
             rental,
             rider,

@@ -5,6 +5,7 @@ ghost use Rattle.bike_book.specs.declared.row_change.RowChange.TheVariants as ro
 ghost use Rattle.bike_book.specs.Writes.{record_write, write_of};
 ghost use Rattle.bike_schema.specs.Calls.{Writes};
 
+use bike_book::table;
 use bike_fixed::Cents;
 use bike_rows::write::run;
 use bike_schema::{Staged, StatementFault};
@@ -14,11 +15,7 @@ use sqlite::{Alter, params};
 pub(crate) fn add_rider<S: Alter>(tx: &mut Staged<'_, S>, rider: u32) -> Result<(), StatementFault>
     ensures { Writes S.Store tx.old.conn tx.new.conn result (record_write (change.AddRider rider)) }
 {
-    run(
-        tx,
-        "INSERT INTO riders VALUES (?1, ?2, ?3)",
-        params![rider, false, 0_i64],
-    )
+    run(tx, table!(insert riders), params![rider, false, 0_i64])
 }
 
 /// Sets whether the rider is blocked.

@@ -6,6 +6,7 @@ ghost use Rattle.bike_book.specs.Writes.{record_write, write_of};
 ghost use Rattle.bike_schema.specs.Calls.{Writes};
 
 use crate::columns::{seconds_of, text_in};
+use bike_book::table;
 use bike_catalogue::Station;
 use bike_fields::{Ident, Position};
 use bike_fixed::Moment;
@@ -24,7 +25,7 @@ pub(crate) fn add_station<S: Alter>(
 {
     run(
         tx,
-        "INSERT INTO stations_3 VALUES (?1, ?2, ?3, ?4, ?5, ?6, ?7, ?8, ?9, ?10, ?11, ?12)",
+        table!(insert stations),
         params![
             station.station_id().as_str(),
             station.name().as_str(),
@@ -148,7 +149,7 @@ pub(crate) fn add_dock<S: Alter>(
 {
     run(
         tx,
-        "INSERT INTO docks VALUES (?1, ?2, ?3)",
+        table!(insert docks),
         params![station.as_str(), dock, is_broken],
     )
 }
@@ -182,7 +183,7 @@ pub(crate) fn add_count<S: Alter>(
 {
     run(
         tx,
-        "INSERT INTO counts VALUES (?1, ?2, ?3, ?4)",
+        table!(insert counts),
         params![station.as_str(), type_id.as_str(), available, disabled],
     )
 }
