@@ -1,5 +1,5 @@
 -- What a request waits for that isn't whole.
-use Rattle.std.proofs.Common.{◌≡◌, ℕ, ◌+◌, ◌-◌, ◌<◌, ◌≤◌, List, [], ◌∷◌, ◌++◌, Bool, true, false, ◌&&◌, ◌||◌, ◌==◌, length, take, drop, Result, Ok, Err, is_ok, if◌then◌else◌, refl, sym, ap, ◌∙◌, subst, inl, inr, arith, append_assoc, append-nil, length-append}
+use Rattle.std.proofs.Common.{◌≡◌, ℕ, ◌+◌, ◌-◌, ◌<◌, ◌≤◌, List, [], ◌∷◌, ◌++◌, Bool, true, false, ◌&&◌, ◌||◌, ◌==◌, length, take, drop, Result, Ok, Err, is_ok, if◌then◌else◌, IsTrue, refl, sym, ap, ◌∙◌, subst, inl, inr, arith, append_assoc, append-nil, length-append}
 use Rattle.std.proofs.lemmas.Bool.{cases_lt, or_cases, or_left, or_right}
 use Rattle.std.proofs.lemmas.List.{drop-append-le}
 use Rattle.std.proofs.Math.Seq.{take-append_seam, take-append-add, drop-append_seam}
@@ -11,7 +11,7 @@ use Rattle.bike_http_connection.specs.Settled.{IsSettled, IsWhole}
 use Rattle.bike_http_connection.proofs.Settling.{settled_unreadable, settled_whole}
 use Rattle.bike_http_connection.specs.declared.stage.Stage.{Stage}
 use Rattle.bike_http_connection.specs.declared.stage.Stage.TheVariants as stages
-use Rattle.bike_http_connection.specs.Awaiting.{has_line_end, is_line_byte, KnowsHead, AwaitsLineEnd, AwaitsBytes, AwaitsNothing, Awaits, ShowsFeeds}
+use Rattle.bike_http_connection.specs.Awaiting.{has_line_end, is_line_byte, KnowsHead, AwaitsLineEnd, AwaitsBytes, AwaitsNothing, Awaits, AsksFeed, shows_feed, ShowsFeeds}
 use Rattle.std.proofs.Math.Bool.{or_assoc}
 use Rattle.std.proofs.lemmas.List.Folds.{list_any-append, list_all-append}
 
@@ -85,7 +85,7 @@ awaits_more stage old new bytes came awaits is = (
 )
 
 -- .. though nothing more may have been added
-awaits_anyway : (stage : Stage) (old new more : Bool) (bytes : List ℕ) → Awaits stage old bytes → new ≡ (old || more) → Awaits stage new bytes
+pub awaits_anyway : (stage : Stage) (old new more : Bool) (bytes : List ℕ) → Awaits stage old bytes → new ≡ (old || more) → Awaits stage new bytes
 awaits_anyway stage old new more bytes awaits is = (
   λ most at later whole. elim (or_cases old (has_line_end later) (awaits.0 most at later whole)) [
     | inl e ↦ or_left new (has_line_end later) (is ∙ or_left old more e)
@@ -125,10 +125,23 @@ pub at_none : (came : Bool) (bytes : List ℕ) → AwaitsNothing bytes → Await
 at_none came bytes awaits = (λ most at. absurd (cc at), λ end may_ask_feed at. absurd (cc at), λ at. awaits)
 
 pub no_feed_yet : (most : ℕ) (bytes : List ℕ) → ShowsFeeds (stages.Head most) bytes
-no_feed_yet most bytes end may_ask_feed at = absurd (cc at)
+no_feed_yet most bytes known = absurd known
 
-pub no_feed_ever : (bytes : List ℕ) → ShowsFeeds stages.Unreadable bytes
-no_feed_ever bytes end may_ask_feed at = absurd (cc at)
+pub no_feed_ever : (bytes : List ℕ) → ((more : List ℕ) → HasNoHead (bytes ++ more)) → ShowsFeeds stages.Unreadable bytes
+no_feed_ever bytes none known more (head, rest, has, feed, takes) = absurd (none more head rest has)
+
+-- what was known of a feed is known still, as more is added
+feeds_more : (stage : Stage) (bytes came : List ℕ) → ShowsFeeds stage bytes → ShowsFeeds stage (bytes ++ came)
+feeds_more stage bytes came shows known more asks = shows known (came ++ more) (subst AsksFeed (append_assoc bytes came more) asks)
+
+pub feeds_added : {E : Type 0} (told : Result (Unit {0}) E) (stage : Stage) (bytes reserved came after : List ℕ) → ShowsFeeds stage bytes
+    → reserved ≡ bytes → after ≡ (if is_ok told then reserved ++ came else reserved) → ShowsFeeds stage after
+feeds_added {E} (Ok x) stage bytes reserved came after shows same is =
+    subst (λ (l : List ℕ). ShowsFeeds stage l) (sym (is ∙ ap (λ (l : List ℕ). l ++ came) same)) (feeds_more stage bytes came shows)
+feeds_added {E} (Err e) stage bytes reserved came after shows same is = subst (λ (l : List ℕ). ShowsFeeds stage l) (sym (is ∙ same)) shows
+
+pub feed_shown : (stage : Stage) (bytes : List ℕ) → ShowsFeeds stage bytes → KnowsHead stage → AsksFeed bytes → IsTrue (shows_feed stage)
+feed_shown stage bytes shows known asks = shows known [] (subst AsksFeed (sym (append-nil bytes)) asks)
 
 pub none_yet : (most : ℕ) (bytes : List ℕ) → bytes ≡ [] → Awaits (stages.Head most) false bytes
 none_yet most bytes is = at_head most false bytes (λ more whole. no_line_yet bytes more (subst HasNoRequest (sym is) nothing_whole) whole)
@@ -190,6 +203,10 @@ not_blank false bytes is whole = refl
 
 pub blank_none : (bytes : List ℕ) → bytes ≡ [] → list_all is_line_byte bytes ≡ true
 blank_none bytes is = ap (list_all is_line_byte) is
+
+pub blank_anyway : (old new more : Bool) (bytes : List ℕ) → (old ≡ true → list_all is_line_byte bytes ≡ true) → new ≡ (old && more) → new ≡ true
+    → list_all is_line_byte bytes ≡ true
+blank_anyway old new more bytes blank flag still = blank (both_true old more (sym flag ∙ still)).0
 
 pub blank_added : {E : Type 0} (told : Result (Unit {0}) E) (old new : Bool) (bytes reserved came after : List ℕ)
     → (old ≡ true → list_all is_line_byte bytes ≡ true) → new ≡ (old && list_all is_line_byte came) → reserved ≡ bytes

@@ -1,5 +1,5 @@
 -- What is waited for of a request.
-use Rattle.std.specs.Prelude.{◌≡◌, ℕ, ◌<◌, ◌≤◌, List, ◌++◌, length, Bool, true, ◌||◌, ◌==◌, ⊤, Some, IsTrue}
+use Rattle.std.specs.Prelude.{◌≡◌, ℕ, ◌<◌, ◌≤◌, List, ◌++◌, length, Bool, true, false, ◌||◌, ◌==◌, ⊤, Some, IsTrue}
 use Rattle.std.specs.List.{list_any}
 use Rattle.httparse.specs.Ascii.{line_feed, carriage_return}
 use Rattle.httparse.specs.Grammar.{RequestHead}
@@ -45,8 +45,18 @@ Awaits stage came bytes =
     × ((end : ℕ) (may_ask_feed : Bool) → stage ≡ Body end may_ask_feed → AwaitsBytes end bytes)
     × (stage ≡ Unreadable → AwaitsNothing bytes)
 
--- where the path in its head takes the route of a feed, it is known that it may ask for one
+-- it is known that it may ask for a feed
+abbrev pub shows_feed : Stage → Bool
+shows_feed (Head most) = false
+shows_feed (Body end may_ask_feed) = may_ask_feed
+shows_feed Unreadable = false
+
+-- the path in its head takes the route of a feed
+abbrev pub AsksFeed : List ℕ → Type 0
+AsksFeed bytes =
+    (head : RequestHead) × (rest : List ℕ) × HasHead bytes head rest
+    × (feed : _) × (route_at (path_of head.target) ≡ Some (route.Publish feed))
+
+-- where these bytes, with others that follow, ask for a feed, it is known that they may
 abbrev pub ShowsFeeds : Stage → List ℕ → Type 0
-ShowsFeeds stage bytes =
-    (end : ℕ) (may_ask_feed : Bool) → stage ≡ Body end may_ask_feed → (head : RequestHead) (rest : List ℕ) → HasHead bytes head rest
-    → (feed : _) → route_at (path_of head.target) ≡ Some (route.Publish feed) → IsTrue may_ask_feed
+ShowsFeeds stage bytes = KnowsHead stage → (more : List ℕ) → AsksFeed (bytes ++ more) → IsTrue (shows_feed stage)

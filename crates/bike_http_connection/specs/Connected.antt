@@ -1,11 +1,13 @@
 -- A client whose connection is open, as all that is known of it.
-use Rattle.std.specs.Prelude.{ℕ, List, [], ◌∷◌, ◌++◌, Bool, ⊤}
+use Rattle.std.specs.Prelude.{ℕ, List, [], ◌∷◌, ◌++◌, Bool, false, ⊤}
+use Rattle.std.specs.declared.time.Duration.{Duration}
 use Rattle.bike_http_connection.specs.declared.peer.Peer.{Peer}
 use Rattle.bike_http_connection.specs.declared.connection.State.{State}
 use Rattle.bike_http_connection.specs.declared.connection.State.TheVariants.{Gathering, Ready, Sending, Lingering}
 use Rattle.bike_http_connection.specs.declared.exchange.Exchange.{Exchange}
 use Rattle.bike_http_connection.specs.Asking.{Coming, ahead_as, coming_from, unread}
 use Rattle.bike_http_connection.specs.Settled.{IsComplete}
+use Rattle.bike_http_connection.specs.Awaiting.{shows_feed}
 
 -- A client: when it was accepted, and all that it sends; its request, while that isn't answered; and its response: what
 -- it took, and what of its answer is still to be sent to it.
@@ -13,6 +15,12 @@ pub record Connected : Type 0 where
   pub client : Coming
   pub ahead : List Coming
   pub response : List ℕ
+
+-- A connection: its client, when it is given up, and whether its request is there and may ask for a feed.
+pub record Opened : Type 0 where
+  pub who : Connected
+  pub end : Duration
+  pub may_be_feed : Bool
 
 -- a client who has this one request to be answered
 abbrev pub asking : Connected → Coming → Connected
@@ -28,6 +36,13 @@ left_in (Gathering gathering) = []
 left_in (Ready gathering) = []
 left_in (Sending answer is_early) = answer
 left_in (Lingering pieces) = []
+
+-- its request is there, and may ask for a feed
+abbrev pub asks_feed : State → Bool
+asks_feed (Gathering gathering) = false
+asks_feed (Ready gathering) = shows_feed gathering.stage
+asks_feed (Sending answer is_early) = false
+asks_feed (Lingering pieces) = false
 
 -- its answer goes out
 abbrev pub IsUnderWay : State → Type 0
@@ -64,6 +79,9 @@ module _ {S : Type 0} (input coming taken : S → List ℕ) where
     ahead = ahead_as coming peer state;
     response = taken peer.socket ++ left_in state;
   }
+
+  abbrev pub opened_as : Peer S → State → Opened
+  opened_as peer state = record { who = connected_as peer state; end = peer.end; may_be_feed = asks_feed state }
 
   -- one that is accepted, of whose request this came
   abbrev pub begun_as : S → ℕ → List ℕ → Connected

@@ -1,14 +1,15 @@
 //! What a connection is about.
 
-ghost use Rattle.std.specs.Prelude.{◌≡◌, ◌++◌, [], IsTrue, IsFalse, IfOk, IfErr};
+ghost use Rattle.std.specs.Prelude.{◌≡◌, ◌++◌, ◌+◌, ◌*◌, [], min, IsTrue, IsFalse, IfOk, IfErr};
+ghost use Rattle.std.specs.Duration.{as_nanos, max_nanos};
 ghost use Rattle.bike_http_connection.specs.Connected.{left_in, IsUnderWay, IsReady, IsRequest};
-ghost use Rattle.bike_http_connection.specs.Connected.{connected_as, begun_as, handed_as};
+ghost use Rattle.bike_http_connection.specs.Connected.{connected_as, opened_as, begun_as, handed_as};
 ghost use Rattle.bike_http_connection.specs.Asking.{AsksAs, unread, coming_from};
 
 use crate::answer::Answer;
 use crate::exchange::Exchange;
 use crate::gathering::Gathering;
-use crate::limits::{MOST_CALLS, PIECE};
+use crate::limits::{MOST_CALLS, PATIENCE, PIECE};
 use crate::peer::Peer;
 use crate::request::Request;
 use crate::socket::Socket;
@@ -52,7 +53,8 @@ pub(crate) enum State {
     Lingering { pieces: u32 },
 }
 
-/// A connection; seen as its client, of whom it is known what is still to be answered and what is taken.
+/// A connection; seen as its client, of whom it is known what is still to be answered and what is taken, with the moment
+/// at which it is given up, and whether it may ask for a feed.
 #[derive(Drop)]
 pub struct Connection<S: Socket> {
     peer: Peer<S>,
@@ -62,11 +64,11 @@ pub struct Connection<S: Socket> {
 }
 
 impl<S: Socket> Model for Connection<S> {
-    ghost use Rattle.bike_http_connection.specs.Connected.{Connected, connected_as, IsReady};
+    ghost use Rattle.bike_http_connection.specs.Connected.{Opened, opened_as, IsReady};
 
-    ghost Value = { Connected };
+    ghost Value = { Opened };
 
-    ghost view = { λ c. connected_as S.input S.coming S.taken c.peer c.state };
+    ghost view = { λ c. opened_as S.input S.coming S.taken c.peer c.state };
 
     // A request that is told as there is whole.
     ghost invariant = { λ c. IsReady S.is_known S.coming c.peer c.state };
@@ -112,6 +114,7 @@ fn gather<S: Socket>(peer: Peer<S>, gathering: Gathering) -> (Peer<S>, State, St
         ≡ connected_as S.input S.coming S.taken peer (State.Gathering gathering) }
     ensures kept { S.input result.0.socket ≡ S.input peer.socket }
     ensures moment { result.0.moment ≡ peer.moment }
+    ensures end { result.0.end ≡ peer.end }
     ensures response { IsTrue S.is_known
         → S.taken result.0.socket ++ left_in result.1 ≡ S.taken peer.socket ++ left_in (State.Gathering gathering) }
 {
@@ -132,6 +135,7 @@ fn go_on<S: Socket>(peer: Peer<S>, state: State) -> (Peer<S>, State, Step)
         ≡ connected_as S.input S.coming S.taken peer state }
     ensures kept { S.input result.0.socket ≡ S.input peer.socket }
     ensures moment { result.0.moment ≡ peer.moment }
+    ensures end { result.0.end ≡ peer.end }
     ensures response { IsTrue S.is_known
         → S.taken result.0.socket ++ left_in result.1 ≡ S.taken peer.socket ++ left_in state }
 {
@@ -164,7 +168,9 @@ impl<S: Socket> Connection<S> {
         now: Duration,
         came: &[u8],
     ) -> Result<Connection<S>, AllocError>
-        ensures { IfOk result (λ begun. begun ≡ begun_as S.input S.coming S.taken socket moment came.now) }
+        ensures who { IfOk result (λ begun. begun.who ≡ begun_as S.input S.coming S.taken socket moment came.now) }
+        ensures end { IfOk result (λ begun.
+            as_nanos begun.end ≡ min (as_nanos now + PATIENCE * 1_000_000_000) max_nanos) }
     {
         let peer = Peer::new(socket, moment, now);
         let mut gathering = Gathering::new(alloc);
@@ -174,7 +180,7 @@ impl<S: Socket> Connection<S> {
 
     /// A connection of whose request this came.
     fn gathering(peer: Peer<S>, gathering: Gathering) -> Connection<S>
-        ensures { result ≡ connected_as S.input S.coming S.taken peer (State.Gathering gathering) }
+        ensures { result ≡ opened_as S.input S.coming S.taken peer (State.Gathering gathering) }
     {
         Connection {
             peer,
@@ -185,7 +191,7 @@ impl<S: Socket> Connection<S> {
 
     /// A connection that was answered. The answer may have been made before all of the request was read (`is_early`).
     pub(crate) fn sending(peer: Peer<S>, answer: Answer, is_early: bool) -> Connection<S>
-        ensures { result ≡ connected_as S.input S.coming S.taken peer (State.Sending answer is_early) }
+        ensures { result ≡ opened_as S.input S.coming S.taken peer (State.Sending answer is_early) }
     {
         Connection {
             peer,
@@ -195,13 +201,16 @@ impl<S: Socket> Connection<S> {
     }
 
     /// When it is given up.
-    pub fn end(&self) -> Duration {
+    pub fn end(&self) -> Duration
+        ensures { result ≡ self.now.end }
+    {
         self.peer.end()
     }
 
     /// Gives it up no later than at this moment.
     pub fn end_by(&mut self, end: Duration)
-        ensures { self.new ≡ self.old }
+        ensures others { self.new ≡ record self.old { end = self.new.end } }
+        ensures sooner { as_nanos self.new.end ≡ min (as_nanos self.old.end) (as_nanos end) }
     {
         self.peer.end_by(end);
     }
@@ -233,13 +242,15 @@ impl<S: Socket> Connection<S> {
 
     /// Whether its client may still send of a request which was answered before all of it was read.
     pub fn is_early(&self) -> bool
-        ensures { IsTrue result → self.now.ahead ≡ [] }
+        ensures { IsTrue result → self.now.who.ahead ≡ [] }
     {
         matches!(&self.state, State::Sending { is_early: true, .. })
     }
 
     /// Whether its request may ask for a feed.
-    pub fn may_be_feed(&self) -> bool {
+    pub fn may_be_feed(&self) -> bool
+        ensures { result ≡ self.now.may_be_feed }
+    {
         match &self.state {
             State::Ready(gathering) => gathering.may_ask_feed(),
             State::Gathering(_) | State::Sending { .. } | State::Lingering { .. } => false,
@@ -249,9 +260,10 @@ impl<S: Socket> Connection<S> {
     /// Reads or writes as far as its socket is ready. Where it is over then, which ends it, what it took and what of
     /// its answer wasn't sent to it are its response still.
     pub fn step(self) -> (Connection<S>, Step)
-        ensures same { IsTrue S.is_known → (result.1 ≡ Step.Over → ⊥) → result.0 ≡ self }
-        ensures client { result.0.client ≡ self.client }
-        ensures response { IsTrue S.is_known → result.0.response ≡ self.response }
+        ensures same { IsTrue S.is_known → (result.1 ≡ Step.Over → ⊥) → result.0.who ≡ self.who }
+        ensures client { result.0.who.client ≡ self.who.client }
+        ensures response { IsTrue S.is_known → result.0.who.response ≡ self.who.response }
+        ensures end { result.0.end ≡ self.end }
     {
         let Connection {
             peer,
@@ -273,7 +285,8 @@ impl<S: Socket> Connection<S> {
         ensures whole { IfOk result (λ exchange. IsRequest S.is_known S.coming exchange) }
         ensures asks { IsTrue S.is_known → IfOk result (λ exchange.
             AsksAs (unread exchange.request) (coming_from S.coming exchange).input) }
-        ensures handed { IfOk result (λ exchange. self ≡ handed_as S.input S.coming S.taken exchange) }
+        ensures handed { IfOk result (λ exchange. self.who ≡ handed_as S.input S.coming S.taken exchange) }
+        ensures end { IfOk result (λ exchange. exchange.peer.end ≡ self.end) }
         ensures kept { IfErr result (λ connection. connection ≡ self) }
     {
         let Connection {
@@ -298,8 +311,9 @@ impl<S: Socket> Connection<S> {
     /// is closed while bytes of it are unread is reset, and with that the client may lose its answer (RFC 9112, section
     /// 9.6).
     pub fn linger(&mut self)
-        ensures answered { self.new.ahead ≡ [] }
-        ensures kept { self.old.ahead ≡ [] → self.new ≡ self.old }
+        ensures answered { self.new.who.ahead ≡ [] }
+        ensures kept { self.old.who.ahead ≡ [] → self.new.who ≡ self.old.who }
+        ensures end { self.new.end ≡ self.old.end }
     {
         if !is_sent(&self.state) {
             return;

@@ -4,7 +4,8 @@ ghost use Rattle.std.specs.Prelude.{◌≡◌, ◌⊎◌, ◌&&◌, not, [], ◌
 ghost use Rattle.bike_http_request.specs.Received.{Grew};
 ghost use Rattle.bike_http_connection.specs.Settled.{IsSettled, IsThere, IsWhole};
 ghost use Rattle.std.specs.List.{list_all};
-ghost use Rattle.bike_http_connection.specs.Awaiting.{Awaits, KnowsHead, is_line_byte};
+ghost use Rattle.bike_http_connection.specs.Awaiting.{Awaits, KnowsHead, ShowsFeeds, AsksFeed};
+ghost use Rattle.bike_http_connection.specs.Awaiting.{shows_feed, is_line_byte};
 
 use crate::connection::Step;
 use crate::limits::{MOST_CALLS, PIECE};
@@ -30,6 +31,8 @@ pub struct Gathering {
     pub(crate) is_ended: bool,
 
     ghost awaits: { Awaits stage has_line_end bytes.items },
+
+    ghost feeds: { ShowsFeeds stage bytes.items },
 
     ghost blank: { IsTrue is_blank → list_all is_line_byte bytes.items ≡ true },
 }
@@ -112,14 +115,15 @@ impl Gathering {
     }
 
     /// Whether it may ask for a feed, by the path in its head. No other answer is long.
-    pub(crate) fn may_ask_feed(&self) -> bool {
-        matches!(
-            self.stage,
-            Stage::Body {
-                may_ask_feed: true,
-                ..
-            }
-        )
+    pub(crate) fn may_ask_feed(&self) -> bool
+        ensures shown { result ≡ shows_feed self.now.stage }
+        ensures feeds { KnowsHead self.now.stage → AsksFeed self.now.bytes.items → IsTrue result }
+    {
+        match self.stage {
+            Stage::Head(_) => false,
+            Stage::Body { may_ask_feed, .. } => may_ask_feed,
+            Stage::Unreadable => false,
+        }
     }
 
     /// Reads a piece of what is there; none where more may be there.

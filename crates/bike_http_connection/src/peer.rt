@@ -1,6 +1,7 @@
 //! The client of a connection.
 
-ghost use Rattle.std.specs.Prelude.{◌≡◌};
+ghost use Rattle.std.specs.Prelude.{◌≡◌, ◌+◌, ◌*◌, min};
+ghost use Rattle.std.specs.Duration.{as_nanos, max_nanos};
 ghost use Rattle.bike_http_connection.specs.Connected.{peer_as, answered};
 
 use crate::answer::Answer;
@@ -33,6 +34,7 @@ impl<S: Socket> Peer<S> {
     pub(crate) fn new(socket: S, moment: Moment, now: Duration) -> Peer<S>
         ensures socket { result.socket ≡ socket }
         ensures moment { result.moment ≡ moment }
+        ensures end { as_nanos result.end ≡ min (as_nanos now + PATIENCE * 1_000_000_000) max_nanos }
     {
         Peer {
             socket,
@@ -51,19 +53,23 @@ impl<S: Socket> Peer<S> {
 
     /// The connection with its answer, which may have been made before all of the request was read (`is_early`).
     pub fn into_answered(self, answer: Answer, is_early: bool) -> Connection<S>
-        ensures { result ≡ answered (peer_as S.input S.taken self) answer }
+        ensures who { result.who ≡ answered (peer_as S.input S.taken self) answer }
+        ensures end { result.end ≡ self.end }
     {
         Connection::sending(self, answer, is_early)
     }
 
     /// When it is given up.
-    pub(crate) fn end(&self) -> Duration {
+    pub(crate) fn end(&self) -> Duration
+        ensures { result ≡ self.now.end }
+    {
         self.end
     }
 
     /// Gives it up no later than at this moment.
     pub(crate) fn end_by(&mut self, end: Duration)
-        ensures { self.new ≡ record self.old { end = self.new.end } }
+        ensures others { self.new ≡ record self.old { end = self.new.end } }
+        ensures sooner { as_nanos self.new.end ≡ min (as_nanos self.old.end) (as_nanos end) }
     {
         if end < self.end {
             self.end = end;
@@ -80,6 +86,7 @@ impl<S: Socket> Peer<S> {
     ) -> io::Result<()>
         ensures kept { S.coming self.new.socket ≡ S.coming self.old.socket }
         ensures moment { self.new.moment ≡ self.old.moment }
+        ensures end { self.new.end ≡ self.old.end }
         ensures own { S.input self.new.socket ≡ S.input self.old.socket }
         ensures taken { S.taken self.new.socket ≡ S.taken self.old.socket }
     {
@@ -96,6 +103,7 @@ impl<S: Socket> Peer<S> {
     pub(crate) fn watch_reads(&mut self, registry: &S::Registry, key: usize) -> io::Result<()>
         ensures kept { S.coming self.new.socket ≡ S.coming self.old.socket }
         ensures moment { self.new.moment ≡ self.old.moment }
+        ensures end { self.new.end ≡ self.old.end }
         ensures own { S.input self.new.socket ≡ S.input self.old.socket }
         ensures taken { S.taken self.new.socket ≡ S.taken self.old.socket }
     {
@@ -106,6 +114,7 @@ impl<S: Socket> Peer<S> {
     pub(crate) fn watch_writes(&mut self, registry: &S::Registry, key: usize) -> io::Result<()>
         ensures kept { S.coming self.new.socket ≡ S.coming self.old.socket }
         ensures moment { self.new.moment ≡ self.old.moment }
+        ensures end { self.new.end ≡ self.old.end }
         ensures own { S.input self.new.socket ≡ S.input self.old.socket }
         ensures taken { S.taken self.new.socket ≡ S.taken self.old.socket }
     {

@@ -1,4 +1,5 @@
 pub mod Losing
+pub mod Ending
 pub mod Giving
 pub mod Opening
 pub mod Requests

@@ -1,5 +1,5 @@
 -- For how long is waited, and what is to be done without waiting.
-use Rattle.std.specs.Prelude.{ℕ, min, ◌<◌, ◌⊎◌, Bool, IsTrue, Option, Some, None, option_map}
+use Rattle.std.specs.Prelude.{ℕ, min, ◌<◌, ◌≤◌, ◌⊎◌, Bool, IsTrue, Option, Some, None, option_map}
 use Rattle.std.specs.Duration.{as_nanos}
 use Rattle.std.specs.declared.time.Duration.{Duration}
 
@@ -12,6 +12,11 @@ abbrev pub sooner_of : Option ℕ → Option ℕ → Option ℕ
 sooner_of None other = other
 sooner_of (Some moment) None = Some moment
 sooner_of (Some moment) (Some other) = Some (min moment other)
+
+-- a moment, which may be never, has come
+abbrev pub HasCome : Option ℕ → ℕ → Type 0
+HasCome None now = ⊥
+HasCome (Some moment) now = moment ≤ now
 
 -- one goes on at once: its request is there, it was put off, or it may ask for a feed, and there is room for one
 abbrev pub IsDue : ℕ → ℕ → ℕ → Bool → Type 0

@@ -1,14 +1,16 @@
 //! Accepting, waiting, and whose turn it is.
 
-ghost use Rattle.std.specs.Prelude.{◌≡◌, ◌<◌, ◌-◌, ◌↔◌, ◌∷◌, map, IsTrue, IfOk, Some, if◌then◌else◌};
+ghost use Rattle.std.specs.Prelude.{◌≡◌, ◌∷◌, map, IsTrue, IfOk, Some, if◌then◌else◌};
 ghost use Rattle.bike_http_connection.specs.Connected.{begun_as, peer_as, answered};
 ghost use Rattle.bike_http_connections.specs.Ahead.{Loses, fresh, ahead_of};
 ghost use Rattle.bike_http_connections.specs.Handed.{Gives, Hands, HandsOver, AreWhole};
 ghost use Rattle.bike_http_connections.specs.Turns.{nanos, sooner_of};
 
-use crate::limits::{ACCEPTS_AGAIN, TURN};
+use crate::limits::TURN;
 use crate::network::{Accepted, Network};
-use crate::open::{Open, sooner};
+use crate::open::Open;
+use crate::times::{Pause, sooner};
+use crate::turns::Turn;
 use bike_fixed::Moment;
 use bike_http_connection::{Answer, Connection, Exchange, PIECE, Peer};
 use std::alloc::Global;
@@ -25,12 +27,10 @@ pub struct Connections<N: Network> {
     connections: Open<N::Socket>,
     /// When this turn began.
     now: Duration,
-    /// How many requests that are no feeds are still handed out in this turn.
-    answers: usize,
-    /// Whether a feed may be handed out in this turn.
-    may_publish: bool,
-    /// Before this moment nobody is accepted, since accepting failed.
-    accepts_from: Duration,
+    /// What is still handed out in this turn.
+    left: Turn,
+    /// While it lasts nobody is accepted, since accepting failed.
+    pause: Pause,
 }
 
 impl<N: Network> Model for Connections<N> {
@@ -60,16 +60,6 @@ fn time_to_wait(
     }
 }
 
-/// Takes one of the turns that are left; false where none is.
-fn take_turn(left: &mut usize) -> bool
-    ensures some { IsTrue result ↔ 0 < left.old }
-    ensures left { left.new ≡ left.old - 1 }
-{
-    let some = *left > 0;
-    *left = left.saturating_sub(1);
-    some
-}
-
 impl<N: Network> Connections<N> {
     /// None is open. Takes the memory for all that may be.
     pub fn new(alloc: Global, network: N) -> io::Result<Connections<N>>
@@ -82,9 +72,8 @@ impl<N: Network> Connections<N> {
             network,
             connections,
             now: Duration::ZERO,
-            answers: 0,
-            may_publish: false,
-            accepts_from: Duration::ZERO,
+            left: Turn::over(),
+            pause: Pause::none(),
         })
     }
 
@@ -123,8 +112,7 @@ impl<N: Network> Connections<N> {
     fn put_off_accepting(&mut self)
         ensures { self.new ≡ self.old }
     {
-        let moment = Duration::from_millis(ACCEPTS_AGAIN);
-        self.accepts_from = self.now.saturating_add(moment);
+        self.pause.begin(self.now);
     }
 
     /// Whether somebody may wait to be accepted, and there is room for one more.
@@ -137,7 +125,7 @@ impl<N: Network> Connections<N> {
         ensures { IsTrue N.Socket.is_known → Loses self.old self.new }
     {
         for _turn in 0..TURN {
-            if !self.has_place() || self.now < self.accepts_from {
+            if !self.has_place() || !self.pause.is_over(self.now) {
                 return Ok(());
             }
             if !self.accept_one()? {
@@ -202,7 +190,7 @@ impl<N: Network> Connections<N> {
     /// For how long is waited at most.
     fn patience(&self) -> Option<Duration> {
         let accepts_in = if self.has_place() {
-            Some(self.accepts_from.saturating_sub(self.now))
+            Some(self.pause.left(self.now))
         } else {
             None
         };
@@ -250,8 +238,7 @@ impl<N: Network> Connections<N> {
     fn turn(&mut self) -> io::Result<()>
         ensures { IsTrue N.Socket.is_known → Loses self.old self.new }
     {
-        self.answers = TURN;
-        self.may_publish = true;
+        self.left = Turn::begin();
         if self.connections.is_empty() {
             self.accept_alone()
         } else {
@@ -264,7 +251,7 @@ impl<N: Network> Connections<N> {
         ensures { Gives N.Socket.is_known N.Socket.input N.Socket.coming N.Socket.taken
             self.old self.new result }
     {
-        if !take_turn(&mut self.answers) {
+        if !self.left.take_answer() {
             return None;
         }
         self.connections.next(false)
@@ -275,10 +262,9 @@ impl<N: Network> Connections<N> {
         ensures { Gives N.Socket.is_known N.Socket.input N.Socket.coming N.Socket.taken
             self.old self.new result }
     {
-        if !self.may_publish {
+        if !self.left.take_feed() {
             return None;
         }
-        self.may_publish = false;
         self.connections.next(true)
     }
 

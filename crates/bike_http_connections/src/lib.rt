@@ -10,6 +10,9 @@ mod connections;
 mod limits;
 mod network;
 mod open;
+mod room;
+mod times;
+mod turns;
 
 pub use connections::Connections;
 pub use limits::{ACCEPTS_AGAIN, MOST_OPEN, TURN};

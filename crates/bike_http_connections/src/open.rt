@@ -1,104 +1,107 @@
 //! The connections that are open.
 
-ghost use Rattle.std.specs.Prelude.{◌≡◌, ◌<◌, ◌≤◌, ◌+◌, ◌-◌, ◌↔◌, [], ◌∷◌, length, IsTrue, false};
-ghost use Rattle.std.specs.Prelude.{IfOk, IfSome, IfNone, Some, option_map};
+ghost use Rattle.std.specs.Prelude.{◌≡◌, ◌<◌, ◌↔◌, [], ◌∷◌, length, IsTrue, false, IfOk, IfSome, IfNone};
 ghost use Rattle.std.specs.Duration.{as_nanos};
 ghost use Rattle.bike_http_connections.specs.Ahead.{Loses};
 ghost use Rattle.bike_http_connections.specs.Handed.{Gives};
-ghost use Rattle.bike_http_connections.specs.Turns.{nanos, sooner_of, IsDue};
+ghost use Rattle.bike_http_connections.specs.Ending.{clients_in, NoneSooner, IsOfOne, EndsLate, EndsLateAt};
+ghost use Rattle.bike_http_connections.specs.Turns.{nanos};
 
 use crate::limits::MOST_OPEN;
+use crate::room::Room;
+use crate::times::Deadlines;
+use crate::turns::Queues;
 use bike_http_connection::{Answer, BLOCK, Connection, Exchange, Socket, Step};
 use slab::Slab;
 use std::alloc::{AllocError, Global};
-use std::collections::VecDeque;
 use std::marker::Model;
 use std::time::Duration;
-
-/// How many blocks the answers under way have together at most: 32 MB.
-const MOST_BLOCKS: usize = 512;
-
-/// For how many blocks there is room when a feed is begun: more than the longest has.
-const FEED_BLOCKS: usize = 256;
 
 /// For how many milliseconds a client is waited for in all that may still send of a request which was answered before
 /// all of it was read.
 const LINGER: u64 = 200;
 
-/// The connections that are open, by their keys; seen as their clients. A key in a queue is a hint: the connection may
-/// have ended, and another have its key.
+/// The connections that are open, by their keys; seen as their clients.
 #[derive(Drop)]
 pub(crate) struct Open<S: Socket> {
     alloc: Global,
     connections: Slab<Connection<S>>,
-    /// Those whose request is there and asks for no feed, in the order in which it was.
-    ready: VecDeque<usize>,
-    /// Those whose request is there and may ask for a feed.
-    feeds: VecDeque<usize>,
-    /// Those that go on in the next turn.
-    going: VecDeque<usize>,
-    /// How many blocks the answers under way hold.
-    held: usize,
-    /// Before this moment none is given up.
-    soonest: Option<Duration>,
+    queues: Queues,
+    room: Room,
+    deadlines: Deadlines,
 }
 
 impl<S: Socket> Model for Open<S> {
     ghost use Rattle.std.specs.Prelude.{List};
     ghost use Rattle.bike_http_connection.specs.Connected.{Connected};
-    ghost use Rattle.bike_http_connections.specs.Ahead.{open_in};
+    ghost use Rattle.bike_http_connections.specs.Ending.{clients_in, NoneSooner};
+    ghost use Rattle.bike_http_connections.specs.Turns.{nanos};
 
     ghost Value = { List Connected };
 
-    ghost view = { λ o. open_in o.connections.slots };
+    ghost view = { λ o. clients_in o.connections.slots };
+
+    // None of them is given up before the soonest of the deadlines.
+    ghost invariant = { λ o. NoneSooner (nanos o.deadlines.soonest) o.connections };
 }
 
-/// The sooner of two moments, of which the first may be never.
-pub(crate) fn sooner(soonest: Option<Duration>, end: Duration) -> Option<Duration>
-    ensures { nanos result ≡ sooner_of (nanos soonest) (Some (as_nanos end)) }
+/// The deadlines of those that are open.
+fn deadlines_of<S: Socket>(connections: &Slab<Connection<S>>) -> Deadlines
+    ensures all { NoneSooner (nanos result.soonest) connections.now }
+    ensures some { IsOfOne (nanos result.soonest) connections.now }
 {
-    match soonest {
-        Some(other) if other < end => Some(other),
-        _ => Some(end),
+    let mut deadlines = Deadlines::none();
+    for key in 0..connections.capacity() {
+        if let Some(connection) = connections.get(key) {
+            deadlines.note(connection.end());
+        }
+    }
+    deadlines
+}
+
+/// Ends the connection of this key where its time is over.
+fn end_where_late<S: Socket>(
+    connections: &mut Slab<Connection<S>>,
+    room: &mut Room,
+    key: usize,
+    now: Duration,
+)
+    ensures lost { Loses (clients_in connections.old.slots) (clients_in connections.new.slots) }
+    ensures late { EndsLateAt (as_nanos now) connections.old connections.new key }
+{
+    let is_late = match connections.get(key) {
+        Some(connection) => connection.end().as_nanos() <= now.as_nanos(),
+        None => false,
+    };
+    if is_late {
+        if let Some(connection) = connections.try_remove(key) {
+            room.give_back(connection.blocks());
+        }
     }
 }
 
-/// How long it is until this moment, which may be never.
-fn time_until(soonest: Option<Duration>, now: Duration) -> Option<Duration>
-    ensures { nanos result ≡ option_map (λ moment. moment - as_nanos now) (nanos soonest) }
+/// Ends those whose time is over, and no other.
+fn end_late<S: Socket>(connections: &mut Slab<Connection<S>>, room: &mut Room, now: Duration)
+    ensures lost { Loses (clients_in connections.old.slots) (clients_in connections.new.slots) }
+    ensures late { EndsLate (as_nanos now) connections.old connections.new }
 {
-    let soonest = soonest?;
-    Some(soonest.saturating_sub(now))
-}
-
-/// Whether one goes on without waiting: of so many whose request is there, that were put off, or that may ask for a
-/// feed.
-fn is_due(ready: usize, going: usize, feeds: usize, has_feed_room: bool) -> bool
-    ensures { IsTrue result ↔ IsDue ready going feeds has_feed_room }
-{
-    ready > 0 || going > 0 || (feeds > 0 && has_feed_room)
-}
-
-/// Whether a feed may be begun where the answers under way hold so many blocks.
-fn fits_feed(held: usize) -> bool
-    ensures { IsTrue result ↔ held + FEED_BLOCKS ≤ MOST_BLOCKS }
-{
-    held <= MOST_BLOCKS - FEED_BLOCKS
+    for key in 0..connections.capacity() {
+        end_where_late(connections, room, key, now);
+    }
 }
 
 impl<S: Socket> Open<S> {
     /// None is open. Takes the memory for all that may be.
+    #[tactic(auto, using(crate::proofs::Ending::nobody_sooner))]
     pub(crate) fn new(alloc: Global) -> Result<Open<S>, AllocError>
         ensures { IfOk result (λ none. none ≡ []) }
     {
         Ok(Open {
             alloc,
             connections: Slab::with_capacity(alloc, MOST_OPEN)?,
-            ready: VecDeque::with_capacity(alloc, MOST_OPEN)?,
-            feeds: VecDeque::with_capacity(alloc, MOST_OPEN)?,
-            going: VecDeque::with_capacity(alloc, MOST_OPEN)?,
-            held: 0,
-            soonest: None,
+            queues: Queues::with_capacity(alloc, MOST_OPEN)?,
+            room: Room::new(),
+            deadlines: Deadlines::none(),
         })
     }
 
@@ -116,25 +119,14 @@ impl<S: Socket> Open<S> {
         self.connections.len() < MOST_OPEN
     }
 
-    /// Whether a feed may be begun.
-    fn has_feed_room(&self) -> bool {
-        fits_feed(self.held)
-    }
-
     /// Whether something is to be done without waiting for a socket.
     pub(crate) fn has_work(&self) -> bool {
-        let has_feed_room = self.has_feed_room();
-        is_due(
-            self.ready.len(),
-            self.going.len(),
-            self.feeds.len(),
-            has_feed_room,
-        )
+        self.queues.has_work(self.room.fits_feed())
     }
 
     /// For how long there is nothing to do unless a socket gets ready; none where that is for ever.
     pub(crate) fn patience(&self, now: Duration) -> Option<Duration> {
-        time_until(self.soonest, now)
+        self.deadlines.patience(now)
     }
 
     /// Puts a connection where it has its next turn; false where it is over, or has no room there.
@@ -146,7 +138,7 @@ impl<S: Socket> Open<S> {
         step: Step,
         now: Duration,
     ) -> bool
-        ensures same { connection.new ≡ connection.old }
+        ensures same { connection.new.who ≡ connection.old.who }
         ensures kept { self.new ≡ self.old }
         ensures ended { step ≡ Step.Over → result ≡ false }
     {
@@ -157,22 +149,16 @@ impl<S: Socket> Open<S> {
                 connection.is_going()
                     || {
                         connection.set_going(true);
-                        self.going.push_back(key).is_ok()
+                        self.queues.put_off(key)
                     }
             }
-            Step::Settled => {
-                if connection.may_be_feed() {
-                    self.feeds.push_back(key).is_ok()
-                } else {
-                    self.ready.push_back(key).is_ok()
-                }
-            }
+            Step::Settled => self.queues.add(key, connection.may_be_feed()),
             Step::Sent => connection.is_early()
                 && {
                     connection.linger();
                     connection.end_by(now.saturating_add(Duration::from_millis(LINGER)));
                     connection.set_going(true);
-                    self.going.push_back(key).is_ok()
+                    self.queues.put_off(key)
                 },
             Step::Over => false,
         }
@@ -185,33 +171,33 @@ impl<S: Socket> Open<S> {
         connection: Connection<S>,
         now: Duration,
     )
-        ensures { IsTrue S.is_known → Loses (connection ∷ self.old) self.new }
+        ensures { IsTrue S.is_known → Loses (connection.who ∷ self.old) self.new }
     {
         let (mut connection, step) = connection.step();
         let key = self.connections.vacant_key();
         if self.is_kept(registry, key, &mut connection, step, now) {
-            self.soonest = sooner(self.soonest, connection.end());
             self.put_back(connection);
         }
     }
 
     /// Takes a connection out.
     fn remove(&mut self, key: usize) -> Option<Connection<S>>
-        ensures taken { IfSome result (λ connection. Loses self.old (connection ∷ self.new)) }
+        ensures taken { IfSome result (λ connection. Loses self.old (connection.who ∷ self.new)) }
         ensures none { IfNone result (self.new ≡ self.old) }
     {
         let connection = self.connections.try_remove(key)?;
-        self.held = self.held.saturating_sub(connection.blocks());
+        self.room.give_back(connection.blocks());
         Some(connection)
     }
 
-    /// Puts a connection back as it is.
+    /// Puts a connection in as it is, and notes when it is given up.
     fn put_back(&mut self, connection: Connection<S>)
-        ensures { Loses (connection ∷ self.old) self.new }
+        ensures { Loses (connection.who ∷ self.old) self.new }
     {
+        self.deadlines.note(connection.end());
         let blocks = connection.blocks();
         if self.connections.insert(connection).is_ok() {
-            self.held = self.held.saturating_add(blocks);
+            self.room.take(blocks);
         }
     }
 
@@ -238,8 +224,8 @@ impl<S: Socket> Open<S> {
     pub(crate) fn go_on(&mut self, registry: &S::Registry, now: Duration)
         ensures { IsTrue S.is_known → Loses self.old self.new }
     {
-        for _turn in 0..self.going.len() {
-            let Some(key) = self.going.pop_front() else {
+        for _turn in 0..self.queues.count_put_off() {
+            let Some(key) = self.queues.next_put_off() else {
                 return;
             };
             self.go_on_with(registry, key, now);
@@ -273,32 +259,17 @@ impl<S: Socket> Open<S> {
         }
     }
 
-    /// The key of the next of those that may ask for a feed, or of the others.
-    fn next_key(&mut self, is_feed: bool) -> Option<usize>
-        ensures { self.new ≡ self.old }
-    {
-        if is_feed {
-            self.feeds.pop_front()
-        } else {
-            self.ready.pop_front()
-        }
-    }
-
     /// The next of those that may ask for a feed, or of the others. A feed is handed out where there is room for the
     /// longest.
     pub(crate) fn next(&mut self, is_feed: bool) -> Option<(Exchange<S>, Answer)>
         ensures { Gives S.is_known S.input S.coming S.taken self.old self.new result }
     {
-        if is_feed && !self.has_feed_room() {
+        if is_feed && !self.room.fits_feed() {
             return None;
         }
-        let blocks = if is_feed {
-            MOST_BLOCKS.saturating_sub(self.held)
-        } else {
-            1
-        };
+        let blocks = self.room.blocks_for(is_feed);
         for _turn in 0..MOST_OPEN {
-            let Some(key) = self.next_key(is_feed) else {
+            let Some(key) = self.queues.next(is_feed) else {
                 return None;
             };
             let next = self.hand_out(key, is_feed, blocks);
@@ -309,33 +280,15 @@ impl<S: Socket> Open<S> {
         None
     }
 
-    /// Ends a connection whose time is over.
-    fn give_up_late(&mut self, key: usize, now: Duration)
-        ensures { Loses self.old self.new }
-    {
-        let Some(connection) = self.remove(key) else {
-            return;
-        };
-        if connection.end() > now {
-            self.soonest = sooner(self.soonest, connection.end());
-            self.put_back(connection);
-        }
-    }
-
     /// Ends those whose time is over.
     pub(crate) fn give_up(&mut self, now: Duration)
         ensures { Loses self.old self.new }
     {
-        let Some(soonest) = self.soonest else {
-            return;
-        };
-        if soonest > now {
+        if !self.deadlines.have_come(now) {
             return;
         }
-        self.soonest = None;
-        for key in 0..MOST_OPEN {
-            self.give_up_late(key, now);
-        }
+        end_late(&mut self.connections, &mut self.room, now);
+        self.deadlines = deadlines_of(&self.connections);
     }
 
     /// Ends a connection that has no answer under way, and gives it no longer than this where it has.
@@ -355,11 +308,9 @@ impl<S: Socket> Open<S> {
     pub(crate) fn close(&mut self, end: Duration)
         ensures { Loses self.old self.new }
     {
-        self.ready.clear();
-        self.feeds.clear();
-        for key in 0..MOST_OPEN {
+        self.queues.close();
+        for key in 0..self.connections.capacity() {
             self.close_one(key, end);
         }
-        self.soonest = Some(end);
     }
 }

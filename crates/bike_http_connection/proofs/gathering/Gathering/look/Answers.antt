@@ -1,5 +1,5 @@
 use Rattle.std.proofs.Common.{◌≡◌, false, true, List, ℕ, inl, inr, subst, sym, ◌∙◌}
-use Rattle.bike_http_connection.specs.Awaiting.{Awaits}
+use Rattle.bike_http_connection.specs.Awaiting.{Awaits, ShowsFeeds}
 use Rattle.bike_http_connection.proofs.Awaiting.{head_known}
 use Rattle.bike_http_connection.proofs.gathering.Gathering.look.Goals as goal
 
@@ -16,5 +16,6 @@ returns-else-may_have_head-clause-found c whole = elim (c.may_have_head.ensures 
 pub invariant_of-self : goal.invariant_of-self
 invariant_of-self c = record {
   awaits = subst (λ (l : List ℕ). Awaits c.stage_of-self.result false l) c.as_slice.ensures.value c.stage_of-self.ensures.awaits;
+  feeds = subst (λ (l : List ℕ). ShowsFeeds c.stage_of-self.result l) c.as_slice.ensures.value c.stage_of-self.ensures.feeds;
   blank = c.args.self.now.blank;
 }

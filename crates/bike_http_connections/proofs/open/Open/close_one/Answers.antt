@@ -1,11 +1,12 @@
-use Rattle.std.proofs.Common.{refl}
+use Rattle.std.proofs.Common.{refl, ap}
+use Rattle.bike_http_connection.specs.Connected.{Opened}
 use Rattle.bike_http_connections.proofs.Losing.{back_again, ends_there}
 use Rattle.bike_http_connections.proofs.open.Open.close_one.Goals as goal
 
 pub returns-then-is_answered : goal.returns-then-is_answered
 returns-then-is_answered g c =
-    back_again c.args.self.now c.remove.new.self _ c.put_back.new.self c.in-Some.connection _ refl c.end_by.ensures
+    back_again c.args.self.now c.remove.new.self _ c.put_back.new.self c.in-Some.connection.who _ refl (ap (λ (one : Opened). one.who) c.end_by.ensures.others)
     c.in-Some.ensures.taken c.put_back.ensures
 
 pub returns-else-is_answered : goal.returns-else-is_answered
-returns-else-is_answered g c = ends_there c.args.self.now c.remove.new.self c.in-Some.connection c.in-Some.ensures.taken
+returns-else-is_answered g c = ends_there c.args.self.now c.remove.new.self c.in-Some.connection.who c.in-Some.ensures.taken

@@ -1,4 +1,5 @@
-use Rattle.std.proofs.Common.{subst, sym, refl}
+use Rattle.std.proofs.Common.{subst, sym, refl, ap}
+use Rattle.bike_http_connection.specs.Connected.{Opened}
 use Rattle.bike_http_connections.specs.Handed.{Gives}
 use Rattle.bike_http_connections.proofs.Losing.{back_again, ends_there}
 use Rattle.bike_http_connections.proofs.Giving.{gives_taken}
@@ -7,22 +8,22 @@ use Rattle.bike_http_connections.proofs.open.Open.hand_out.Goals.{in-Ok-new, in-
 
 pub returns-then-may_be_feed-is_feed : goal.returns-then-may_be_feed-is_feed
 returns-then-may_be_feed-is_feed g c =
-    back_again c.args.self.now c.remove.new.self _ c.put_back.new.self c.in_ok-connection.connection _ refl refl
+    back_again c.args.self.now c.remove.new.self _ c.put_back.new.self c.in_ok-connection.connection.who _ refl refl
     c.in_ok-connection.ensures.taken c.put_back.ensures
 
 pub returns-after-new : goal.returns-after-new
 returns-after-new g c = elim c.match-new.branch [
   | in-Ok-new w ↦ subst (λ (given : _). Gives g.S.Socket.is_known g.S.Socket.input g.S.Socket.coming g.S.Socket.taken c.args.self.now c.remove.new.self given) (sym w.result-is) (
-    gives_taken g.S.Socket.is_known g.S.Socket.input g.S.Socket.coming g.S.Socket.taken c.args.self.now c.remove.new.self c.in_ok-connection.connection c.in-Ok.exchange
+    gives_taken g.S.Socket.is_known g.S.Socket.input g.S.Socket.coming g.S.Socket.taken c.args.self.now c.remove.new.self c.in_ok-connection.connection.who c.in-Ok.exchange
         c.in_ok-connection.ensures.taken c.in-Ok.ensures.handed,
     w.in-Ok-new.ensures,
     c.in-Ok.ensures.whole,
   )
   | in-Err-new w ↦ subst (λ (given : _). Gives g.S.Socket.is_known g.S.Socket.input g.S.Socket.coming g.S.Socket.taken c.args.self.now c.remove.new.self given) (sym w.result-is)
-      (ends_there c.args.self.now c.remove.new.self c.in_ok-connection.connection c.in_ok-connection.ensures.taken)
+      (ends_there c.args.self.now c.remove.new.self c.in_ok-connection.connection.who c.in_ok-connection.ensures.taken)
 ]
 
 pub returns-in-Err : goal.returns-in-Err
 returns-in-Err g c =
-    back_again c.args.self.now c.remove.new.self _ c.put_back-in-Err.new.self c.in_ok-connection.connection _ refl c.in-Err.ensures.kept
+    back_again c.args.self.now c.remove.new.self _ c.put_back-in-Err.new.self c.in_ok-connection.connection.who _ refl (ap (λ (one : Opened). one.who) c.in-Err.ensures.kept)
     c.in_ok-connection.ensures.taken c.put_back-in-Err.ensures

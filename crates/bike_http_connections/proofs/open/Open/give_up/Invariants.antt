@@ -1,6 +1,0 @@
-use Rattle.bike_http_connections.specs.Ahead.{Loses}
-use Rattle.bike_http_connections.proofs.open.Open.give_up.Given as goal
-
--- some may have ended so far
-abbrev pub invariant-loop-key : goal.invariant-loop-key
-invariant-loop-key g l = Loses l.fn.self l.self
