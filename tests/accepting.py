@@ -21,8 +21,8 @@ PASSING = [
 OVER_AT_ONCE = errno.ECONNABORTED, errno.EINTR
 # How long accepting fails, in seconds, and how often it is tried then, for each of these seconds.
 FAILING, LEAST_TRIES, MOST_TRIES = 1, 3, 16
-# Within how many seconds of the end of it the next client is answered, and who is open meanwhile. That it is tried again
-# soon is told by the count of tries; these seconds leave room for a disk on which one commit takes some of them.
+# Within how many seconds of the end of it the next client is answered, and who is open meanwhile. That it is tried
+# again soon is told by the count of tries; these seconds leave room for a disk on which one commit takes some of them.
 SOON = 8
 # How many nanoseconds of a processor the failing may take.
 MOST_WORK = 200_000_000
