@@ -1,5 +1,6 @@
 pub mod Newest
 pub mod Desk
 pub mod Serving
+pub mod Kept
 pub mod Runs
 pub mod Queries

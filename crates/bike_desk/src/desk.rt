@@ -4,8 +4,8 @@ ghost use Rattle.std.specs.Prelude.{◌≡◌, ◌≤◌, false, IsTrue, IfOk, O
 ghost use Rattle.sqlite_trees.specs.View.{doubt};
 ghost use Rattle.bike_operator.specs.Runs.{step};
 ghost use Rattle.bike_schema.specs.Makes.{OthersStay};
-ghost use Rattle.bike_schema.specs.Stands.{AllLeft};
-ghost use Rattle.bike_desk.specs.Desk.{desk_over, desk_state, IsAt, TreesStandForEither, OfOperator};
+ghost use Rattle.bike_desk.specs.Desk.{desk_over, desk_state, IsAt, OfOperator, KeepsDatabase};
+ghost use Rattle.bike_desk.specs.Runs.{LeavesEither};
 
 use crate::fault::DeskFault;
 use crate::newest::{Newest, know_newest};
@@ -98,13 +98,12 @@ impl<S: Alter> Desk<S> {
         ensures others { OfOperator S.Store self.old self.new (λ s.
             OnOk result (OthersStay (desk_state S.Store self.old).now (desk_state S.Store self.new).now)) }
         ensures rests { OfOperator S.Store self.old self.new (λ s. (step s moment request.now).1 ≡ s
-            → OnOk result ((desk_state S.Store self.new).now ≡ (desk_state S.Store self.old).now)) }
+            → OnOk result (KeepsDatabase S.Store self.old self.new)) }
         ensures goes_on { OnOk result (self.new.is_stopped ≡ false) }
         // Each fault: what it leaves of the desk, and of the database.
         ensures no_memory { result ≡ Err DeskFault.NoMemory → self.new ≡ self.old }
-        ensures store_failed { OfOperator S.Store self.old self.new (λ s.
-            result ≡ Err DeskFault.StoreFailed
-            → AllLeft (desk_state S.Store self.new) (TreesStandForEither s (step s moment request.now).1)) }
+        ensures store_failed { OfOperator S.Store self.old self.new (λ s. result ≡ Err DeskFault.StoreFailed
+            → LeavesEither S.Store self.new s (moment, request.now)) }
         ensures stops { result ≡ Err DeskFault.StoreFailed → IsTrue self.new.is_stopped }
         // A stopped desk.
         ensures stopped { result ≡ Err DeskFault.Stopped → IsTrue self.old.is_stopped }

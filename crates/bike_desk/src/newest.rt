@@ -1,12 +1,11 @@
 //! What a desk knows of newest rentals, for which its first start, or first look at a rider, asks.
 
 ghost use Rattle.std.specs.Prelude.{◌≡◌, ◌≤◌, false, IsTrue, IfOk, OnOk};
-ghost use Rattle.sqlite.specs.State.{HasCleanDisk};
 ghost use Rattle.sqlite.specs.Held.{state};
 ghost use Rattle.sqlite_trees.specs.View.{doubt};
-ghost use Rattle.bike_operator.specs.Operator.{Operator};
 ghost use Rattle.bike_schema.specs.Stands.{AllLeft, Keeps, TreesStandFor};
 ghost use Rattle.bike_office_reads.specs.Newest.{NewestTells};
+ghost use Rattle.bike_desk.specs.Kept.{ForEachKept};
 ghost use Rattle.bike_desk.specs.Newest.{knows_newest};
 
 use bike_commands::Command;
@@ -55,17 +54,15 @@ pub fn know_newest<S: Alter>(
     // Nothing is changed.
     ensures ended { conn.new.in_transaction ≡ false }
     ensures clean { doubt (state S.Store conn.old).is_clean ≤ doubt (state S.Store conn.new).is_clean }
-    ensures keeps { HasCleanDisk (state S.Store conn.new) → (s : Operator) → Keeps (state S.Store conn.old) s
-        → IfOk result (λ newest. Keeps (state S.Store conn.new) s) }
-    ensures same { HasCleanDisk (state S.Store conn.new) → (s : Operator) → Keeps (state S.Store conn.old) s
-        → OnOk result ((state S.Store conn.new).now ≡ (state S.Store conn.old).now) }
+    ensures keeps { ForEachKept S.Store conn.old conn.new (λ s.
+        IfOk result (λ newest. Keeps (state S.Store conn.new) s)) }
+    ensures same { ForEachKept S.Store conn.old conn.new (λ s.
+        OnOk result ((state S.Store conn.new).now ≡ (state S.Store conn.old).now)) }
     // What is known of the newest rentals is so.
-    ensures newest { HasCleanDisk (state S.Store conn.new) → (s : Operator) → Keeps (state S.Store conn.old) s
-        → (IsTrue (knows_newest known) → NewestTells s)
-        → IfOk result (λ newest. IsTrue (knows_newest newest) → NewestTells s) }
+    ensures newest { ForEachKept S.Store conn.old conn.new (λ s. (IsTrue (knows_newest known) → NewestTells s)
+        → IfOk result (λ newest. IsTrue (knows_newest newest) → NewestTells s)) }
     // What a failed read leaves.
-    ensures left { HasCleanDisk (state S.Store conn.new) → (s : Operator) → Keeps (state S.Store conn.old) s
-        → AllLeft (state S.Store conn.new) (TreesStandFor s) }
+    ensures left { ForEachKept S.Store conn.old conn.new (λ s. AllLeft (state S.Store conn.new) (TreesStandFor s)) }
 {
     let Newest::Unknown = known else {
         return Ok(known);

@@ -1,19 +1,16 @@
 //! Serving one request: from its kept answer, or by a decision on what it names.
 
-ghost use Rattle.std.specs.Prelude.{◌≡◌, ◌≤◌, ℕ, false, IfOk, OnOk, OnErr, None, [], string_bytes, if◌then◌else◌};
+ghost use Rattle.std.specs.Prelude.{◌≡◌, ◌≤◌, false, IfOk, OnOk, OnErr, [], string_bytes, if◌then◌else◌};
 ghost use Rattle.std.specs.Str.{bytes_eq};
-ghost use Rattle.std.specs.FinMap as map;
-ghost use Rattle.sqlite.specs.State.{HasCleanDisk};
 ghost use Rattle.sqlite.specs.Held.{state};
 ghost use Rattle.sqlite_trees.specs.View.{doubt};
 ghost use Rattle.bike_commands.specs.Commands.{text_of};
-ghost use Rattle.bike_commands.specs.declared.request.Request.{Request};
-ghost use Rattle.bike_operator.specs.Operator.{Operator};
-ghost use Rattle.bike_operator.specs.Runs.{step, after_acceptance, key_in};
+ghost use Rattle.bike_operator.specs.Runs.{step, after_acceptance};
 ghost use Rattle.bike_schema.specs.Makes.{OthersStay};
-ghost use Rattle.bike_schema.specs.Stands.{AllLeft, Keeps};
-ghost use Rattle.bike_desk.specs.Desk.{IsRemembered, TreesStandForEither};
-ghost use Rattle.bike_desk.specs.Serving.{Accepts, IsAsked, IsFoundIn, IsReadFor, Serves};
+ghost use Rattle.bike_schema.specs.Stands.{Keeps};
+ghost use Rattle.bike_desk.specs.Desk.{IsRemembered};
+ghost use Rattle.bike_desk.specs.Kept.{CrashLeavesEither, ForEachAccepted, ForEachKept, ForEachRead, IsAnew, StaysWith};
+ghost use Rattle.bike_desk.specs.Serving.{IsAsked, Serves};
 
 use crate::remembered::Remembered;
 use crate::transaction::make_all;
@@ -71,19 +68,13 @@ fn store_accepted<'a, S: Alter>(
     ensures ended { conn.new.in_transaction ≡ false }
     ensures clean { doubt (state S.Store conn.old).is_clean ≤ doubt (state S.Store conn.new).is_clean }
     // Done: the operator after the acceptance, and other tables as before.
-    ensures made { HasCleanDisk (state S.Store conn.new) → (s : Operator) (q : Request)
-        → Keeps (state S.Store conn.old) s
-        → IsFoundIn (state S.Store conn.old).now s q.command found.now → Accepts s now q accepted.now sums texts.now
-        → OnOk result (Keeps (state S.Store conn.new) (after_acceptance s now q)) }
-    ensures others { HasCleanDisk (state S.Store conn.new) → (s : Operator) (q : Request)
-        → Keeps (state S.Store conn.old) s
-        → IsFoundIn (state S.Store conn.old).now s q.command found.now → Accepts s now q accepted.now sums texts.now
-        → OnOk result (OthersStay (state S.Store conn.old).now (state S.Store conn.new).now) }
+    ensures made { ForEachAccepted S.Store conn.old conn.new found.now now accepted.now sums texts.now (λ s q.
+        OnOk result (Keeps (state S.Store conn.new) (after_acceptance s now q))) }
+    ensures others { ForEachAccepted S.Store conn.old conn.new found.now now accepted.now sums texts.now (λ s q.
+        OnOk result (OthersStay (state S.Store conn.old).now (state S.Store conn.new).now)) }
     // Whatever the end, a crash leaves the operator before or after.
-    ensures left { HasCleanDisk (state S.Store conn.new) → (s : Operator) (q : Request)
-        → Keeps (state S.Store conn.old) s
-        → IsFoundIn (state S.Store conn.old).now s q.command found.now → Accepts s now q accepted.now sums texts.now
-        → AllLeft (state S.Store conn.new) (TreesStandForEither s (after_acceptance s now q)) }
+    ensures left { ForEachAccepted S.Store conn.old conn.new found.now now accepted.now sums texts.now (λ s q.
+        CrashLeavesEither (state S.Store conn.new) s (after_acceptance s now q)) }
 {
     let stored = find_stored(conn, &found.docks, &accepted.moved, sums)?;
     books_accepted();
@@ -106,20 +97,15 @@ fn serve_read<'a, S: Alter>(
     ensures ended { conn.new.in_transaction ≡ false }
     ensures clean { doubt (state S.Store conn.old).is_clean ≤ doubt (state S.Store conn.new).is_clean }
     // Done: the step of the operator, other tables as before, and all where the step changes nothing.
-    ensures ok { HasCleanDisk (state S.Store conn.new) → (s : Operator) (t : ℕ) → Keeps (state S.Store conn.old) s
-        → IsReadFor (state S.Store conn.old).now s t now asked.entry.request.now figures.entry.now found.now
-        → IfOk result (Serves (state S.Store conn.new) (step s t asked.entry.request.now)) }
-    ensures others { HasCleanDisk (state S.Store conn.new) → (s : Operator) (t : ℕ) → Keeps (state S.Store conn.old) s
-        → IsReadFor (state S.Store conn.old).now s t now asked.entry.request.now figures.entry.now found.now
-        → OnOk result (OthersStay (state S.Store conn.old).now (state S.Store conn.new).now) }
-    ensures rests { HasCleanDisk (state S.Store conn.new) → (s : Operator) (t : ℕ) → Keeps (state S.Store conn.old) s
-        → IsReadFor (state S.Store conn.old).now s t now asked.entry.request.now figures.entry.now found.now
-        → (step s t asked.entry.request.now).1 ≡ s
-        → OnOk result ((state S.Store conn.new).now ≡ (state S.Store conn.old).now) }
+    ensures ok { ForEachRead S.Store conn.old conn.new now asked.entry.request.now figures.entry.now found.now
+        (λ s t. IfOk result (Serves (state S.Store conn.new) (step s t asked.entry.request.now))) }
+    ensures others { ForEachRead S.Store conn.old conn.new now asked.entry.request.now figures.entry.now found.now
+        (λ s t. OnOk result (OthersStay (state S.Store conn.old).now (state S.Store conn.new).now)) }
+    ensures rests { ForEachRead S.Store conn.old conn.new now asked.entry.request.now figures.entry.now found.now
+        (λ s t. StaysWith S.Store conn.old conn.new s (step s t asked.entry.request.now).1 result) }
     // Failed: a crash leaves the operator before or after.
-    ensures failed { HasCleanDisk (state S.Store conn.new) → (s : Operator) (t : ℕ) → Keeps (state S.Store conn.old) s
-        → IsReadFor (state S.Store conn.old).now s t now asked.entry.request.now figures.entry.now found.now
-        → OnErr result (AllLeft (state S.Store conn.new) (TreesStandForEither s (step s t asked.entry.request.now).1)) }
+    ensures failed { ForEachRead S.Store conn.old conn.new now asked.entry.request.now figures.entry.now found.now
+        (λ s t. OnErr result (CrashLeavesEither (state S.Store conn.new) s (step s t asked.entry.request.now).1)) }
 {
     let request = asked.request;
     let view = &found.view;
@@ -167,21 +153,15 @@ fn serve_anew<'a, S: Alter>(
     ensures ended { conn.new.in_transaction ≡ false }
     ensures clean { doubt (state S.Store conn.old).is_clean ≤ doubt (state S.Store conn.new).is_clean }
     // Done: the step of the operator, other tables as before, and all where the step changes nothing.
-    ensures ok { HasCleanDisk (state S.Store conn.new) → (s : Operator) → Keeps (state S.Store conn.old) s
-        → IsRemembered s remembered.now → map.get s.kept (key_in asked.entry.request.now) ≡ None
-        → IfOk result (Serves (state S.Store conn.new) (step s moment asked.entry.request.now)) }
-    ensures others { HasCleanDisk (state S.Store conn.new) → (s : Operator) → Keeps (state S.Store conn.old) s
-        → IsRemembered s remembered.now → map.get s.kept (key_in asked.entry.request.now) ≡ None
-        → OnOk result (OthersStay (state S.Store conn.old).now (state S.Store conn.new).now) }
-    ensures rests { HasCleanDisk (state S.Store conn.new) → (s : Operator) → Keeps (state S.Store conn.old) s
-        → IsRemembered s remembered.now → map.get s.kept (key_in asked.entry.request.now) ≡ None
-        → (step s moment asked.entry.request.now).1 ≡ s
-        → OnOk result ((state S.Store conn.new).now ≡ (state S.Store conn.old).now) }
+    ensures ok { ForEachKept S.Store conn.old conn.new (λ s. IsRemembered s remembered.now → IsAnew s asked.entry
+        → IfOk result (Serves (state S.Store conn.new) (step s moment asked.entry.request.now))) }
+    ensures others { ForEachKept S.Store conn.old conn.new (λ s. IsRemembered s remembered.now → IsAnew s asked.entry
+        → OnOk result (OthersStay (state S.Store conn.old).now (state S.Store conn.new).now)) }
+    ensures rests { ForEachKept S.Store conn.old conn.new (λ s. IsRemembered s remembered.now → IsAnew s asked.entry
+        → StaysWith S.Store conn.old conn.new s (step s moment asked.entry.request.now).1 result) }
     // Failed: a crash leaves the operator before or after.
-    ensures failed { HasCleanDisk (state S.Store conn.new) → (s : Operator) → Keeps (state S.Store conn.old) s
-        → IsRemembered s remembered.now → map.get s.kept (key_in asked.entry.request.now) ≡ None
-        → OnErr result (AllLeft (state S.Store conn.new)
-        (TreesStandForEither s (step s moment asked.entry.request.now).1)) }
+    ensures failed { ForEachKept S.Store conn.old conn.new (λ s. IsRemembered s remembered.now → IsAnew s asked.entry
+        → OnErr result (CrashLeavesEither (state S.Store conn.new) s (step s moment asked.entry.request.now).1)) }
 {
     let figures = know_figures(conn, &remembered.figures)?;
     let known = Known {
@@ -209,18 +189,15 @@ pub(crate) fn serve<S: Alter>(
     ensures ended { conn.new.in_transaction ≡ false }
     ensures clean { doubt (state S.Store conn.old).is_clean ≤ doubt (state S.Store conn.new).is_clean }
     // Done: the step of the operator, other tables as before, and all where the step changes nothing.
-    ensures ok { HasCleanDisk (state S.Store conn.new) → (s : Operator) → Keeps (state S.Store conn.old) s
-        → IsRemembered s remembered.now → IfOk result (Serves (state S.Store conn.new) (step s moment request.now)) }
-    ensures others { HasCleanDisk (state S.Store conn.new) → (s : Operator) → Keeps (state S.Store conn.old) s
-        → IsRemembered s remembered.now
-        → OnOk result (OthersStay (state S.Store conn.old).now (state S.Store conn.new).now) }
-    ensures rests { HasCleanDisk (state S.Store conn.new) → (s : Operator) → Keeps (state S.Store conn.old) s
-        → IsRemembered s remembered.now → (step s moment request.now).1 ≡ s
-        → OnOk result ((state S.Store conn.new).now ≡ (state S.Store conn.old).now) }
+    ensures ok { ForEachKept S.Store conn.old conn.new (λ s. IsRemembered s remembered.now
+        → IfOk result (Serves (state S.Store conn.new) (step s moment request.now))) }
+    ensures others { ForEachKept S.Store conn.old conn.new (λ s. IsRemembered s remembered.now
+        → OnOk result (OthersStay (state S.Store conn.old).now (state S.Store conn.new).now)) }
+    ensures rests { ForEachKept S.Store conn.old conn.new (λ s. IsRemembered s remembered.now
+        → StaysWith S.Store conn.old conn.new s (step s moment request.now).1 result) }
     // Failed: a crash leaves the operator before or after.
-    ensures failed { HasCleanDisk (state S.Store conn.new) → (s : Operator) → Keeps (state S.Store conn.old) s
-        → IsRemembered s remembered.now
-        → OnErr result (AllLeft (state S.Store conn.new) (TreesStandForEither s (step s moment request.now).1)) }
+    ensures failed { ForEachKept S.Store conn.old conn.new (λ s. IsRemembered s remembered.now
+        → OnErr result (CrashLeavesEither (state S.Store conn.new) s (step s moment request.now).1)) }
 {
     let caller = request.caller.text();
     let caller = caller.as_str();

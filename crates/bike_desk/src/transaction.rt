@@ -1,14 +1,11 @@
 //! Row changes in one transaction: all of them or none.
 
 ghost use Rattle.std.specs.Prelude.{◌≡◌, ◌≤◌, false, OnOk};
-ghost use Rattle.sqlite.specs.State.{HasCleanDisk};
 ghost use Rattle.sqlite.specs.Held.{state};
 ghost use Rattle.sqlite_trees.specs.View.{doubt};
-ghost use Rattle.bike_operator.specs.Operator.{Operator};
 ghost use Rattle.bike_schema.specs.Makes.{OthersStay};
-ghost use Rattle.bike_schema.specs.Stands.{AllLeft, Keeps};
-ghost use Rattle.bike_desk.specs.Desk.{TreesStandForEither};
-ghost use Rattle.bike_desk.specs.Serving.{IsNextBy};
+ghost use Rattle.bike_schema.specs.Stands.{Keeps};
+ghost use Rattle.bike_desk.specs.Kept.{CrashLeavesEither, ForEachNext};
 
 use bike_book::RowChange;
 use bike_schema::StatementFault;
@@ -26,16 +23,13 @@ pub fn make_all<S: Alter>(
     ensures ended { conn.new.in_transaction ≡ false }
     ensures clean { doubt (state S.Store conn.old).is_clean ≤ doubt (state S.Store conn.new).is_clean }
     // Done: the next operator, and other tables as before.
-    ensures made { HasCleanDisk (state S.Store conn.new) → (s next : Operator)
-        → IsNextBy (state S.Store conn.old) changes.now s next
-        → OnOk result (Keeps (state S.Store conn.new) next) }
-    ensures others { HasCleanDisk (state S.Store conn.new) → (s next : Operator)
-        → IsNextBy (state S.Store conn.old) changes.now s next
-        → OnOk result (OthersStay (state S.Store conn.old).now (state S.Store conn.new).now) }
+    ensures made { ForEachNext S.Store conn.old conn.new changes.now (λ s next.
+        OnOk result (Keeps (state S.Store conn.new) next)) }
+    ensures others { ForEachNext S.Store conn.old conn.new changes.now (λ s next.
+        OnOk result (OthersStay (state S.Store conn.old).now (state S.Store conn.new).now)) }
     // Whatever the end, a crash leaves the operator before or after.
-    ensures left { HasCleanDisk (state S.Store conn.new) → (s next : Operator)
-        → IsNextBy (state S.Store conn.old) changes.now s next
-        → AllLeft (state S.Store conn.new) (TreesStandForEither s next) }
+    ensures left { ForEachNext S.Store conn.old conn.new changes.now (λ s next.
+        CrashLeavesEither (state S.Store conn.new) s next) }
 {
     let mut staged = conn.transaction();
     'changes: for change in changes {
