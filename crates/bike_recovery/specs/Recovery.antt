@@ -1,6 +1,9 @@
 -- What is read of a database that is taken into service again.
-use Rattle.std.specs.Prelude.{◌≡◌, ◌≢◌, ◌≤◌, ◌+◌, ℕ, List, length, take, Bool, IsTrue, Option, Some, None, Err, IfOk, IfErr, OnOk, OnErr}
+use Rattle.std.specs.Prelude.{◌≡◌, ◌≢◌, ◌≤◌, ◌+◌, ℕ, List, length, take, Bool, IsTrue, Option, Some, None, Result}
+use Rattle.std.specs.Prelude.{Err, IfOk, IfErr, OnOk, OnErr}
 use Rattle.std.specs.Io.KnownBytes.{Keeps}
+use Rattle.sqlite.specs.State.{HasCleanDisk}
+use Rattle.sqlite.specs.Held.{Held, state}
 use Rattle.sqlite_trees.specs.declared.store.Store.{Ghosts}
 use Rattle.bike_commands.specs.declared.reply.Reply.{Reply}
 use Rattle.bike_operator.specs.Operator.{Operator}
@@ -37,6 +40,15 @@ abbrev pub ReadsFront : {S : Type 0} → Ghosts S → DeskValue S → Operator �
 ReadsFront g d s calls k bike moment before written reading =
     (j : ℕ) × (k ≤ j) × (j ≤ k + 1) × (j ≤ length calls) × IsSound (after s (take j calls))
     × ReadsOf g d (after s (take j calls)) bike moment before written reading
+
+-- the database of the connection is one that a crash of the desk's store may leave
+abbrev pub CrashMayLeave : {S T : Type 0} → Ghosts S → DeskValue S → Ghosts T → Held T → Type 0
+CrashMayLeave g desk h left = (desk_state g desk).may_leave (state h left).now.trees
+
+-- So it is where what was left is taken into service again and read, on a disk that is clean then.
+abbrev pub IfReadAgain : {S E : Type 0} → Ghosts S → Result (DeskValue S × Reading) E
+    → (DeskValue S → Reading → Type 0) → Type 0
+IfReadAgain g result says = IfOk result (λ r. HasCleanDisk (desk_state g r.0) → says r.0 r.1)
 
 -- a desk that is stopped serves nothing and says so, and no other desk says that
 abbrev pub TellsStopped : Bool → Option DeskFault → Type 0

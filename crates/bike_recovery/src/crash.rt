@@ -10,7 +10,7 @@ ghost use Rattle.bike_feeds.specs.Desk.{desk_state, IsAt, OfOperator};
 ghost use Rattle.bike_migrate.specs.Adoption.{handed, IsWant};
 ghost use Rattle.bike_feeds.specs.Runs.{IsAfterFront, IsAtFront, Ran, StopsBy};
 ghost use Rattle.bike_schema.specs.Stands.{AllLeft};
-ghost use Rattle.bike_recovery.specs.Recovery.{ReadsFront, AreReplies, TellsStopped};
+ghost use Rattle.bike_recovery.specs.Recovery.{AreReplies, CrashMayLeave, IfReadAgain, ReadsFront, TellsStopped};
 ghost use Rattle.bike_recovery.specs.Losses.{IsOnlyWant, StandForSome};
 
 use crate::reading::{Reading, read_again};
@@ -50,13 +50,10 @@ pub fn run_adopt_and_read<S: Alter, T: Alter, W: Write>(
     out: &mut W,
 ) -> (Acknowledged, Result<(Desk<T>, Reading), AdoptFault<T>>)
     requires { left.in_transaction ≡ false }
-    ensures headline { OfOperator S.Store desk.old desk.new (λ s.
-        (desk_state S.Store desk.new).may_leave (state T.Store left).now.trees
-        → IfOk result.1 (λ r. HasCleanDisk (desk_state T.Store r.0)
-        → ReadsFront T.Store r.0 s calls.now (length result.0.replies.items)
-        bike moment (W.contents out.old) (W.contents out.new) r.1)) }
-    ensures refused { OfOperator S.Store desk.old desk.new (λ s.
-        (desk_state S.Store desk.new).may_leave (state T.Store left).now.trees
+    ensures headline { OfOperator S.Store desk.old desk.new (λ s. CrashMayLeave S.Store desk.new T.Store left
+        → IfReadAgain T.Store result.1 (λ again reading. ReadsFront T.Store again s calls.now
+        (length result.0.replies.items) bike moment (W.contents out.old) (W.contents out.new) reading)) }
+    ensures refused { OfOperator S.Store desk.old desk.new (λ s. CrashMayLeave S.Store desk.new T.Store left
         → IfErr result.1 (λ e. HasCleanDisk (state T.Store (handed e)) → IsWant e)) }
     ensures ran { OfOperator S.Store desk.old desk.new (λ s.
         Ran S.Store desk.new s calls.now result.0.replies.items result.0.end) }
@@ -120,11 +117,10 @@ pub fn run_crash_and_read<S: Alter + Reopen + Drop, W: Write>(
     out: &mut W,
 ) -> (Acknowledged, Result<(Desk<S>, Reading), Lost<S>>)
     ensures headline { (s : Operator) → IsAt S.Store desk s
-        → IfOk result.1 (λ r. HasCleanDisk (desk_state S.Store r.0)
-        → ReadsFront S.Store r.0 s calls.now (length result.0.replies.items)
-        bike moment (W.contents out.old) (W.contents out.new) r.1) }
+        → IfReadAgain S.Store result.1 (λ again reading. ReadsFront S.Store again s calls.now
+        (length result.0.replies.items) bike moment (W.contents out.old) (W.contents out.new) reading) }
     ensures replies { (s : Operator) → IsAt S.Store desk s
-        → IfOk result.1 (λ r. HasCleanDisk (desk_state S.Store r.0) → AreReplies s calls.now result.0.replies.items) }
+        → IfReadAgain S.Store result.1 (λ again reading. AreReplies s calls.now result.0.replies.items) }
     ensures refused { (s : Operator) → IsAt S.Store desk s → IfErr result.1 (IsOnlyWant S.Store) }
     ensures whole { IsNone result.0.end → length result.0.replies.items ≡ length calls.now }
     ensures stopped { TellsStopped desk.is_stopped result.0.end }
@@ -157,9 +153,8 @@ pub fn run_in_memory<W: Write>(
         Result<(Desk<MemStore>, Reading), Lost<MemStore>>,
     ),
 >
-    ensures headline { IfSome result (λ r. IfOk r.1 (λ read. ReadsFront over_memory read.0
-        no_operator calls.now (length r.0.replies.items)
-        bike moment (W.contents out.old) (W.contents out.new) read.1)) }
+    ensures headline { IfSome result (λ r. IfOk r.1 (λ read. ReadsFront over_memory read.0 no_operator calls.now
+        (length r.0.replies.items) bike moment (W.contents out.old) (W.contents out.new) read.1)) }
     ensures replies { IfSome result (λ r. IfOk r.1 (λ read. AreReplies no_operator calls.now r.0.replies.items)) }
     ensures refused { IfSome result (λ r. IfErr r.1 (IsOnlyWant over_memory)) }
 {

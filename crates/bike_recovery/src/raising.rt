@@ -8,8 +8,7 @@ ghost use Rattle.bike_operator.specs.Operator.{Operator};
 ghost use Rattle.bike_schema.specs.Stands.{AllLeft};
 ghost use Rattle.bike_recognition.specs.EarlierVersions.Stores.{TreesStandForAt};
 ghost use Rattle.bike_migrate.specs.Raising.{Holds, TreesStandSince};
-ghost use Rattle.bike_feeds.specs.Desk.{desk_state};
-ghost use Rattle.bike_recovery.specs.Recovery.{ReadsOf};
+ghost use Rattle.bike_recovery.specs.Recovery.{IfReadAgain, ReadsOf};
 ghost use Rattle.bike_recovery.specs.Unraised.{IsOnlyWantOf};
 
 use crate::reading::{Reading, read_again};
@@ -86,8 +85,8 @@ pub fn raise_crash_and_read<S: Alter + Reopen + Drop, W: Write>(
     requires { conn.in_transaction ≡ false }
     ensures headline { (v : _) (s : Operator) → TreesStandForAt v s (state S.Store conn).now.trees
         → IsTrue (state S.Store conn).is_open
-        → IfOk result (λ r. HasCleanDisk (desk_state S.Store r.0)
-        → ReadsOf S.Store r.0 s bike moment (W.contents out.old) (W.contents out.new) r.1) }
+        → IfReadAgain S.Store result (λ again reading.
+        ReadsOf S.Store again s bike moment (W.contents out.old) (W.contents out.new) reading) }
     ensures refused { (v : _) (s : Operator) → TreesStandForAt v s (state S.Store conn).now.trees
         → IsTrue (state S.Store conn).is_open
         → IfErr result (IsOnlyWantOf S.Store) }

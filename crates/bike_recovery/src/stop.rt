@@ -10,7 +10,7 @@ ghost use Rattle.bike_operator.specs.Operator.{Operator};
 ghost use Rattle.bike_feeds.specs.Desk.{desk_state, IsAt};
 ghost use Rattle.bike_feeds.specs.Runs.{IsAfterFront};
 ghost use Rattle.bike_schema.specs.Stands.{AllLeft};
-ghost use Rattle.bike_recovery.specs.Recovery.{AreReplies, TellsStopped};
+ghost use Rattle.bike_recovery.specs.Recovery.{AreReplies, IfReadAgain, TellsStopped};
 ghost use Rattle.bike_recovery.specs.Files.{MayHold, IsAtSomeFront, IsOnlyStorage, ReadsSomeFront};
 
 use crate::crash::Acknowledged;
@@ -85,9 +85,8 @@ pub fn run_stop_and_read<D: Disk + Drop, F: Start, W: Write>(
     Result<(Desk<FileStore<FileFrom<F>>>, Reading), LostFiles<FileFrom<F>>>,
 )
     ensures headline { (s : Operator) → IsAt over_files desk s → MayHold result.1 (image_at F.Start)
-        → IfOk result.2 (λ r. HasCleanDisk (desk_state over_files r.0)
-        → ReadsSomeFront over_files r.0 s calls.now (length result.0.replies.items)
-        bike moment (W.contents out.old) (W.contents out.new) r.1) }
+        → IfReadAgain over_files result.2 (λ again reading. ReadsSomeFront over_files again s calls.now
+        (length result.0.replies.items) bike moment (W.contents out.old) (W.contents out.new) reading) }
     ensures replies { (s : Operator) → IsAt over_files desk s → IsClean (store.view result.1)
         → AreReplies s calls.now result.0.replies.items }
     ensures refused { (s : Operator) → IsAt over_files desk s → MayHold result.1 (image_at F.Start)
