@@ -53,8 +53,8 @@ pub(crate) enum State {
     Lingering { pieces: u32 },
 }
 
-/// A connection; seen as its client, of whom it is known what is still to be answered and what is taken, with the moment
-/// at which it is given up, and whether it may ask for a feed.
+/// A connection; seen as its client, of whom it is known what is still to be answered and what is taken, with the
+/// moment at which it is given up, and whether it may ask for a feed.
 #[derive(Drop)]
 pub struct Connection<S: Socket> {
     peer: Peer<S>,

@@ -156,9 +156,9 @@ ends_below_one now old middle new at so_far lost ends = record {
     | inl same ↦
         ap (get new) same ∙ ends.changed ∙ ap (unless_late now) (so_far.kept at (le_refl at)) ∙ sym (ap (λ (k : ℕ). unless_late now (get old k)) same)
     | inr differs ↦ ends.others key differs ∙ (elim (cases_lt key at) [
-        | inl early ↦ so_far.done key early
-        | inr late ↦ absurd (differs (omega (arith, less, late)))
-      ])
+      | inl early ↦ so_far.done key early
+      | inr late ↦ absurd (differs (omega (arith, less, late)))
+    ])
   ];
   kept = λ key more. elim (cases_eq key at) [
     | inl same ↦ absurd (omega (arith, more, same))

@@ -1,6 +1,7 @@
 //! Whose turn it is.
 
-ghost use Rattle.std.specs.Prelude.{◌≡◌, ◌<◌, ◌-◌, ◌↔◌, ◌++◌, ◌∷◌, [], ◌&&◌, not, IsTrue, IfOk, IfNone, true, false, option_to_list, if◌then◌else◌};
+ghost use Rattle.std.specs.Prelude.{◌≡◌, ◌<◌, ◌-◌, ◌↔◌, ◌++◌, ◌∷◌, [], ◌&&◌, not, true, false};
+ghost use Rattle.std.specs.Prelude.{IsTrue, IfOk, IfNone, option_to_list, if◌then◌else◌};
 ghost use Rattle.std.specs.VecDeque.{deque_len};
 ghost use Rattle.bike_http_connections.specs.Turns.{IsDue};
 
