@@ -6,7 +6,7 @@ from shared import TOP
 
 # The crates whose statements are sent while requests and feeds are served, and what only the tables of a day ask.
 SERVING = (
-    "bike_office_reads", "bike_desk", "bike_feeds", "bike_fleet_reads", "bike_http", "bike_lines", "bike_queries",
+    "bike_office_reads", "bike_desk", "bike_feeds", "bike_fleet_reads", "bike_http", "bike_batch", "bike_queries",
     "bike_views", "bike_writes",
 )
 TEXT = re.compile(r'"((?:SELECT|INSERT|UPDATE|DELETE|REPLACE|WITH)\b(?:[^"\\]|\\.)*)"', re.S)

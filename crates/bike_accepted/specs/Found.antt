@@ -1,5 +1,6 @@
 -- When what an accepted command makes is what was found: the records before are the operator's.
-use Rattle.std.specs.Prelude.{◌≡◌, ℕ, ℤ, ◌+◌, ◌+ℤ◌, List, length, pos, true, false, Option, Some, None, option_map, IfSome}
+use Rattle.std.specs.Prelude.{◌≡◌, ℕ, ℤ, ◌+◌, ◌+ℤ◌, List, length, pos, true, false, Option, Some, None, option_map}
+use Rattle.std.specs.Prelude.{IfSome}
 use Rattle.std.specs.FinMap as map
 use Rattle.std.specs.Borrow.{Bor}
 use Rattle.bike_operator.specs.Entries.{Entry}
@@ -16,14 +17,14 @@ use Rattle.bike_operator.specs.Changes.{place_of}
 use Rattle.bike_operator.specs.Sound.{HasDock, IsSound}
 use Rattle.bike_laws.specs.SingleSteps.Numbers.{occupied_docks}
 use Rattle.bike_laws.specs.SingleSteps.Laws.{IsAway}
-use Rattle.bike_accepted.specs.declared.moved.Standing.{Standing}
-use Rattle.bike_accepted.specs.declared.moved.DockAt.{DockAt}
-use Rattle.bike_accepted.specs.declared.moved.Held.{Held}
-use Rattle.bike_accepted.specs.declared.moved.Moved.{Moved}
-use Rattle.bike_accepted.specs.declared.moved.Moved.TheVariants as moved
+use Rattle.bike_accepted.specs.declared.movement.BikeStatus.{BikeStatus}
+use Rattle.bike_accepted.specs.declared.movement.DockAt.{DockAt}
+use Rattle.bike_accepted.specs.declared.movement.DockOccupant.{DockOccupant}
+use Rattle.bike_accepted.specs.declared.movement.Movement.{Movement}
+use Rattle.bike_accepted.specs.declared.movement.Movement.TheVariants as moved
 use Rattle.bike_accepted.specs.declared.change.Change.{Change}
 use Rattle.bike_accepted.specs.declared.change.Change.TheVariants as change
-use Rattle.bike_accepted.specs.declared.accepted.Booked.{Booked}
+use Rattle.bike_accepted.specs.declared.accepted.BookedEntry.{BookedEntry}
 use Rattle.bike_accepted.specs.declared.accepted.Accepted.{Accepted}
 use Rattle.bike_accepted.specs.Effects.{bike_in, where_moved}
 
@@ -42,13 +43,14 @@ IsNoOtherDock at (place.Truck truck order) = Unit {0}
 IsNoOtherDock at place.Depot = Unit {0}
 
 -- the bicycle's record is this, in no dock, and it comes into none
-pub record IsAwayFound (s : Operator) (bike : ℕ) (type_id : Bor (List ℕ)) (was becomes : Standing) : Type 0 where
+pub record IsAwayFound (s : Operator) (bike : ℕ) (type_id : Bor (List ℕ)) (was becomes : BikeStatus) : Type 0 where
   pub found : map.get s.bikes bike ≡ Some (bike_in type_id was)
   pub from_away : IsAway (place_of was.place)
   pub to_away : IsAway (place_of becomes.place)
 
 -- The bicycle's record is this, in this dock or in none. Where it was in none, the dock is empty and works.
-pub record IsAtDockFound (s : Operator) (at : DockAt) (bike : ℕ) (type_id : Bor (List ℕ)) (was becomes : Standing) : Type 0 where
+pub record IsAtDockFound (s : Operator) (at : DockAt) (bike : ℕ) (type_id : Bor (List ℕ))
+    (was becomes : BikeStatus) : Type 0 where
   pub found : map.get s.bikes bike ≡ Some (bike_in type_id was)
   pub dock : IsDockFound s at
   pub from_is : IsNoOtherDock at (place_of was.place)
@@ -56,11 +58,12 @@ pub record IsAtDockFound (s : Operator) (at : DockAt) (bike : ℕ) (type_id : Bo
   pub free : IsAway (place_of was.place) → (docked_at s at.station.now at.dock ≡ None) × (at.is_broken ≡ false)
 
 -- the bicycle in a dock, with its number
-abbrev pub held_bike : DockAt → Held → ℕ × Bike
-held_bike at h = (h.bike, record { type_id = h.type_id.now; state = h.state; place = place.Dock at.station.now at.dock })
+abbrev pub held_bike : DockAt → DockOccupant → ℕ × Bike
+held_bike at h =
+    (h.bike, record { type_id = h.type_id.now; state = h.state; place = place.Dock at.station.now at.dock })
 
 -- this is in the dock
-pub record IsMarkFound (s : Operator) (at : DockAt) (held : Option Held) : Type 0 where
+pub record IsMarkFound (s : Operator) (at : DockAt) (held : Option DockOccupant) : Type 0 where
   pub dock : IsDockFound s at
   pub held_is : docked_at s at.station.now at.dock ≡ option_map (held_bike at) held
 
@@ -70,7 +73,7 @@ pub record IsStationFound (s : Operator) (station : List ℕ) (docks : ℕ) : Ty
   pub found : map.get s.stations station ≡ Some row
   pub docks_are : row.row.docks ≡ docks
 
-abbrev pub IsMovedFound : Operator → Moved → Type 0
+abbrev pub IsMovedFound : Operator → Movement → Type 0
 IsMovedFound s (moved.Away bike type_id was becomes) = IsAwayFound s bike type_id was becomes
 IsMovedFound s (moved.AtDock at bike type_id was becomes) = IsAtDockFound s at bike type_id was becomes
 IsMovedFound s (moved.AddDocks station was count) = IsStationFound s station.now was.now
@@ -88,7 +91,8 @@ pub record IsStationNew (s : Operator) (station : List ℕ) (docks : ℕ) : Type
 abbrev pub IsFound : Operator → Change → Type 0
 IsFound s (change.AddPlan p) = map.get s.plans p.now.plan_id ≡ None
 IsFound s (change.AddStation x reported) = IsStationNew s x.now.station_id x.now.docks
-IsFound s (change.SetFurtherName kind id language name) = map.contains_key s.more_names (name_key kind id.now language.now) ≡ true
+IsFound s (change.SetFurtherName kind id language name) =
+    map.contains_key s.more_names (name_key kind id.now language.now) ≡ true
 IsFound s (change.AddBike bike type_id) = map.get s.bikes bike ≡ None
 IsFound s (change.AddRider rider) = map.get s.riders rider ≡ None
 IsFound s (change.SetRider rider blocked) = map.contains_key s.riders rider ≡ true
@@ -104,7 +108,7 @@ IsRefundFound s e None = given_back e.kind e.amount ≡ pos 0
 IsRefundFound s e (Some refunded) = refunded ≡ refunded_of e.rental s.entries +ℤ given_back e.kind e.amount
 
 -- it has the next number, and this is its rider's balance after it
-pub record IsBookedFound (s : Operator) (b : Booked) : Type 0 where
+pub record IsBookedFound (s : Operator) (b : BookedEntry) : Type 0 where
   pub number_is : b.entry.number ≡ length s.entries + 1
   pub balance_is : b.balance ≡ balance_of b.entry.rider s.entries +ℤ credit b.entry.kind b.entry.amount
   pub refunded_is : IsRefundFound s b.entry b.refunded

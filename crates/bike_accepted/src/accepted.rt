@@ -4,13 +4,14 @@ ghost use Rattle.std.specs.Prelude.{◌≡◌, Some, None};
 ghost use Rattle.bike_operator.specs.Reply.TheVariants.{Done};
 
 use crate::change::Change;
-use crate::moved::Moved;
+use crate::movement::Movement;
+use bike_commands::{Refusal, Reply};
 use bike_fixed::Cents;
-use bike_operator::{Entry, Refusal, Reply};
+use bike_ledger::Entry;
 
 /// An entry that is booked, with the numbers after it.
 #[derive(Clone, Copy)]
-pub struct Booked {
+pub struct BookedEntry {
     /// The entry.
     pub entry: Entry,
     /// Its rider's balance after it.
@@ -25,11 +26,11 @@ pub struct Accepted<'a> {
     /// What is answered.
     pub reply: Reply,
     /// What is put or marked at a dock, or put elsewhere.
-    pub moved: Option<Moved<'a>>,
+    pub moved: Option<Movement<'a>>,
     /// What other record is put, added or removed.
     pub change: Option<Change<'a>>,
     /// The entry that is added; none where no money moves.
-    pub entry: Option<Booked>,
+    pub entry: Option<BookedEntry>,
 }
 
 /// A decision: what is accepted, or why it is refused.
@@ -49,7 +50,7 @@ impl<'a> Accepted<'a> {
     }
 
     /// What is answered as done, and puts a bicycle or marks a dock.
-    pub fn moved(moved: Moved<'a>) -> Accepted<'a>
+    pub fn moved(moved: Movement<'a>) -> Accepted<'a>
         ensures { result ≡ record { reply = Done; moved = Some moved.entry; change = None; entry = None } }
     {
         Accepted {

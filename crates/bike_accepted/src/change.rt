@@ -1,10 +1,9 @@
 //! Records that are put, added or removed, but for those of bicycles that are there and of docks.
 
+use bike_catalogue::{Plan, Region, Settings, Station, System, VehicleType};
+use bike_fields::{Ident, Language, Name, NameKind, Position};
 use bike_fixed::{Cents, Moment};
-use bike_operator::{
-    Ident, Language, Name, NameKind, OrderEnd, Plan, Position, Region, Settings, Station, System,
-    VehicleType,
-};
+use bike_texts::OrderEnd;
 
 /// One record that is put, added or removed, with all that its row gets. What is added wasn't there. Money is in
 /// hundredths, moments in seconds.

@@ -6,8 +6,8 @@
 
 mod accepted;
 mod change;
-mod moved;
+mod movement;
 
-pub use accepted::{Accepted, Booked, Decision};
+pub use accepted::{Accepted, BookedEntry, Decision};
 pub use change::Change;
-pub use moved::{DockAt, Held, Moved, Standing};
+pub use movement::{BikeStatus, DockAt, DockOccupant, Movement};

@@ -6,9 +6,9 @@ use Rattle.bike_operator.specs.Operator.{Operator}
 use Rattle.bike_desk.specs.Desk.{DeskValue, desk_state, IsAt}
 use Rattle.bike_desk.specs.declared.fault.DeskFault.TheVariants.{NoMemory, StoreFailed, Stopped}
 use Rattle.bike_day_texts.specs.declared.table.DayTable.{DayTable}
-use Rattle.bike_days.specs.declared.fault.DayTableFault.{DayTableFault}
-use Rattle.bike_days.specs.declared.fault.DayTableFault.TheVariants.{Day, Write, Desk}
-use Rattle.bike_days.specs.Ends.{EndsByDay, WritesDay, LeavesDesk}
+use Rattle.bike_batch.specs.declared.day_fault.DayTableFault.{DayTableFault}
+use Rattle.bike_batch.specs.declared.day_fault.DayTableFault.TheVariants.{Day, Write, Desk}
+use Rattle.bike_batch.specs.Ends.{EndsByDay, WritesDay, LeavesDesk}
 use Rattle.bike_console.specs.declared.end.Fault.TheVariants as fault
 use Rattle.bike_app.specs.Days.{ReportsAt, table_end}
 

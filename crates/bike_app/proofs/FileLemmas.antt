@@ -34,7 +34,8 @@ module _ {D S : Type 0} {g : disk.Ghosts D} (s : start.Ghosts S) (input ahead ol
   closed_ends (Unsettled store) told it = record { last = conn; was = end; does = does; kept = it.1; told = it.0 }
 
 -- after a number the file was closed
-pub closed_alone : {D : Type 0} {g : disk.Ghosts D} (conn : Held (FileStore D g)) (end : Result ℕ Fault) (remains : Remains D g) (told : Result ℕ Fault) → Closes conn end remains told → IfOk told (λ count. IsAlone (Some remains))
+pub closed_alone : {D : Type 0} {g : disk.Ghosts D} (conn : Held (FileStore D g)) (end : Result ℕ Fault) (remains : Remains D g) (told : Result ℕ Fault) → Closes conn end remains told
+    → IfOk told (λ count. IsAlone (Some remains))
 closed_alone conn end remains (Err fault) it = tt
 closed_alone conn end (Settled files) (Ok count) it = tt
 closed_alone conn (Ok n) (Open c) (Ok count) it = absurd (let kept = it.2 in cc)

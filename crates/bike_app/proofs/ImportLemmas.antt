@@ -5,16 +5,16 @@ use Rattle.bike_operator.specs.Operator.{Operator}
 use Rattle.bike_schema.specs.Stands.{AllLeft, TreesStandFor}
 use Rattle.bike_desk.specs.Desk.{DeskValue, desk_state}
 use Rattle.bike_desk.specs.declared.fault.DeskFault.TheVariants.{NoMemory, StoreFailed, Stopped}
-use Rattle.bike_imports.specs.declared.fault.ImportFault.{ImportFault}
-use Rattle.bike_imports.specs.declared.fault.ImportFault.TheVariants.{BadHeader, Unreadable, Row, Read, TooManyRows, Desk}
-use Rattle.bike_imports.specs.Imports.{Imports}
+use Rattle.bike_batch.specs.declared.import_fault.ImportFault.{ImportFault}
+use Rattle.bike_batch.specs.declared.import_fault.ImportFault.TheVariants.{BadHeader, Unreadable, Row, Read, TooManyRows, Desk}
+use Rattle.bike_batch.specs.Imports.{Imports}
 use Rattle.bike_console.specs.declared.end.Fault.{Fault}
 use Rattle.bike_app.specs.Program.{StandsAfterSome}
 use Rattle.bike_console.specs.Pieces.{Puts}
 use Rattle.bike_console.proofs.PieceLemmas.{writer_with}
 use Rattle.bike_app.specs.Imports.{PutsRows, TellsImport, rows_line}
 use Rattle.bike_app.proofs.ProgramLemmas.{calls_push}
-use Rattle.bike_lines.proofs.RunLemmas.{after_one}
+use Rattle.bike_batch.proofs.RunLemmas.{after_one}
 
 -- the line of a number of rows, by its pieces
 pub rows_put : (old new : Option (List ℕ)) (count : ℕ) (written : Bool) → Puts (writer_with old) (writer_with new) (rows_line count) true written

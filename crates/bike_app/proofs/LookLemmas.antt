@@ -7,13 +7,13 @@ use Rattle.sqlite_trees.specs.View.{doubt}
 use Rattle.bike_operator.specs.Operator.{Operator}
 use Rattle.bike_schema.specs.Stands.{AllLeft, IsOf, TreesStandFor}
 use Rattle.bike_desk.specs.Desk.{DeskValue, desk_over, desk_state, IsAt}
-use Rattle.bike_adoption.specs.declared.looking.Looked.{Looked}
-use Rattle.bike_adoption.specs.declared.looking.Looked.TheVariants.{Sound}
-use Rattle.bike_adoption.specs.Adoption.{IsSeen, Looks}
+use Rattle.bike_audit.specs.declared.looking.Inspection.{Inspection}
+use Rattle.bike_audit.specs.declared.looking.Inspection.TheVariants.{Sound}
+use Rattle.bike_audit.specs.Adoption.{IsSeen, Looks}
 use Rattle.bike_app.proofs.ProgramLemmas.{began_clean}
 
 -- what was found is what it was matched as
-pub matched : {S : Type 0} {g : Ghosts S} {first : Held S} {found is : Looked S} → found ≡ is → Looks g first (Ok found) → Looks g first (Ok is)
+pub matched : {S : Type 0} {g : Ghosts S} {first : Held S} {found is : Inspection S} → found ≡ is → Looks g first (Ok found) → Looks g first (Ok is)
 matched {g = g} {first = first} same it = subst (λ l. Looks g first (Ok l)) same it
 
 module _ {S : Type 0} (g : Ghosts S) {first conn last : Held S} (looks : Looks g first (Ok (Sound conn))) {desk : DeskValue S} (over : desk ≡ desk_over conn) (new : DeskValue S)

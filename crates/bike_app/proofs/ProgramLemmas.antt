@@ -18,18 +18,18 @@ use Rattle.bike_schema.specs.Stands.{AllLeft, TreesStandFor}
 use Rattle.bike_desk.specs.Desk.{DeskValue, desk_state}
 use Rattle.bike_desk.specs.declared.fault.DeskFault.{DeskFault}
 use Rattle.bike_desk.specs.declared.fault.DeskFault.TheVariants.{NoMemory, StoreFailed, Stopped}
-use Rattle.bike_adoption.specs.declared.adoption.AdoptFault.{AdoptFault}
-use Rattle.bike_adoption.specs.declared.adoption.AdoptCause.{AdoptCause}
-use Rattle.bike_adoption.specs.declared.adoption.AdoptCause.TheVariants as adopt
-use Rattle.bike_adoption.specs.Adoption.{IsWantFor, IsWant, IsToldOf, handed, Adopts, Looks}
+use Rattle.bike_audit.specs.declared.adoption.AdoptFault.{AdoptFault}
+use Rattle.bike_audit.specs.declared.adoption.AdoptCause.{AdoptCause}
+use Rattle.bike_audit.specs.declared.adoption.AdoptCause.TheVariants as adopt
+use Rattle.bike_audit.specs.Adoption.{IsWantFor, IsWant, IsToldOf, handed, Adopts, Looks}
 use Rattle.bike_console.specs.Raising as raising
 use Rattle.bike_console.specs.RaiseFault.{RaiseFault}
 use Rattle.bike_console.specs.RaiseCause.{RaiseCause}
 use Rattle.bike_console.specs.RaiseCause.TheVariants as raise
-use Rattle.bike_lines.specs.declared.fault.LinesFault.{LinesFault}
+use Rattle.bike_batch.specs.declared.line_fault.LinesFault.{LinesFault}
 use Rattle.bike_console.specs.declared.end.Fault.{Fault}
 use Rattle.bike_console.specs.Ends.{lines_fault, adoption_fault, adopt_fault, raising_fault, raise_fault, end_of}
-use Rattle.bike_lines.specs.Runs.{ServesSome}
+use Rattle.bike_batch.specs.Runs.{ServesSome}
 use Rattle.bike_app.specs.Raises.{RefusesToRaise}
 use Rattle.bike_app.specs.Program.{StandsAfterSome, Refuses, Serves, FailsToBegin, ServesInMemory}
 
@@ -129,7 +129,8 @@ pub not_begun : (fault : AdoptFault MemStore) → IsWant fault → (old new : Op
 not_begun fault want old new written = not_begun_for fault.cause want old new written
 
 -- a database in memory is refused for memory or storage alone
-pub memory_refused : (first last : Held MemStore) → IsEmpty (state over_memory first) → (old new : Option (List ℕ)) (end : Result ℕ Fault) → Refuses over_memory old new first last end → FailsToBegin old new end
+pub memory_refused : (first last : Held MemStore) → IsEmpty (state over_memory first) → (old new : Option (List ℕ)) (end : Result ℕ Fault) → Refuses over_memory old new first last end
+    → FailsToBegin old new end
 memory_refused first last empty old new end r =
     subst (FailsToBegin old new) (sym r.told) (not_begun r.fault (r.want no_operator (memory_begins first empty)) old new r.written)
 
@@ -144,10 +145,12 @@ not_raised : (fault : RaiseFault MemStore) → raising.IsWant fault → (old new
 not_raised fault want old new written = not_raised_for fault.cause want old new written
 
 -- nor is its raising refused otherwise
-pub raise_refused : (first last : Held MemStore) → IsEmpty (state over_memory first) → (old new : Option (List ℕ)) (end : Result ℕ Fault) → RefusesToRaise over_memory old new first last end → FailsToBegin old new end
+pub raise_refused : (first last : Held MemStore) → IsEmpty (state over_memory first) → (old new : Option (List ℕ)) (end : Result ℕ Fault) → RefusesToRaise over_memory old new first last end
+    → FailsToBegin old new end
 raise_refused first last empty old new end r =
     subst (FailsToBegin old new) (sym r.told) (not_raised r.fault (r.want None no_operator (memory_begins first empty)) old new r.written)
 
-pub in_memory : (first last : Held MemStore) → IsEmpty (state over_memory first) → (input ahead old new : Option (List ℕ)) (end : Result ℕ Fault) → Serves over_memory input ahead old new first last end → ServesInMemory input ahead old new end
+pub in_memory : (first last : Held MemStore) → IsEmpty (state over_memory first) → (input ahead old new : Option (List ℕ)) (end : Result ℕ Fault)
+    → Serves over_memory input ahead old new first last end → ServesInMemory input ahead old new end
 in_memory first last empty input ahead old new end (inl (read, r)) = inl (read, memory_refused first last empty old new end r)
 in_memory first last empty input ahead old new end (inr r) = inr (last, r.served no_operator (memory_begins first empty))

@@ -10,7 +10,8 @@ use Rattle.bike_console.specs.declared.end.Fault.{Fault}
 use Rattle.bike_app.specs.Words.{Does, DoesInMemory}
 use Rattle.bike_app.proofs.ProgramLemmas.{in_memory, memory_begins, memory_refused, raise_refused}
 
-pub task_in_memory : (task : FileTask) (clock : Option ℕ) (first last : Held MemStore) → IsEmpty (state over_memory first) → (input ahead old new : Option (List ℕ)) (end : Result ℕ Fault) → Does over_memory input ahead old new task clock first last end → DoesInMemory input ahead old new task clock end
+pub task_in_memory : (task : FileTask) (clock : Option ℕ) (first last : Held MemStore) → IsEmpty (state over_memory first) → (input ahead old new : Option (List ℕ)) (end : Result ℕ Fault)
+    → Does over_memory input ahead old new task clock first last end → DoesInMemory input ahead old new task clock end
 task_in_memory Init clock first last empty input ahead old new end (read, inl r) = (read, inl (memory_refused first last empty old new end r))
 task_in_memory Init clock first last empty input ahead old new end (read, inr t) = (read, inr t.1)
 task_in_memory Check clock first last empty input ahead old new end (read, inl r) = (read, inl (memory_refused first last empty old new end r))

@@ -7,8 +7,8 @@ use Rattle.bike_schema.specs.Tables.{HasNone}
 use Rattle.bike_schema.specs.Stands.{IsOf, TreesStandFor}
 use Rattle.bike_desk.specs.Desk.{DeskValue, IsAt}
 use Rattle.bike_day_texts.specs.declared.table.DayTable.{DayTable}
-use Rattle.bike_days.specs.declared.fault.DayTableFault.{DayTableFault}
-use Rattle.bike_days.specs.Ends.{EndsByDay, WritesDay}
+use Rattle.bike_batch.specs.declared.day_fault.DayTableFault.{DayTableFault}
+use Rattle.bike_batch.specs.Ends.{EndsByDay, WritesDay}
 use Rattle.bike_console.specs.declared.end.Fault.{Fault}
 use Rattle.bike_console.specs.declared.end.Fault.TheVariants.{StoreFailed}
 use Rattle.bike_console.specs.Ends.{table_fault}
@@ -20,7 +20,8 @@ table_end (Ok u) = Ok 0
 table_end (Err fault) = Err (table_fault fault)
 
 module _ (table : DayTable) (date zone : List ℕ) where
-  -- The table of the operator's day was written, whole or a front of it; where date and zone are refused that is told, and nothing was written.
+  -- The table of the operator's day was written, whole or a front of it;
+  -- where date and zone are refused that is told, and nothing was written.
   pub record TellsTable (s : Operator) (old new : Option (List ℕ)) (end : Result ℕ Fault) : Type 0 where
     pub result : Result (Unit {0}) DayTableFault
     pub told : end ≡ table_end result
@@ -29,7 +30,8 @@ module _ (table : DayTable) (date zone : List ℕ) where
 
   module _ {S : Type 0} (g : Ghosts S) where
     -- The table of a desk at an operator, who stays; only a store that fails stops the desk.
-    pub record ReportsAt (desk : DeskValue S) (s : Operator) (old new : Option (List ℕ)) (end : Result ℕ Fault) : Type 0 where
+    pub record ReportsAt (desk : DeskValue S) (s : Operator) (old new : Option (List ℕ))
+        (end : Result ℕ Fault) : Type 0 where
       pub told : TellsTable s old new end
       pub at : (end ≡ Err StoreFailed → ⊥) → IsAt g desk s
 
@@ -46,7 +48,8 @@ module _ (table : DayTable) (date zone : List ℕ) where
   ReportsInMemory old new end = FailsToBegin old new end ⊎ TellsTable no_operator old new end
 
   module _ {S : Type 0} (g : Ghosts S) where
-    -- The database had none of the tables, and is as it was: the empty operator's table was written, over a database in memory.
+    -- The database had none of the tables, and is as it was: the
+    -- empty operator's table was written, over a database in memory.
     pub record ReportsNobodys (first last : Held S) (old new : Option (List ℕ)) (end : Result ℕ Fault) : Type 0 where
       pub same : last ≡ first
       pub none : HasNone (state g first).now.schema

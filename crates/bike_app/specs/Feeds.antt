@@ -50,7 +50,8 @@ pub record Publishes {S : Type 0} (g : Ghosts S) (first last : Held S) (f : Feed
   pub published : (s : Operator) → TreesStandFor s (state g first).now.trees → PublishesAt g desk s f moment old new end
 
 -- The database had none of the tables, and is as it was: what the empty operator has was told.
-pub record PublishesNobodys {S : Type 0} (g : Ghosts S) (first last : Held S) (f : Feed) (moment : Option ℕ) (old new : Option (List ℕ)) (end : Result ℕ Fault) : Type 0 where
+pub record PublishesNobodys {S : Type 0} (g : Ghosts S) (first last : Held S) (f : Feed) (moment : Option ℕ)
+    (old new : Option (List ℕ)) (end : Result ℕ Fault) : Type 0 where
   pub same : last ≡ first
   pub none : HasNone (state g first).now.schema
   pub told : TellsFeed no_operator f moment old new end
@@ -60,7 +61,8 @@ module _ {S : Type 0} (g : Ghosts S) (old new : Option (List ℕ)) where
   -- the database isn't one that is served, or the feed is published
   abbrev pub TellsPublished : Held S → Held S → Feed → Option ℕ → Result ℕ Fault → Type 0
   TellsPublished first last f moment end =
-      Refuses g old new first last end ⊎ (Publishes g first last f moment old new end ⊎ PublishesNobodys g first last f moment old new end)
+      Refuses g old new first last end ⊎ (Publishes g first last f moment old new end
+      ⊎ PublishesNobodys g first last f moment old new end)
 
 -- the moment that is asked for, or the clock's where none is
 abbrev pub moment_of : Option ℕ → Option ℕ → Option ℕ

@@ -1,5 +1,6 @@
 -- The import of stations that the program does, and what it leaves.
-use Rattle.std.specs.Prelude.{◌≡◌, ◌⊎◌, ℕ, List, ◌++◌, codes, decimal, Bool, true, false, Option, Some, None, Result, Ok, Err}
+use Rattle.std.specs.Prelude.{◌≡◌, ◌⊎◌, ℕ, List, ◌++◌, codes, decimal, Bool, true, false, Option, Some, None, Result}
+use Rattle.std.specs.Prelude.{Ok, Err}
 use Rattle.std.specs.Io.KnownBytes.{Appends, Keeps}
 use Rattle.sqlite.specs.Store.{Ghosts}
 use Rattle.sqlite.specs.Steps.{over_memory}
@@ -8,8 +9,8 @@ use Rattle.sqlite_trees.specs.declared.memory.MemStore.{MemStore}
 use Rattle.bike_operator.specs.Operator.{Operator, no_operator}
 use Rattle.bike_schema.specs.Stands.{IsOf, TreesStandFor}
 use Rattle.bike_desk.specs.Desk.{DeskValue, IsAt}
-use Rattle.bike_imports.specs.declared.fault.ImportFault.{ImportFault}
-use Rattle.bike_imports.specs.Imports.{Imports}
+use Rattle.bike_batch.specs.declared.import_fault.ImportFault.{ImportFault}
+use Rattle.bike_batch.specs.Imports.{Imports}
 use Rattle.bike_console.specs.declared.end.Fault.{Fault}
 use Rattle.bike_console.specs.declared.end.Fault.TheVariants.{NoClock, WriteFailed}
 use Rattle.bike_stream.specs.Writing.{AppendsFront}
@@ -25,7 +26,8 @@ abbrev pub PutsRows : ℕ → Option (List ℕ) → Option (List ℕ) → Bool �
 PutsRows count old new true = Appends old new (rows_line count)
 PutsRows count old new false = AppendsFront old new (rows_line count)
 
--- what is told of an import: the number of its rows by that line, or less of it; where it ended with a fault, that and no line
+-- what is told of an import: the number of its rows by that line,
+-- or less of it; where it ended with a fault, that and no line
 abbrev pub TellsRows : Result ℕ ImportFault → Option (List ℕ) → Option (List ℕ) → Result ℕ Fault → Type 0
 TellsRows (Ok count) old new (Ok told) = (told ≡ count) × Appends old new (rows_line count)
 TellsRows (Ok count) old new (Err fault) = (fault ≡ WriteFailed) × AppendsFront old new (rows_line count)
@@ -54,10 +56,12 @@ module _ {S : Type 0} (g : Ghosts S) (input ahead old new : Option (List ℕ)) (
 
   -- the connection couldn't be adopted, and nothing was read, or the input is imported
   abbrev pub TellsImported : Held S → Held S → Option ℕ → Result ℕ Fault → Type 0
-  TellsImported first last moment end = (Keeps input ahead × Refuses g old new first last end) ⊎ ImportsOver first last moment end
+  TellsImported first last moment end =
+      (Keeps input ahead × Refuses g old new first last end) ⊎ ImportsOver first last moment end
 
 -- over a database in memory, which begins with nothing
-abbrev pub ImportsInMemory : Option (List ℕ) → Option (List ℕ) → Option (List ℕ) → Option (List ℕ) → List ℕ → Option ℕ → Result ℕ Fault
+abbrev pub ImportsInMemory : Option (List ℕ) → Option (List ℕ) → Option (List ℕ) → Option (List ℕ) → List ℕ → Option ℕ
+    → Result ℕ Fault
     → Type 0
 ImportsInMemory input ahead old new name moment end =
     (Keeps input ahead × FailsToBegin old new end)

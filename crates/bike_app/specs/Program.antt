@@ -12,13 +12,13 @@ use Rattle.bike_operator.specs.Runs.{Call, after}
 use Rattle.bike_operator.specs.Sound.{AreCalls}
 use Rattle.bike_schema.specs.Stands.{AllLeft, IsOf, TreesStandFor}
 use Rattle.bike_desk.specs.Desk.{DeskValue}
-use Rattle.bike_adoption.specs.declared.adoption.AdoptFault.{AdoptFault}
-use Rattle.bike_adoption.specs.Adoption.{handed, IsToldOf, IsWant}
-use Rattle.bike_lines.specs.declared.fault.LinesFault.{LinesFault}
+use Rattle.bike_audit.specs.declared.adoption.AdoptFault.{AdoptFault}
+use Rattle.bike_audit.specs.Adoption.{handed, IsToldOf, IsWant}
+use Rattle.bike_batch.specs.declared.line_fault.LinesFault.{LinesFault}
 use Rattle.bike_console.specs.declared.end.Fault.{Fault}
 use Rattle.bike_console.specs.declared.end.Fault.TheVariants.{OutOfMemory, StoreFailed}
 use Rattle.bike_console.specs.Ends.{adopt_fault, end_of}
-use Rattle.bike_lines.specs.Runs.{RanLines}
+use Rattle.bike_batch.specs.Runs.{RanLines}
 
 -- the trees stand for the operator after good requests
 abbrev pub StandsAfterSome : Operator → Trees → Type 0
@@ -27,10 +27,13 @@ StandsAfterSome s trees = (calls : List Call) × AreCalls calls × TreesStandFor
 -- all that a crash may leave of a database that stood for an operator is this for that operator
 abbrev pub CrashLeaves : {S : Type 0} → Ghosts S → Held S → Held S → (Operator → Trees → Type 0) → Type 0
 CrashLeaves g first last may =
-    HasCleanDisk (state g last) → (s : Operator) → TreesStandFor s (state g first).now.trees → IsTrue (state g first).is_open → AllLeft (state g last) (may s)
+    HasCleanDisk (state g last) → (s : Operator) → TreesStandFor s (state g first).now.trees
+    → IsTrue (state g first).is_open → AllLeft (state g last) (may s)
 
--- The connection couldn't be adopted, for memory or storage alone where it stands for an operator, and nothing was written.
-pub record Refuses {S : Type 0} (g : Ghosts S) (old new : Option (List ℕ)) (first last : Held S) (end : Result ℕ Fault) : Type 0 where
+-- The connection couldn't be adopted, for memory or storage alone
+-- where it stands for an operator, and nothing was written.
+pub record Refuses {S : Type 0} (g : Ghosts S) (old new : Option (List ℕ)) (first last : Held S)
+    (end : Result ℕ Fault) : Type 0 where
   pub fault : AdoptFault S
   pub told : end ≡ Err (adopt_fault fault)
   pub why : IsToldOf g first fault
@@ -64,6 +67,8 @@ module _ {S : Type 0} (g : Ghosts S) (input ahead old new : Option (List ℕ)) w
   Serves first last end = (Keeps input ahead × Refuses g old new first last end) ⊎ ServesOver first last end
 
 -- a database in memory begins with nothing
-abbrev pub ServesInMemory : Option (List ℕ) → Option (List ℕ) → Option (List ℕ) → Option (List ℕ) → Result ℕ Fault → Type 0
+abbrev pub ServesInMemory : Option (List ℕ) → Option (List ℕ) → Option (List ℕ) → Option (List ℕ) → Result ℕ Fault
+    → Type 0
 ServesInMemory input ahead old new end =
-    (Keeps input ahead × FailsToBegin old new end) ⊎ ((last : Held MemStore) × ServesLines over_memory input ahead old new last no_operator end)
+    (Keeps input ahead × FailsToBegin old new end)
+    ⊎ ((last : Held MemStore) × ServesLines over_memory input ahead old new last no_operator end)

@@ -31,10 +31,12 @@ pub record RaisedUp {S : Type 0} (g : Ghosts S) (first last : Held S) : Type 0 w
   pub was : StandsForAt version (state g first).now operator
   pub holds : Holds (state g last) operator
 
--- all that a crash may leave of a database that stood for an operator at a version stands for that operator, there or at the newest
+-- all that a crash may leave of a database that stood for an operator
+-- at a version stands for that operator, there or at the newest
 abbrev pub CrashLeavesRaised : {S : Type 0} → Ghosts S → Held S → Held S → Type 0
 CrashLeavesRaised g first last =
-    HasCleanDisk (state g last) → (v : Option Earlier) (s : Operator) → TreesStandForAt v s (state g first).now.trees → IsTrue (state g first).is_open
+    HasCleanDisk (state g last) → (v : Option Earlier) (s : Operator) → TreesStandForAt v s (state g first).now.trees
+    → IsTrue (state g first).is_open
     → AllLeft (state g last) (TreesStandSince v s)
 
 -- what was written before and after
@@ -50,4 +52,5 @@ module _ {S : Type 0} (g : Ghosts S) (old new : Option (List ℕ)) where
 
   -- it couldn't be raised, or it was and a line tells its version
   abbrev pub TellsRaised : Held S → Held S → Result ℕ Fault → Type 0
-  TellsRaised first last end = RefusesToRaise first last end ⊎ (RaisedUp g first last × WritesLine old new version_line end)
+  TellsRaised first last end =
+      RefusesToRaise first last end ⊎ (RaisedUp g first last × WritesLine old new version_line end)

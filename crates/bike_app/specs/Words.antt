@@ -32,23 +32,29 @@ pub record LookedAt {S : Type 0} (g : Ghosts S) (first last : Held S) : Type 0 w
 module _ {S : Type 0} (g : Ghosts S) (old new : Option (List ℕ)) where
   -- the database isn't one that is served, or it is, and a line tells that
   abbrev pub TellsLookedAt : Held S → Held S → List ℕ → Result ℕ Fault → Type 0
-  TellsLookedAt first last line end = Refuses g old new first last end ⊎ (LookedAt g first last × WritesLine old new line end)
+  TellsLookedAt first last line end =
+      Refuses g old new first last end ⊎ (LookedAt g first last × WritesLine old new line end)
 
   -- the connection couldn't be adopted, or it was and a line tells that
   abbrev pub TellsTakenUp : Held S → Held S → List ℕ → Result ℕ Fault → Type 0
-  TellsTakenUp first last line end = Refuses g old new first last end ⊎ (TakenUp g first last × WritesLine old new line end)
+  TellsTakenUp first last line end =
+      Refuses g old new first last end ⊎ (TakenUp g first last × WritesLine old new line end)
 
 -- the input before and after, and what was written before and after
 module _ {S : Type 0} (g : Ghosts S) (input ahead old new : Option (List ℕ)) where
-  -- WHAT A TASK DOES over this connection, which becomes that one, where the clock gave this moment; lines and an import alone read
+  -- WHAT A TASK DOES over this connection, which becomes that one,
+  -- where the clock gave this moment; lines and an import alone read
   abbrev pub Does : FileTask → Option ℕ → Held S → Held S → Result ℕ Fault → Type 0
   Does Init clock first last end = KeepsBytes input ahead × TellsTakenUp g old new first last (codes "ready\n") end
   Does Check clock first last end = KeepsBytes input ahead × TellsLookedAt g old new first last (codes "sound\n") end
   Does Raise clock first last end = KeepsBytes input ahead × TellsRaised g old new first last end
   Does Lines clock first last end = Serves g input ahead old new first last end
-  Does (Feed f at) clock first last end = KeepsBytes input ahead × TellsPublished g old new first last f (moment_of at clock) end
-  Does (Day table date zone) clock first last end = KeepsBytes input ahead × TellsReported table date.now zone.now g old new first last end
-  Does (Import name at) clock first last end = TellsImported g input ahead old new name.now first last (moment_of at clock) end
+  Does (Feed f at) clock first last end =
+      KeepsBytes input ahead × TellsPublished g old new first last f (moment_of at clock) end
+  Does (Day table date zone) clock first last end =
+      KeepsBytes input ahead × TellsReported table date.now zone.now g old new first last end
+  Does (Import name at) clock first last end =
+      TellsImported g input ahead old new name.now first last (moment_of at clock) end
 
 -- the words that only look
 abbrev pub Looks : FileTask → Type 0
@@ -71,10 +77,14 @@ MayStand _ s trees = TreesStandFor s trees
 -- over a database in memory
 module _ (input ahead old new : Option (List ℕ)) where
   abbrev pub DoesInMemory : FileTask → Option ℕ → Result ℕ Fault → Type 0
-  DoesInMemory Init clock end = KeepsBytes input ahead × (FailsToBegin old new end ⊎ WritesLine old new (codes "ready\n") end)
-  DoesInMemory Check clock end = KeepsBytes input ahead × (FailsToBegin old new end ⊎ WritesLine old new (codes "sound\n") end)
-  DoesInMemory Raise clock end = KeepsBytes input ahead × (FailsToBegin old new end ⊎ WritesLine old new version_line end)
+  DoesInMemory Init clock end =
+      KeepsBytes input ahead × (FailsToBegin old new end ⊎ WritesLine old new (codes "ready\n") end)
+  DoesInMemory Check clock end =
+      KeepsBytes input ahead × (FailsToBegin old new end ⊎ WritesLine old new (codes "sound\n") end)
+  DoesInMemory Raise clock end =
+      KeepsBytes input ahead × (FailsToBegin old new end ⊎ WritesLine old new version_line end)
   DoesInMemory Lines clock end = ServesInMemory input ahead old new end
   DoesInMemory (Feed f at) clock end = KeepsBytes input ahead × PublishesInMemory old new f (moment_of at clock) end
-  DoesInMemory (Day table date zone) clock end = KeepsBytes input ahead × ReportsInMemory table date.now zone.now old new end
+  DoesInMemory (Day table date zone) clock end =
+      KeepsBytes input ahead × ReportsInMemory table date.now zone.now old new end
   DoesInMemory (Import name at) clock end = ImportsInMemory input ahead old new name.now (moment_of at clock) end

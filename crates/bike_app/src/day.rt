@@ -6,14 +6,14 @@ ghost use Rattle.sqlite.specs.Held.{state};
 ghost use Rattle.sqlite_trees.specs.View.{doubt};
 ghost use Rattle.bike_schema.specs.Stands.{AllLeft, TreesStandFor};
 ghost use Rattle.bike_desk.specs.Desk.{desk_state, OfOperator};
-ghost use Rattle.bike_adoption.specs.Adoption.{LeavesAll};
+ghost use Rattle.bike_audit.specs.Adoption.{LeavesAll};
 ghost use Rattle.bike_app.specs.Program.{CrashLeaves};
 ghost use Rattle.bike_app.specs.Days.{ReportsAt, ReportsInMemory, TellsReported, table_end};
 
-use bike_adoption::{Looked, Unwatched, adopt, look};
+use bike_audit::{Inspection, NoWatch, adopt, look};
+use bike_batch::{DayTableFault, day_csv};
 use bike_console::Fault;
 use bike_day_texts::DayTable;
-use bike_days::{DayTableFault, day_csv};
 use bike_desk::Desk;
 use sqlite::{Alter, Connection};
 use std::alloc::Global;
@@ -86,13 +86,13 @@ pub fn report_day<S: Alter, W: Write>(
     ensures kept { CrashLeaves S.Store conn result.0 TreesStandFor }
     ensures stays { LeavesAll S.Store conn result.0 }
 {
-    match look(alloc, conn, &mut Unwatched) {
-        Ok(Looked::Sound(conn)) => {
+    match look(alloc, conn, &mut NoWatch) {
+        Ok(Inspection::Sound(conn)) => {
             let mut desk = Desk::over(conn);
             let end = report_at(alloc, &mut desk, table, date, zone, writer);
             (desk.close(), end)
         }
-        Ok(Looked::Empty(conn)) => {
+        Ok(Inspection::Empty(conn)) => {
             let end = report_nobodys(alloc, table, date, zone, writer);
             (conn, end)
         }

@@ -8,11 +8,11 @@ ghost use Rattle.bike_operator.specs.Operator.{no_operator};
 ghost use Rattle.bike_feed_texts.specs.declared.feed.Feed.{Feed};
 ghost use Rattle.bike_schema.specs.Stands.{AllLeft, TreesStandFor};
 ghost use Rattle.bike_desk.specs.Desk.{desk_state, OfOperator};
-ghost use Rattle.bike_adoption.specs.Adoption.{LeavesAll};
+ghost use Rattle.bike_audit.specs.Adoption.{LeavesAll};
 ghost use Rattle.bike_app.specs.Program.{CrashLeaves};
 ghost use Rattle.bike_app.specs.Feeds.{PublishesAt, TellsFeed, TellsPublished, feed_end, moment_of};
 
-use bike_adoption::{Looked, Unwatched, look};
+use bike_audit::{Inspection, NoWatch, look};
 use bike_console::Fault;
 use bike_desk::Desk;
 use bike_feed_texts::Feed;
@@ -108,13 +108,13 @@ pub fn publish<S: Alter, W: Write>(
     ensures kept { CrashLeaves S.Store conn result.0 TreesStandFor }
     ensures stays { LeavesAll S.Store conn result.0 }
 {
-    match look(alloc, conn, &mut Unwatched) {
-        Ok(Looked::Sound(conn)) => {
+    match look(alloc, conn, &mut NoWatch) {
+        Ok(Inspection::Sound(conn)) => {
             let mut desk = Desk::over(conn);
             let end = publish_at(alloc, &mut desk, feed, moment, writer);
             (desk.close(), end)
         }
-        Ok(Looked::Empty(conn)) => (conn, publish_nobodys(moment)),
+        Ok(Inspection::Empty(conn)) => (conn, publish_nobodys(moment)),
         Err(fault) => Fault::refused(fault),
     }
 }

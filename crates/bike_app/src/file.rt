@@ -12,7 +12,7 @@ ghost use Rattle.bike_app.specs.Words.{IsRaise, MayStand};
 ghost use Rattle.bike_app.specs.Files.{DoesOverFile, EndsOnFile, IsAlone, IsUntouched, LeavesRaised, settles};
 
 use crate::words::run_words;
-use bike_adoption::Watch;
+use bike_audit::Watch;
 use bike_command_line::FileTask;
 use bike_console::{Fault, NewLog, Remains, Wanted, open_file, open_to_look, prepare_file, settle};
 use bike_fixed::Moment;

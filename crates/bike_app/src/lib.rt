@@ -11,8 +11,8 @@ mod program;
 mod raise;
 mod words;
 
-pub use bike_console::{Counted, Fault, Progress, exit_code};
-pub use bike_lines::{LinesFault, run_lines};
+pub use bike_batch::{LinesFault, run_lines};
+pub use bike_console::{CountingReader, Fault, Progress, exit_code};
 pub use bounds::word_bounds;
 pub use day::report_day;
 pub use feed::publish;

@@ -6,9 +6,9 @@ ghost use Rattle.sqlite.specs.Held.{state};
 ghost use Rattle.sqlite_trees.specs.View.{doubt};
 ghost use Rattle.bike_app.specs.Program.{CrashLeaves, Serves, StandsAfterSome};
 
-use bike_adoption::adopt;
+use bike_audit::adopt;
+use bike_batch::run_lines;
 use bike_console::Fault;
-use bike_lines::run_lines;
 use sqlite::{Alter, Connection};
 use std::alloc::Global;
 use std::io::{Read, Write};

@@ -7,7 +7,7 @@ ghost use Rattle.sqlite_trees.specs.View.{doubt};
 ghost use Rattle.bike_app.specs.Raises.{CrashLeavesRaised, TellsRaised};
 
 use crate::words::write_line;
-use bike_adoption::Watch;
+use bike_audit::Watch;
 use bike_console::{Fault, raise_watched};
 use sqlite::{Alter, Connection};
 use std::alloc::Global;

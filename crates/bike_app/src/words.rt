@@ -5,7 +5,7 @@ ghost use Rattle.sqlite.specs.State.{HasCleanDisk};
 ghost use Rattle.sqlite.specs.Held.{state};
 ghost use Rattle.sqlite_trees.specs.View.{doubt};
 ghost use Rattle.bike_schema.specs.Stands.{TreesStandFor};
-ghost use Rattle.bike_adoption.specs.Adoption.{LeavesAll};
+ghost use Rattle.bike_audit.specs.Adoption.{LeavesAll};
 ghost use Rattle.bike_command_line.specs.Program.{IsWithinOnFile};
 ghost use Rattle.bike_app.specs.Program.{CrashLeaves};
 ghost use Rattle.bike_app.specs.Raises.{CrashLeavesRaised, WritesLine};
@@ -16,7 +16,7 @@ use crate::feed::{moment_of, publish};
 use crate::import::import_from;
 use crate::program::serve;
 use crate::raise::raise_up;
-use bike_adoption::{Looked, Unwatched, Watch, adopt_watched, look};
+use bike_audit::{Inspection, NoWatch, Watch, adopt_watched, look};
 use bike_command_line::FileTask;
 use bike_console::Fault;
 use bike_fixed::Moment;
@@ -71,8 +71,8 @@ fn look_over<S: Alter, W: Write, P: Watch>(
     ensures stays { LeavesAll S.Store conn result.0 }
 {
     match look(alloc, conn, watch) {
-        Ok(Looked::Sound(conn)) => (conn, write_line(writer, line)),
-        Ok(Looked::Empty(conn)) => (conn, write_line(writer, line)),
+        Ok(Inspection::Sound(conn)) => (conn, write_line(writer, line)),
+        Ok(Inspection::Empty(conn)) => (conn, write_line(writer, line)),
         Err(fault) => Fault::refused(fault),
     }
 }
@@ -140,6 +140,6 @@ pub fn run_words_in_memory<R: Read, W: Write>(
         (W.contents writer.old) (W.contents writer.new) task.now clock result }
 {
     let conn = Connection::open_in_memory(alloc)?;
-    let (_, end) = run_words(alloc, task, clock, conn, reader, writer, &mut Unwatched);
+    let (_, end) = run_words(alloc, task, clock, conn, reader, writer, &mut NoWatch);
     end
 }

@@ -13,9 +13,10 @@ use Rattle.sqlite.specs.Effect.{Database}
 use Rattle.sqlite.specs.Held.{Held, state}
 use Rattle.sqlite.specs.State.{HasCleanDisk, IsLive}
 use Rattle.sqlite.proofs.StateLemmas.{survives_weaker}
-use Rattle.bike_rows.specs.Calls.{ReadsWhere}
-use Rattle.bike_rows.proofs.ChainLaws.{reads_both}
-use Rattle.bike_book.specs.Tables.{TableName, Tables, table_place, Meta, System, Plans, Segments, Types, Regions, Stations, Docks, Bikes, Trucks, Riders, Rentals, Orders, Entries, Kept, Counts, MoreNames}
+use Rattle.bike_sql.specs.Calls.{ReadsWhere}
+use Rattle.bike_sql.proofs.ChainLaws.{reads_both}
+use Rattle.bike_book.specs.Tables.{TableName, Tables, table_place, Meta, System, Plans, Segments, Types, Regions, Stations, Docks, Bikes, Trucks, Riders, Rentals, Orders, Entries, Kept, Counts}
+use Rattle.bike_book.specs.Tables.{MoreNames}
 use Rattle.bike_schema.specs.Layouts.{every_table}
 use Rattle.bike_schema.specs.Tables.{HasTables, IsOurs, tables_of}
 use Rattle.bike_schema.proofs.AnswerLemmas.{reads_weaker}
@@ -89,7 +90,8 @@ module _ (db : Database) where
         by Equal e = subst (λ (n : TableName). IsGoodKey t n other) (sym (its_own name) ∙ ap table_at (here ∙ sym (ranked (table_place table) place Equal e)) ∙ its_own table) (all other)
         by Greater e = absurd (let more = ranked (table_place table) place Greater e in omega (arith, less, more))
 
-    one_table : (bad : Option (TableName × Row)) (rest : Type 0) → (GoodBefore (suc place) → rest → IsVerdict t bad) → (found : Option BadKey) → JudgesTable name db found → IsAfter name bad rest found → IsVerdict t bad
+    one_table : (bad : Option (TableName × Row)) (rest : Type 0) → (GoodBefore (suc place) → rest → IsVerdict t bad) → (found : Option BadKey) → JudgesTable name db found → IsAfter name bad rest found
+        → IsVerdict t bad
     one_table bad rest others None verdict after = others (up_to (verdict earlier)) after
     one_table bad rest others (Some key) verdict is = let it = verdict earlier in subst (IsVerdict t) (sym is) (record { bad = it.bad; own = it.own; before = it.before; earlier = earlier })
 
@@ -107,10 +109,12 @@ pub split_first : (tables : List code.TableName) (other : code.TableName) → 1 
 split_first [] other some = absurd (omega (arith, some))
 split_first (table ∷ rest) other some = ap (λ (xs : List code.TableName). table ∷ xs) (sym (take_all (length (table ∷ rest) - 1) rest (omega arith)))
 
-pub found_after : (tables : List code.TableName) (table : code.TableName) (rest : List code.TableName) (found : Option BadKey) → tables ≡ table ∷ rest → found ≡ None → (db : Database) (bad : Option BadRow) → JudgesTable (table_named table) db found × IsFoundIn (map table_named rest) db (option_map row_name bad)
+pub found_after : (tables : List code.TableName) (table : code.TableName) (rest : List code.TableName) (found : Option BadKey) → tables ≡ table ∷ rest → found ≡ None
+    → (db : Database) (bad : Option BadRow) → JudgesTable (table_named table) db found × IsFoundIn (map table_named rest) db (option_map row_name bad)
     → IsFoundIn (map table_named tables) db (option_map row_name bad)
 found_after tables table rest found split none db bad both =
-    subst (λ (names : List code.TableName). IsFoundIn (map table_named names) db (option_map row_name bad)) (sym split) (found, both.0, subst (IsAfter (table_named table) (option_map row_name bad) (IsFoundIn (map table_named rest) db (option_map row_name bad))) (sym none) both.1)
+    subst (λ (names : List code.TableName). IsFoundIn (map table_named names) db (option_map row_name bad)) (sym split)
+    (found, both.0, subst (IsAfter (table_named table) (option_map row_name bad) (IsFoundIn (map table_named rest) db (option_map row_name bad))) (sym none) both.1)
 
 pub found_here : (tables : List code.TableName) (table : code.TableName) (rest : List code.TableName) (found : Option BadKey) (key : BadKey)
     → tables ≡ table ∷ rest → found ≡ Some key → (db : Database) → JudgesTable (table_named table) db found
@@ -123,7 +127,8 @@ found_here tables table rest found key split some db judged =
 -- ---- what is known of an open database
 
 -- Reads of the product's tables in a database that was found open.
-pub ours_then : {S X E F : Type 0} {g : Ghosts S} {old mid new : Held S} {result : Result X F} {says : Database → X → Type 0} → ReadsAny {E = E} g old mid (Ok (tt {0})) (λ db _. AnyDatabase db) → IsLive (state g mid)
+pub ours_then : {S X E F : Type 0} {g : Ghosts S} {old mid new : Held S} {result : Result X F} {says : Database → X → Type 0} → ReadsAny {E = E} g old mid (Ok (tt {0})) (λ db _. AnyDatabase db)
+    → IsLive (state g mid)
     → ReadsWhere g IsOurs mid new result says → ReadsWhere g HasTables old new result (λ db x. HasTables db × says db x)
 ours_then {g = g} {mid = mid} {new = new} {result = result} {says = says} one live two = reads_weaker (reads_both (reads_known one) at_mid) (λ db x both. both.1)
   where
@@ -184,7 +189,8 @@ doubled_lies db (inr (some, inr (stands, told))) = by_version (meta_version db) 
     by_version NotOurs is = absurd (let never = is in cc)
 
 -- a read where more was known
-reads_under : {S X E : Type 0} {g : Ghosts S} {P Q : Database → Type 0} {old new : Held S} {result : Result X E} {says : Database → X → Type 0} → ((db : Database) → Q db → P db) → ReadsWhere g P old new result says → ReadsWhere g Q old new result says
+reads_under : {S X E : Type 0} {g : Ghosts S} {P Q : Database → Type 0} {old new : Held S} {result : Result X E} {says : Database → X → Type 0} → ((db : Database) → Q db → P db)
+    → ReadsWhere g P old new result says → ReadsWhere g Q old new result says
 reads_under {g = g} {old = old} {new = new} tells it = record {
   found = λ clean has. it.found clean (tells _ has);
   same = λ clean has. it.same clean (tells _ has);
@@ -214,11 +220,13 @@ by_doubled db (finding.Unsound bad) is it = inr (is, it)
 by_doubled db (finding.Older version) is it = absurd it
 by_doubled db (finding.Newer version) is it = absurd it
 
-pub doubled_audited : {S E F : Type 0} {g : Ghosts S} {old mid new : Held S} {told : Recognition} {result : Result Finding F} → ReadsAny {E = E} g old mid (Ok told) IsRecognised → told ≡ recognition.Doubled
+pub doubled_audited : {S E F : Type 0} {g : Ghosts S} {old mid new : Held S} {told : Recognition} {result : Result Finding F} → ReadsAny {E = E} g old mid (Ok told) IsRecognised
+    → told ≡ recognition.Doubled
     → ReadsWhere g KeptLies mid new result IsDoubledFinding → ReadsAny g old new result IsAudited
 doubled_audited one is two = reads_weaker (reads_once one (λ db told. subst (IsRecognised db) is told) (reads_under doubled_lies two)) (λ db found both. by_doubled db found both.0 both.1)
 
-pub doubled_at : {S E F : Type 0} {g : Ghosts S} {old mid new : Held S} {told : Recognition} {result : Result Finding F} → ReadsAny {E = E} g old mid (Ok told) IsRecognised → told ≡ recognition.Doubled
+pub doubled_at : {S E F : Type 0} {g : Ghosts S} {old mid new : Held S} {told : Recognition} {result : Result Finding F} → ReadsAny {E = E} g old mid (Ok told) IsRecognised
+    → told ≡ recognition.Doubled
     → ReadsWhere g KeptLies mid new result IsDoubledFinding → IsDoubledAt g old new
 doubled_at {g = g} {old = old} {mid = mid} {new = new} one is two clean =
     let kept = two.quiet.survives.clean in

@@ -1,2 +1,7 @@
 mod AuditLemmas
 pub mod ToldLemmas
+pub mod AdoptLemmas
+pub mod FoundLemmas
+mod AdoptToldLemmas
+pub mod LookLemmas
+pub use Rattle.bike_desk.proofs.KeepLemmas

@@ -17,7 +17,8 @@ told_twice None first second = refl
 told_twice (Some before) first second = ap (λ (xs : List Table). Some xs) (append_assoc before first second)
 
 -- it was told of one table, and then of those that the rest tells of
-pub told_more : (old mid new : Option (List Table)) (table : Table) {are more : List Table → Type 0} → mid ≡ told_after old (table ∷ []) → ((told : List Table) → are told → more (table ∷ told)) → WasTold mid new are → WasTold old new more
+pub told_more : (old mid new : Option (List Table)) (table : Table) {are more : List Table → Type 0} → mid ≡ told_after old (table ∷ []) → ((told : List Table) → are told → more (table ∷ told))
+    → WasTold mid new are → WasTold old new more
 told_more old mid new table one so (tables, told, are) = (table ∷ tables, told ∙ ap (λ o. told_after o tables) one ∙ told_twice old (table ∷ []) tables, so tables are)
 
 pub front_none : (tables : List Table) → IsFront tables []
@@ -27,7 +28,8 @@ pub front_more : (tables : List Table) (table : Table) (rest told : List Table) 
 front_more tables table rest told split (after, is) = (after, split ∙ ap (λ (xs : List Table). table ∷ xs) is)
 
 -- with a table before the others
-pub are_more : (tables : List Table) (table : Table) (rest : List Table) (result : Result (Option BadRow) StatementFault) → tables ≡ table ∷ rest → (told : List Table) → AreTold rest result told → AreTold tables result (table ∷ told)
+pub are_more : (tables : List Table) (table : Table) (rest : List Table) (result : Result (Option BadRow) StatementFault) → tables ≡ table ∷ rest → (told : List Table) → AreTold rest result told
+    → AreTold tables result (table ∷ told)
 are_more tables table rest (Ok None) split told is = ap (λ (xs : List Table). table ∷ xs) is ∙ sym split
 are_more tables table rest (Ok (Some bad)) split told (before, last, front) = (table ∷ before, ap (λ (xs : List Table). table ∷ xs) last, front_more tables table rest told split front)
 are_more tables table rest (Err fault) split told front = front_more tables table rest told split front

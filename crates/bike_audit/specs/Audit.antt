@@ -35,7 +35,8 @@ IsAfter name bad rest (Some key) = bad ≡ Some (name, key_row key)
 -- Each of these tables was judged in turn, until the first that has a bad row.
 abbrev pub IsFoundIn : List TableName → Database → Option (TableName × Row) → Type 0
 IsFoundIn [] db bad = bad ≡ None
-IsFoundIn (name ∷ names) db bad = (found : Option BadKey) × JudgesTable name db found × IsAfter name bad (IsFoundIn names db bad) found
+IsFoundIn (name ∷ names) db bad =
+    (found : Option BadKey) × JudgesTable name db found × IsAfter name bad (IsFoundIn names db bad) found
 
 -- ---- what the database is
 

@@ -1,2 +1,3 @@
 pub mod Audit
 pub mod Watching
+pub mod Adoption

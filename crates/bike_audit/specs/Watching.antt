@@ -28,7 +28,8 @@ IsFront tables front = (rest : List TableName) × (tables ≡ front ++ rest)
 abbrev pub IsFrontTo : List TableName → TableName → List TableName → Type 0
 IsFrontTo tables last front = (before : List TableName) × (front ≡ before ++ last ∷ []) × IsFront tables front
 
--- THE TABLES THAT AN AUDIT TELLS OF: all where no row is bad, else those up to the bad row's; where it fails, those that it came to
+-- THE TABLES THAT AN AUDIT TELLS OF: all where no row is bad, else
+-- those up to the bad row's; where it fails, those that it came to
 abbrev pub AreTold : List TableName → Result (Option BadRow) StatementFault → List TableName → Type 0
 AreTold tables (Ok None) told = told ≡ tables
 AreTold tables (Ok (Some bad)) told = IsFrontTo tables bad.table told

@@ -1,7 +1,7 @@
 //! What a database is, and whether its tables stand for an operator.
 
 ghost use Rattle.std.specs.Prelude.{IfOk};
-ghost use Rattle.bike_rows.specs.Calls.{ReadsWhere};
+ghost use Rattle.bike_sql.specs.Calls.{ReadsWhere};
 ghost use Rattle.bike_schema.specs.Tables.{HasTables};
 ghost use Rattle.bike_recognition.specs.Recognition.{ReadsAny};
 ghost use Rattle.bike_audit.specs.Audit.{IsAudited, IsByRules, IsDoubledFinding};
@@ -12,8 +12,8 @@ use crate::tables::{BadRow, first_bad_row};
 use crate::watch::Watch;
 use bike_judges::BadKey;
 use bike_recognition::{Recognition, TableName, check_open, doubled_key, recognise};
-use bike_rows::inside::obeys_schema;
 use bike_schema::StatementFault;
+use bike_sql::inside::obeys_schema;
 use sqlite::{Alter, Connection};
 use std::alloc::Global;
 

@@ -1,6 +1,6 @@
 //! The rules of each table.
 
-ghost use Rattle.bike_rows.specs.Calls.{ReadsWhere};
+ghost use Rattle.bike_sql.specs.Calls.{ReadsWhere};
 ghost use Rattle.bike_schema.specs.Tables.{IsOurs};
 ghost use Rattle.bike_judges.specs.Verdicts.{JudgesTable};
 ghost use Rattle.bike_recognition.specs.Names.{table_named};

@@ -1,7 +1,7 @@
 //! The verdict on the tables, one after the other.
 
 ghost use Rattle.std.specs.Prelude.{map, option_map};
-ghost use Rattle.bike_rows.specs.Calls.{ReadsWhere};
+ghost use Rattle.bike_sql.specs.Calls.{ReadsWhere};
 ghost use Rattle.bike_schema.specs.Tables.{IsOurs};
 ghost use Rattle.bike_recognition.specs.Names.{table_named};
 ghost use Rattle.bike_audit.specs.Audit.{IsFoundIn, IsVerdictOn, row_name};

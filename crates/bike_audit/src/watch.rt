@@ -18,9 +18,9 @@ pub trait Watch {
 
 /// Nobody is told.
 #[derive(Clone, Copy, Debug, Drop)]
-pub struct Unwatched;
+pub struct NoWatch;
 
-impl Watch for Unwatched {
+impl Watch for NoWatch {
     ghost use Rattle.std.specs.Prelude.{None};
 
     ghost told = { λ _. None };

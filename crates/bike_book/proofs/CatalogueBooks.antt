@@ -8,8 +8,8 @@ use Rattle.std.specs.FinMap as fin
 use Rattle.std.proofs.lemmas.Int.{ints}
 use Rattle.sqlite_value.specs.declared.value.Value.TheVariants.{Int, Text}
 use Rattle.sqlite_value.specs.Order.{Row, row_cmp}
-use Rattle.bike_rows.specs.View.{put_row_by, row_with, rows_after_update, with_values}
-use Rattle.bike_rows.proofs.SetLaw.{updated_there}
+use Rattle.bike_sql.specs.View.{put_row_by, row_with, rows_after_update, with_values}
+use Rattle.bike_sql.proofs.SetLaw.{updated_there}
 use Rattle.bike_operator.specs.Rows.{SystemRow, SettingsRow, moved_to, system_with}
 use Rattle.bike_operator.specs.Operator.{Operator, Station, NameKey, name_key}
 use Rattle.bike_operator.specs.Steps.{key_changed, new_station}

@@ -3,7 +3,7 @@ use Rattle.std.proofs.Common.{◌≡◌, ℕ, ◌+◌, ℤ, pos, ◌-ℤ◌, Lis
 use Rattle.std.specs.Prelude.{map}
 use Rattle.std.specs.Str.{bytes_eq}
 use Rattle.std.specs.FinMap as fin
-use Rattle.bike_rows.specs.View.{put_row_by}
+use Rattle.bike_sql.specs.View.{put_row_by}
 use Rattle.bike_operator.specs.declared.records.BikeState.TheVariants.{Fit}
 use Rattle.bike_operator.specs.declared.records.Place.TheVariants as place
 use Rattle.bike_operator.specs.declared.records.Bike.{Bike}
@@ -79,5 +79,6 @@ set_rider s m listing rider blocked known =
     let n = after_change (change.SetRider rider blocked) s in
     let there = there_of (fin.get s.riders rider) known in
     let riders =
-    set_entries numbers (stored_rider s.entries) (stored_rider s.entries) (λ e. refl) (λ e. refl) s.riders rider tt _ there.0 (record { is_blocked = blocked }) there.1 refl (λ q y found. (tt, λ apart. refl)) in
+    set_entries numbers (stored_rider s.entries) (stored_rider s.entries) (λ e. refl) (λ e. refl) s.riders rider tt _ there.0 (record { is_blocked = blocked }) there.1 refl
+    (λ q y found. (tt, λ apart. refl)) in
     record { leads = λ i. record (tables_between s m) { riders = riders i }; listing = listing_same s n m (names_same s n refl refl) refl refl listing }

@@ -14,7 +14,7 @@ use Rattle.sqlite_value.specs.declared.value.Value.TheVariants.{Text}
 use Rattle.sqlite_value.specs.Order.{Row, column, row_cmp, value_cmp}
 use Rattle.sqlite_value.proofs.OrderLemmas.{value_cmp-Text, value_cmp-Null, then-Equal}
 use Rattle.sqlite_rules.specs.Lists.{Has}
-use Rattle.bike_rows.specs.View.{rows_where}
+use Rattle.bike_sql.specs.View.{rows_where}
 use Rattle.bike_fields.specs.NameKinds.{kind_text}
 use Rattle.bike_fields.specs.declared.name_kind.NameKind.{NameKind}
 use Rattle.bike_fields.specs.Values.{SegmentRow}
@@ -42,7 +42,8 @@ module _ {A : Type 0} (row : A → Row) where
   filtered : (pass : Row → Bool) (test : A → Bool) → ((x : A) → pass (row x) ≡ test x) → (xs : List A) → filter pass (map row xs) ≡ map row (filter test xs)
   filtered pass test same [] = refl
   filtered pass test same (x ∷ xs) = rw (same x) (go (test x) (filtered pass test same xs)) where
-    go : (b : Bool) → filter pass (map row xs) ≡ map row (filter test xs) → cond b (row x ∷ filter pass (map row xs)) (filter pass (map row xs)) ≡ map row (cond b (x ∷ filter test xs) (filter test xs))
+    go : (b : Bool) → filter pass (map row xs) ≡ map row (filter test xs)
+        → cond b (row x ∷ filter pass (map row xs)) (filter pass (map row xs)) ≡ map row (cond b (x ∷ filter test xs) (filter test xs))
     go true rest = ap (λ (rs : List Row). row x ∷ rs) rest
     go false rest = rest
 
@@ -57,7 +58,8 @@ module _ {A : Type 0} (row : A → Row) where
 filtered_twice : {A : Type 0} (a b : A → Bool) (xs : List A) → filter b (filter a xs) ≡ filter (λ x. a x && b x) xs
 filtered_twice a b [] = refl
 filtered_twice a b (x ∷ xs) = go (a x) (filtered_twice a b xs) where
-  inner : (t : Bool) → filter b (filter a xs) ≡ filter (λ y. a y && b y) xs → cond t (x ∷ filter b (filter a xs)) (filter b (filter a xs)) ≡ cond t (x ∷ filter (λ y. a y && b y) xs) (filter (λ y. a y && b y) xs)
+  inner : (t : Bool) → filter b (filter a xs) ≡ filter (λ y. a y && b y) xs
+      → cond t (x ∷ filter b (filter a xs)) (filter b (filter a xs)) ≡ cond t (x ∷ filter (λ y. a y && b y) xs) (filter (λ y. a y && b y) xs)
   inner true rest = ap (λ zs. x ∷ zs) rest
   inner false rest = rest
 
@@ -100,12 +102,15 @@ for_order_at order bike b place.Depot = rw (value_cmp-Null (number_value order))
 
 -- ---- names in further languages
 
-of_kind : (kind : NameKind) (id : List ℕ) (key : NameKey) (name : List ℕ) → is_eq (row_cmp (map (column (name_row key name)) (0 ∷ 1 ∷ [])) (Text (kind_text kind) ∷ Text id ∷ [])) ≡ is_name_of kind id key
+of_kind : (kind : NameKind) (id : List ℕ) (key : NameKey) (name : List ℕ)
+    → is_eq (row_cmp (map (column (name_row key name)) (0 ∷ 1 ∷ [])) (Text (kind_text kind) ∷ Text id ∷ [])) ≡ is_name_of kind id key
 of_kind kind id key name =
     rw (value_cmp-Text (part_at key 0) (kind_text kind), value_cmp-Text (part_at key 1) id)
-    (both_eq (text_cmp (part_at key 0) (kind_text kind)) (text_cmp (part_at key 1) id) ∙ ap₂ (λ (x y : Bool). x && y) (is_eq-slice_cmp (part_at key 0) (kind_text kind)) (is_eq-slice_cmp (part_at key 1) id))
+    (both_eq (text_cmp (part_at key 0) (kind_text kind)) (text_cmp (part_at key 1) id)
+    ∙ ap₂ (λ (x y : Bool). x && y) (is_eq-slice_cmp (part_at key 0) (kind_text kind)) (is_eq-slice_cmp (part_at key 1) id))
 
-names_found : (s : Operator) (kind : NameKind) (id : List ℕ) → length (rows_where (0 ∷ 1 ∷ []) (Text (kind_text kind) ∷ Text id ∷ []) (map stored_name (fin.entries s.more_names))) ≡ length (further_names s kind id)
+names_found : (s : Operator) (kind : NameKind) (id : List ℕ) → length (rows_where (0 ∷ 1 ∷ []) (Text (kind_text kind) ∷ Text id ∷ []) (map stored_name (fin.entries s.more_names)))
+    ≡ length (further_names s kind id)
 names_found s kind id =
     ap length (filtered stored_name _ (λ e. is_name_of kind id e.0) (λ e. of_kind kind id e.0 e.1) (fin.entries s.more_names))
     ∙ same_length stored_name (filter (λ e. is_name_of kind id e.0) (fin.entries s.more_names))
@@ -116,7 +121,8 @@ names_found s kind id =
 filter-append : {A : Type 0} (test : A → Bool) (xs ys : List A) → filter test (xs ++ ys) ≡ filter test xs ++ filter test ys
 filter-append test [] ys = refl
 filter-append test (x ∷ xs) ys = go (test x) (filter-append test xs ys) where
-  go : (b : Bool) → filter test (xs ++ ys) ≡ filter test xs ++ filter test ys → cond b (x ∷ filter test (xs ++ ys)) (filter test (xs ++ ys)) ≡ cond b (x ∷ filter test xs) (filter test xs) ++ filter test ys
+  go : (b : Bool) → filter test (xs ++ ys) ≡ filter test xs ++ filter test ys
+      → cond b (x ∷ filter test (xs ++ ys)) (filter test (xs ++ ys)) ≡ cond b (x ∷ filter test xs) (filter test xs) ++ filter test ys
   go true rest = ap (λ zs. x ∷ zs) rest
   go false rest = rest
 
@@ -175,7 +181,8 @@ module _ (es : List Entry) (rider : ℕ) (rs : List Rental) where
       ∙ filtered (stored_rental es) _ (λ e. is_open e.1) (λ e. finish_null es e.0 e.1 e.1.closing) (filter is_of_rider (with_numbers rs))
       ∙ ap (map (stored_rental es)) (filtered_twice is_of_rider (λ e. is_open e.1) (with_numbers rs))
 
-  open_found : slice_get (rows_open (rows_where (1 ∷ []) (number_value rider ∷ []) (map (stored_rental es) (with_numbers rs)))) 0 ≡ option_map (stored_rental es) (find is_open_of_rider (with_numbers rs))
+  open_found : slice_get (rows_open (rows_where (1 ∷ []) (number_value rider ∷ []) (map (stored_rental es) (with_numbers rs)))) 0
+      ≡ option_map (stored_rental es) (find is_open_of_rider (with_numbers rs))
   open_found = ap (λ (xs : List Row). slice_get xs 0) rows_are ∙ first_found (stored_rental es) is_open_of_rider (with_numbers rs)
 
 any_found : (rider : ℕ) (n : ℕ) (rs : List Rental) → is_some (find (is_open_of_rider [] rider rs) (numbers_from n rs)) ≡ list_any (λ r. (r.rider == rider) && is_open r) rs
@@ -200,5 +207,7 @@ found_by_columns s m sound listing = record {
       ∙ same_length stored_bike (filter (λ e. is_for_order order e.1.place) (fin.entries s.bikes));
   named = λ kind id. names_found s kind id;
   open_rental_is = λ rider. open_found s.entries rider s.rentals;
-  riding = λ rider. ap is_some (open_found s.entries rider s.rentals) ∙ mapped_some (stored_rental s.entries) (find (is_open_of_rider s.entries rider s.rentals) (with_numbers s.rentals)) ∙ any_found rider 1 s.rentals;
+  riding =
+      λ rider. ap is_some (open_found s.entries rider s.rentals) ∙ mapped_some (stored_rental s.entries) (find (is_open_of_rider s.entries rider s.rentals) (with_numbers s.rentals))
+      ∙ any_found rider 1 s.rentals;
 }

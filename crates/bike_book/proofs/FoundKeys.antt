@@ -3,7 +3,7 @@ use Rattle.std.proofs.Common.{◌≡◌, ℕ, List, [], ◌∷◌, Bool, true, f
 use Rattle.std.specs.Prelude.{option_map}
 use Rattle.std.specs.FinMap as fin
 use Rattle.sqlite_value.specs.declared.value.Value.TheVariants.{Text}
-use Rattle.bike_rows.specs.View.{row_with}
+use Rattle.bike_sql.specs.View.{row_with}
 use Rattle.bike_operator.specs.Rows.{SystemRow}
 use Rattle.bike_ledger.specs.Ledger.{cash_of, revenue_of}
 use Rattle.bike_operator.specs.Operator.{Operator, Key, DockKey, key_of, name_key, dock_key}
@@ -12,7 +12,8 @@ use Rattle.bike_book.specs.declared.version.TheConstants.{NEWEST}
 use Rattle.bike_accepted.specs.Numbers.{disabled_of}
 use Rattle.bike_book.specs.Tables.{Docks, Counts}
 use Rattle.bike_book.specs.Rows.{number_value, system_row, dock_row, count_row}
-use Rattle.bike_book.specs.Stored.{Listed, IsListing, system_rows, stored_plan, stored_type, stored_region, stored_station, stored_dock, stored_bike, stored_truck, stored_rider, stored_rental, stored_order, stored_entry, stored_kept, stored_count, stored_name}
+use Rattle.bike_book.specs.Stored.{Listed, IsListing, system_rows, stored_plan, stored_type, stored_region, stored_station, stored_dock, stored_bike, stored_truck, stored_rider, stored_rental}
+use Rattle.bike_book.specs.Stored.{stored_order, stored_entry, stored_kept, stored_count, stored_name}
 use Rattle.bike_book.specs.Found.{row_under, WhereListed, FoundByKey, FoundListed}
 use Rattle.bike_book.proofs.MapRows.{found_entries}
 use Rattle.bike_book.proofs.Keys.{number_key, numbers, texts, pairs, triples, name_triple, docks, IsPair, IsDockPair}
@@ -61,7 +62,8 @@ module _ (s : Operator) (m : Listed) (listing : IsListing s m) where
       absurd cc
   unlisted_works station dock none false marked = refl
 
-  dock_found : (station : List ℕ) (dock : ℕ) → row_under s m Docks (Text station ∷ number_value dock ∷ []) ≡ option_map (λ listed. dock_row station dock (is_broken s station dock)) (fin.get m.docks (dock_key station dock))
+  dock_found : (station : List ℕ) (dock : ℕ) → row_under s m Docks (Text station ∷ number_value dock ∷ [])
+      ≡ option_map (λ listed. dock_row station dock (is_broken s station dock)) (fin.get m.docks (dock_key station dock))
   dock_found station dock = found_entries docks (stored_dock s.broken) (λ e. refl) (dock_key station dock) (record { station = station; dock = dock; is = refl }) m.docks dock_pair
 
   count_found : (station type_id : List ℕ) → row_under s m Counts (Text station ∷ Text type_id ∷ [])

@@ -7,13 +7,14 @@ use Rattle.std.specs.FinMap as fin
 use Rattle.std.specs.FinMap.{FinMap}
 use Rattle.sqlite_value.specs.Order.{Row, column}
 use Rattle.sqlite_sql.specs.Ops.{is_null}
-use Rattle.bike_rows.specs.View.{last_of}
+use Rattle.bike_sql.specs.View.{last_of}
 use Rattle.bike_ledger.specs.Entries.{Entry}
 use Rattle.bike_operator.specs.declared.records.Rental.{Rental}
 use Rattle.bike_operator.specs.declared.records.Closing.{Closing}
 use Rattle.bike_operator.specs.Counts.{count, is_open}
 use Rattle.bike_book.specs.Rows.{number_value}
-use Rattle.bike_book.specs.Stored.{numbers_from, with_numbers, stored_plan, stored_type, stored_region, stored_station, stored_bike, stored_truck, stored_rider, stored_rental, stored_order, stored_entry, stored_kept}
+use Rattle.bike_book.specs.Stored.{numbers_from, with_numbers, stored_plan, stored_type, stored_region, stored_station, stored_bike, stored_truck, stored_rider, stored_rental, stored_order}
+use Rattle.bike_book.specs.Stored.{stored_entry, stored_kept}
 use Rattle.bike_book.specs.Found.{WhereListed, FoundNumbers, IsLast, rows_open}
 
 -- ---- the last number

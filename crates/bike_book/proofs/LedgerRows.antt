@@ -8,7 +8,7 @@ use Rattle.std.specs.FinMap.{FinMap}
 use Rattle.std.proofs.lemmas.Int.{ints}
 use Rattle.sqlite_value.specs.declared.value.Value.TheVariants.{Int}
 use Rattle.sqlite_value.specs.Order.{Row}
-use Rattle.bike_rows.specs.View.{row_with, put_row_by, rows_after_update, with_values}
+use Rattle.bike_sql.specs.View.{row_with, put_row_by, rows_after_update, with_values}
 use Rattle.bike_ledger.specs.Entries.{Entry}
 use Rattle.bike_ledger.specs.Ledger.{credit, cash_in, revenue_in, given_back, given_back_of, balance_of, cash_of, revenue_of, refunded_of}
 use Rattle.bike_ledger.proofs.SumLemmas.{total-append, balance_of-own, balance_of-other}
@@ -78,7 +78,8 @@ refunded_row rental r old refunded (Some c) = refl
 pub refunded_set : (rentals : List Rental) (es : List Entry) (e : Entry) (refunded : ℤ) → refunded ≡ refunded_of e.rental es +ℤ given_back e.kind e.amount
     → rows_after_update 1 (number_key e.rental) (with_values ((9, Int refunded) ∷ [])) (map (stored_rental es) (with_numbers rentals)) ≡ map (stored_rental (es ++ e ∷ [])) (with_numbers rentals)
 refunded_set rentals es e refunded is =
-    kept_number (stored_rental es) (stored_rental (es ++ e ∷ [])) (λ x. refl) (λ x. refl) rentals e.rental _ (λ r found. refunded_row e.rental r (refunded_of e.rental es) refunded r.closing ∙ ap (rental_row e.rental r) (is ∙ sym (refund_counted es e)))
+    kept_number (stored_rental es) (stored_rental (es ++ e ∷ [])) (λ x. refl) (λ x. refl) rentals e.rental _
+    (λ r found. refunded_row e.rental r (refunded_of e.rental es) refunded r.closing ∙ ap (rental_row e.rental r) (is ∙ sym (refund_counted es e)))
     (λ x apart. ap (rental_row x.0 x.1) (refunds_stay es e x.0 (ap (λ (b : Bool). cond b (given_back e.kind e.amount) (pos 0)) (other_number e.rental x.0 apart))))
 
 -- ---- meta
@@ -93,7 +94,8 @@ module _ (version old : ℕ) (c r : ℤ) where
   meta_put : (now : ℕ) (cash revenue : ℤ) → put_row_by 1 (meta_row version now cash revenue) (meta ∷ []) ≡ meta_row version now cash revenue ∷ []
   meta_put now cash revenue = rw one_key refl
 
-  pub meta_set : (now : ℕ) (cash revenue : ℤ) → rows_after_update 1 (number_key 1) (with_values ((3, number_value now) ∷ (4, Int cash) ∷ (5, Int revenue) ∷ [])) (meta ∷ []) ≡ meta_row version now cash revenue ∷ []
+  pub meta_set : (now : ℕ) (cash revenue : ℤ) → rows_after_update 1 (number_key 1) (with_values ((3, number_value now) ∷ (4, Int cash) ∷ (5, Int revenue) ∷ [])) (meta ∷ [])
+      ≡ meta_row version now cash revenue ∷ []
   meta_set now cash revenue =
       ap (λ (o : Option Row). unwrap_or (option_map (λ x. put_row_by 1 (with_values ((3, number_value now) ∷ (4, Int cash) ∷ (5, Int revenue) ∷ []) x) (meta ∷ [])) o) (meta ∷ [])) meta_found
       ∙ meta_put now cash revenue

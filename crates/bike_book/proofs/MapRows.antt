@@ -10,7 +10,7 @@ use Rattle.std.specs.FinMap.{FinMap, IsAntisymmetric}
 use Rattle.std.specs.FinMap.Entries as entries
 use Rattle.sqlite_value.specs.Order.{Row, row_cmp}
 use Rattle.sqlite_rules.specs.Lists.{Has}
-use Rattle.bike_rows.specs.View.{by_key, row_with, put_row_by, rows_after_update, rows_after_removal}
+use Rattle.bike_sql.specs.View.{by_key, row_with, put_row_by, rows_after_update, rows_after_removal}
 use Rattle.bike_operator.specs.Steps.{found_changed, key_changed}
 
 pub both : (a b : Bool) → T (a && b) → T a × T b
@@ -62,7 +62,8 @@ module _ {K X : Type 0} (R : K → K → Ordering) (k : K) where
   none_apart : (es : List (K × X)) (e : K × X) → entries.find R k es ≡ None → Has es e → eq_by_cmp R k e.0 ≡ false
   none_apart [] e none has = elim has [ ]
   none_apart (x ∷ es) e none has = go (eq_by_cmp R k x.0) refl none has (none_apart es e) where
-    go : (b : Bool) → eq_by_cmp R k x.0 ≡ b → cond b (Some x.1) (entries.find R k es) ≡ None → Has (x ∷ es) e → (entries.find R k es ≡ None → Has es e → eq_by_cmp R k e.0 ≡ false) → eq_by_cmp R k e.0 ≡ false
+    go : (b : Bool) → eq_by_cmp R k x.0 ≡ b → cond b (Some x.1) (entries.find R k es) ≡ None → Has (x ∷ es) e → (entries.find R k es ≡ None → Has es e → eq_by_cmp R k e.0 ≡ false)
+        → eq_by_cmp R k e.0 ≡ false
     go true tie found has rest = absurd cc
     go false apart found (inl is) rest = ap (λ (z : K × X). eq_by_cmp R k z.0) is ∙ apart
     go false apart found (inr later) rest = rest found later
@@ -144,7 +145,8 @@ module _ {K X : Type 0} {R : K → K → Ordering} {keys : ℕ} {key_row : K →
 
   -- in the row of a key that is there
   pub set_sorted : (row next : K × X → Row) → BeginsWithKey row → BeginsWithKey next → (k : K) → IsGood k → (change : Row → Row) (es : List (K × X)) → T (entries.is_sorted R es)
-      → (v w : X) → entries.find R k es ≡ Some v → change (row (k, v)) ≡ next (k, w) → SameApart k row next es → rows_after_update keys (key_row k) change (map row es) ≡ map next (entries.put R k w es)
+      → (v w : X) → entries.find R k es ≡ Some v → change (row (k, v)) ≡ next (k, w) → SameApart k row next es
+      → rows_after_update keys (key_row k) change (map row es) ≡ map next (entries.put R k w es)
   set_sorted row next begins begins_next k good change es sorted v w found is each =
       let there : row_with keys (key_row k) (map row es) ≡ Some (row (k, v)) =
       found_sorted row begins k good es (λ e has. (each e has).0) ∙ ap (option_map (λ x. row (k, x))) found in
@@ -229,7 +231,8 @@ module _ {K X : Type 0} {R : K → K → Ordering} {keys : ℕ} {key_row : K →
 
   -- columns are set in the row of a record that is there
   pub set_entries : (row next : K × X → Row) → BeginsWithKey row → BeginsWithKey next → (m : FinMap R X) (k : K) → IsGood k → (change : Row → Row) (v w : X)
-      → fin.get m k ≡ Some v → change (row (k, v)) ≡ next (k, w) → SameOthers k row next m → rows_after_update keys (key_row k) change (map row (fin.entries m)) ≡ map next (fin.entries (fin.insert m k w))
+      → fin.get m k ≡ Some v → change (row (k, v)) ≡ next (k, w) → SameOthers k row next m
+      → rows_after_update keys (key_row k) change (map row (fin.entries m)) ≡ map next (fin.entries (fin.insert m k w))
   set_entries row next begins begins_next m k good change v w found is each =
       set_sorted row next begins begins_next k good change (fin.entries m) (fin.entries_sorted m) v w (sym (fin.get-entries m k) ∙ found) is (others_apart k row next m each)
       ∙ ap (map next) (sym (fin.entries-insert h.total m k w))

@@ -9,8 +9,8 @@ use Rattle.std.specs.FinMap.{FinMap}
 use Rattle.std.specs.FinMap.Entries as entries
 use Rattle.sqlite_value.specs.declared.value.Value.TheVariants.{Int, Text}
 use Rattle.sqlite_rules.specs.Lists.{Has}
-use Rattle.bike_rows.specs.View.{row_with, rows_after_update, with_values}
-use Rattle.bike_rows.proofs.SetLaw.{updated_there}
+use Rattle.bike_sql.specs.View.{row_with, rows_after_update, with_values}
+use Rattle.bike_sql.proofs.SetLaw.{updated_there}
 use Rattle.bike_fields.specs.declared.name_kind.NameKind.TheVariants as named
 use Rattle.bike_fields.specs.Values.{SegmentRow}
 use Rattle.bike_operator.specs.Rows.{PlanRow, TypeRow, RegionRow, SystemRow}

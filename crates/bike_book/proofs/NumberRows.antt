@@ -7,7 +7,7 @@ use Rattle.std.specs.declared.cmp.Ordering.TheVariants.{Less, Equal, Greater}
 use Rattle.std.specs.Cmp.{nat_cmp_is}
 use Rattle.std.specs.FinMap.Entries as entries
 use Rattle.sqlite_value.specs.Order.{Row}
-use Rattle.bike_rows.specs.View.{row_with, put_row_by, rows_after_update}
+use Rattle.bike_sql.specs.View.{row_with, put_row_by, rows_after_update}
 use Rattle.bike_operator.specs.Operator.{item_at, item_numbered, item_changed, number_changed}
 use Rattle.bike_book.specs.Stored.{numbers_from, with_numbers}
 use Rattle.bike_book.proofs.MapRows.{BeginsWithKey, found_sorted, put_sorted, set_sorted, unset_sorted}
@@ -73,7 +73,8 @@ module _ {A : Type 0} where
   put_last : (n k : ℕ) (xs : List A) (y : A) → k ≡ n + length xs → entries.put nat_cmp k y (numbers_from n xs) ≡ numbers_from n (xs ++ y ∷ [])
   put_last n k [] y is = let e : k ≡ n = omega (arith, is) in ap (λ (z : ℕ). (z, y) ∷ []) e
   put_last n k (x ∷ xs) y is =
-      ap (λ (r : Ordering). entries.by_order r ((k, y) ∷ (n, x) ∷ numbers_from (suc n) xs) ((n, y) ∷ numbers_from (suc n) xs) ((n, x) ∷ entries.put nat_cmp k y (numbers_from (suc n) xs))) (is_greater k n (omega (arith, is)))
+      ap (λ (r : Ordering). entries.by_order r ((k, y) ∷ (n, x) ∷ numbers_from (suc n) xs) ((n, y) ∷ numbers_from (suc n) xs) ((n, x) ∷ entries.put nat_cmp k y (numbers_from (suc n) xs)))
+      (is_greater k n (omega (arith, is)))
       ∙ ap (λ (es : List (ℕ × A)). (n, x) ∷ es) (put_last (suc n) k xs y (omega (arith, is)))
 
   -- a row is added behind the last, and the other rows stay
@@ -88,10 +89,12 @@ module _ {A : Type 0} where
   put_item n i k f [] x is found = absurd cc
   put_item n zero k f (y ∷ xs) x is found =
       let same : y ≡ x = cc in
-      ap (λ (r : Ordering). entries.by_order r ((k, f x) ∷ (n, y) ∷ numbers_from (suc n) xs) ((n, f x) ∷ numbers_from (suc n) xs) ((n, y) ∷ entries.put nat_cmp k (f x) (numbers_from (suc n) xs))) (is_equal k n (omega (arith, is)))
+      ap (λ (r : Ordering). entries.by_order r ((k, f x) ∷ (n, y) ∷ numbers_from (suc n) xs) ((n, f x) ∷ numbers_from (suc n) xs) ((n, y) ∷ entries.put nat_cmp k (f x) (numbers_from (suc n) xs)))
+      (is_equal k n (omega (arith, is)))
       ∙ ap (λ (z : A). (n, f z) ∷ numbers_from (suc n) xs) (sym same)
   put_item n (suc i) k f (y ∷ xs) x is found =
-      ap (λ (r : Ordering). entries.by_order r ((k, f x) ∷ (n, y) ∷ numbers_from (suc n) xs) ((n, f x) ∷ numbers_from (suc n) xs) ((n, y) ∷ entries.put nat_cmp k (f x) (numbers_from (suc n) xs))) (is_greater k n (omega (arith, is)))
+      ap (λ (r : Ordering). entries.by_order r ((k, f x) ∷ (n, y) ∷ numbers_from (suc n) xs) ((n, f x) ∷ numbers_from (suc n) xs) ((n, y) ∷ entries.put nat_cmp k (f x) (numbers_from (suc n) xs)))
+      (is_greater k n (omega (arith, is)))
       ∙ ap (λ (es : List (ℕ × A)). (n, y) ∷ es) (put_item (suc n) i k f xs x (omega (arith, is)) found)
 
   put_numbered : (k : ℕ) (f : A → A) (xs : List A) (x : A) → item_numbered k xs ≡ Some x → entries.put nat_cmp k (f x) (with_numbers xs) ≡ with_numbers (number_changed k f xs)
@@ -116,7 +119,8 @@ module _ {A : Type 0} where
     go None none =
         unset_sorted numbers row next begins k tt change (with_numbers xs) (find_numbered k xs ∙ none) (λ e has. (tt, same e)) ∙ ap (λ zs. map next (with_numbers zs)) (sym (no_number k f xs none))
     go (Some x) found =
-        set_sorted numbers row next begins begins_next k tt change (with_numbers xs) (sorted 1 xs) x (f x) (find_numbered k xs ∙ found) (is x found) (λ e has. (tt, same e)) ∙ ap (map next) (put_numbered k f xs x found)
+        set_sorted numbers row next begins begins_next k tt change (with_numbers xs) (sorted 1 xs) x (f x) (find_numbered k xs ∙ found) (is x found) (λ e has. (tt, same e))
+        ∙ ap (map next) (put_numbered k f xs x found)
 
   -- The list stays, and what is stored beside the record of one number changes.
   pub kept_number : (row next : ℕ × A → Row) → BeginsWithKey numbers row → BeginsWithKey numbers next → (xs : List A) (k : ℕ) (change : Row → Row)

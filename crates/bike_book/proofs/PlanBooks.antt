@@ -9,7 +9,7 @@ use Rattle.std.specs.FinMap.Entries as entries
 use Rattle.sqlite_value.specs.Order.{Row}
 use Rattle.sqlite_value.proofs.OrderLemmas.{value_cmp-Text, then-Equal}
 use Rattle.sqlite_rules.specs.Lists.{Has}
-use Rattle.bike_rows.specs.View.{by_key, put_row_by}
+use Rattle.bike_sql.specs.View.{by_key, put_row_by}
 use Rattle.bike_fields.specs.Values.{SegmentRow}
 use Rattle.bike_operator.specs.Rows.{PlanRow}
 use Rattle.bike_operator.specs.Operator.{text_cmp}
@@ -128,7 +128,8 @@ module _ (id : List ℕ) (p : PlanRow) where
       go parts.0 (λ rest_none more h. segments_added es parts.1 rest_none more h) (text_cmp id e.0) refl none
     where
       go : T (entries.below_all text_cmp e.0 es)
-          → (entries.find text_cmp id es ≡ None → (more : List Row) → ((a : Row) → Has more a → IsBefore a) → segments_put id 1 p.segments (more ++ plans_segments es) ≡ more ++ plans_segments (entries.put text_cmp id p es))
+          → (entries.find text_cmp id es ≡ None → (more : List Row) → ((a : Row) → Has more a → IsBefore a)
+          → segments_put id 1 p.segments (more ++ plans_segments es) ≡ more ++ plans_segments (entries.put text_cmp id p es))
           → (o : Ordering) → text_cmp id e.0 ≡ o → cond (is_eq o) (Some e.1) (entries.find text_cmp id es) ≡ None
           → segments_put id 1 p.segments (ls ++ plans_segments (e ∷ es)) ≡ ls ++ plans_segments (entries.by_order o ((id, p) ∷ e ∷ es) ((e.0, p) ∷ es) (e ∷ entries.put text_cmp id p es))
       go below later Less is free = segments_between id 1 p.segments ls (plans_segments (e ∷ es)) (λ a has q g low. before a has q g) (behind (e ∷ es) above) where

@@ -1,7 +1,7 @@
 -- The row changes that book a rental or an order added, a rental closed, and an order set.
 use Rattle.std.proofs.Common.{◌≡◌, ℕ, ℤ, List, true, Option, Some, None, refl, sym, ap, ◌∙◌}
 use Rattle.std.specs.Prelude.{map}
-use Rattle.bike_rows.specs.View.{put_row_by, with_values}
+use Rattle.bike_sql.specs.View.{put_row_by, with_values}
 use Rattle.bike_ledger.specs.Ledger.{refunded_of}
 use Rattle.bike_operator.specs.declared.records.Rental.{Rental}
 use Rattle.bike_operator.specs.declared.records.Closing.{Closing}

@@ -11,14 +11,16 @@ use Rattle.bike_book.specs.Rows.{station_row}
 use Rattle.bike_book.specs.Stored.{Listed, IsListing, tables_for}
 use Rattle.bike_book.specs.Writes.{RowWrite, writes_of, tables_after_all}
 
--- A station's docks less those that work and hold a bicycle and those that are broken. In a sound operator these are its docks available.
+-- A station's docks less those that work and hold a bicycle and those
+-- that are broken. In a sound operator these are its docks available.
 abbrev pub docks_left : Operator → List ℕ → ℕ → ℤ
 docks_left s station docks = pos docks -ℤ pos (occupied_docks s station + docks_broken s station docks)
 
 abbrev pub counted_station : Operator → List ℕ × Station → Row
 counted_station s e = station_row e.0 e.1 (docks_left s e.0 e.1.row.docks) (docks_broken s e.0 e.1.row.docks)
 
--- An operator need not be sound between two changes of a request: then its tables have the docks left in place of the docks available.
+-- An operator need not be sound between two changes of a request: then
+-- its tables have the docks left in place of the docks available.
 abbrev pub tables_between : Operator → Listed → Tables
 tables_between s m = record (tables_for s m) { stations = map (counted_station s) (fin.entries s.stations) }
 

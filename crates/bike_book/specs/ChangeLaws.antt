@@ -67,7 +67,8 @@ module _ (s : Operator) (m : Listed) where
   -- a station that isn't there, with no bicycle in a dock of it and no broken dock
   abbrev pub AddStationLaw : Type 0
   AddStationLaw =
-      (x : Bor StationRow) (reported : ℕ) → fin.get s.stations x.now.station_id ≡ None → occupied_docks s x.now.station_id ≡ 0 → docks_broken s x.now.station_id x.now.docks ≡ 0
+      (x : Bor StationRow) (reported : ℕ) → fin.get s.stations x.now.station_id ≡ None
+      → occupied_docks s x.now.station_id ≡ 0 → docks_broken s x.now.station_id x.now.docks ≡ 0
       → BooksChange (change.AddStation x reported)
 
   -- the flags of a station, where it is there, and its report
@@ -82,11 +83,14 @@ module _ (s : Operator) (m : Listed) where
 
   -- the region of a station, where it is there, or none
   abbrev pub SetRegionLaw : Type 0
-  SetRegionLaw = (station : Bor (List ℕ)) (region : Option (Bor (List ℕ))) → BooksChange (change.SetRegion station region)
+  SetRegionLaw =
+      (station : Bor (List ℕ)) (region : Option (Bor (List ℕ))) → BooksChange (change.SetRegion station region)
 
   -- a name in a further language, whether it was there or not, where those that are there stand under three texts
   abbrev pub AddNameLaw : Type 0
-  AddNameLaw = (kind : NameKind) (id language name : Bor (List ℕ)) → AreNamesSound s → BooksChange (change.AddName kind id language name)
+  AddNameLaw =
+      (kind : NameKind) (id language name : Bor (List ℕ)) → AreNamesSound s
+      → BooksChange (change.AddName kind id language name)
 
   -- a name in the system's language, where what has it is there
   abbrev pub SetOwnNameLaw : Type 0
@@ -95,18 +99,22 @@ module _ (s : Operator) (m : Listed) where
   -- a name in a further language that is there, where all stand under three texts
   abbrev pub SetFurtherNameLaw : Type 0
   SetFurtherNameLaw =
-      (kind : NameKind) (id language name : Bor (List ℕ)) → AreNamesSound s → fin.contains_key s.more_names (name_key kind id.now language.now) ≡ true
+      (kind : NameKind) (id language name : Bor (List ℕ)) → AreNamesSound s
+      → fin.contains_key s.more_names (name_key kind id.now language.now) ≡ true
       → BooksChange (change.SetFurtherName kind id language name)
 
   -- a name in a further language removed, whether it was there or not
   abbrev pub RemoveNameLaw : Type 0
-  RemoveNameLaw = (kind : NameKind) (id language : Bor (List ℕ)) → AreNamesSound s → BooksChange (change.RemoveName kind id language)
+  RemoveNameLaw =
+      (kind : NameKind) (id language : Bor (List ℕ)) → AreNamesSound s
+      → BooksChange (change.RemoveName kind id language)
 
   -- ---- bicycles, trucks and riders
 
   -- a bicycle that isn't there
   abbrev pub AddBikeLaw : Type 0
-  AddBikeLaw = (bike : ℕ) (type_id : Bor (List ℕ)) → fin.get s.bikes bike ≡ None → BooksChange (change.AddBike bike type_id)
+  AddBikeLaw =
+      (bike : ℕ) (type_id : Bor (List ℕ)) → fin.get s.bikes bike ≡ None → BooksChange (change.AddBike bike type_id)
 
   -- a truck, whether it was there or not
   abbrev pub AddTruckLaw : Type 0
@@ -118,25 +126,30 @@ module _ (s : Operator) (m : Listed) where
 
   -- a rider who is there
   abbrev pub SetRiderLaw : Type 0
-  SetRiderLaw = (rider : ℕ) (blocked : Bool) → fin.contains_key s.riders rider ≡ true → BooksChange (change.SetRider rider blocked)
+  SetRiderLaw =
+      (rider : ℕ) (blocked : Bool) → fin.contains_key s.riders rider ≡ true
+      → BooksChange (change.SetRider rider blocked)
 
   -- ---- rentals and orders
 
   -- the next rental, of which no refund is booked
   abbrev pub AddRentalLaw : Type 0
   AddRentalLaw =
-      (rental rider bike : ℕ) (plan from_station : Bor (List ℕ)) (start : ℕ) → rental ≡ length s.rentals + 1 → refunded_of rental s.entries ≡ pos 0
+      (rental rider bike : ℕ) (plan from_station : Bor (List ℕ)) (start : ℕ) → rental ≡ length s.rentals + 1
+      → refunded_of rental s.entries ≡ pos 0
       → BooksChange (change.AddRental rental rider bike plan from_station start)
 
   -- a rental closed, where it is there
   abbrev pub CloseRentalLaw : Type 0
   CloseRentalLaw =
-      (rental : ℕ) (to_station : Option (Bor (List ℕ))) (finish : ℕ) (fare : ℤ) → BooksChange (change.CloseRental rental to_station finish fare)
+      (rental : ℕ) (to_station : Option (Bor (List ℕ))) (finish : ℕ) (fare : ℤ)
+      → BooksChange (change.CloseRental rental to_station finish fare)
 
   -- the next order
   abbrev pub AddOrderLaw : Type 0
   AddOrderLaw =
-      (order truck : ℕ) (from_end to_end : Bor OrderEnd) (type_id : Bor (List ℕ)) (count : ℕ) → order ≡ length s.orders + 1
+      (order truck : ℕ) (from_end to_end : Bor OrderEnd) (type_id : Bor (List ℕ)) (count : ℕ)
+      → order ≡ length s.orders + 1
       → BooksChange (change.AddOrder order truck from_end to_end type_id count)
 
   -- how many of an order are delivered, and whether it is open, where it is there

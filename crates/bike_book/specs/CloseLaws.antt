@@ -4,7 +4,8 @@ use Rattle.std.specs.Borrow.{Bor}
 use Rattle.std.specs.FinMap as fin
 use Rattle.bike_operator.specs.Caller.{caller_text}
 use Rattle.bike_ledger.specs.Entries.{Entry}
-use Rattle.bike_ledger.specs.Ledger.{credit, cash_in, revenue_in, given_back, balance_of, cash_of, revenue_of, refunded_of}
+use Rattle.bike_ledger.specs.Ledger.{credit, cash_in, revenue_in, given_back, balance_of, cash_of, revenue_of}
+use Rattle.bike_ledger.specs.Ledger.{refunded_of}
 use Rattle.bike_operator.specs.Reply.{Reply}
 use Rattle.bike_operator.specs.Request.{Request}
 use Rattle.bike_operator.specs.Commands.{text_of}
@@ -19,7 +20,8 @@ use Rattle.bike_book.specs.Between.{Books}
 
 -- an operator at the moment of a request, with what is kept of it
 abbrev pub after_close : ℕ → Request → Reply → Operator → Operator
-after_close now q reply s = record s { now = now; kept = fin.insert s.kept (key_in q) (record { command = q.command; reply = reply }) }
+after_close now q reply s =
+    record s { now = now; kept = fin.insert s.kept (key_in q) (record { command = q.command; reply = reply }) }
 
 -- What is kept stands under a caller and a key.
 abbrev pub AreKept : Operator → Type 0
@@ -49,8 +51,10 @@ module _ (s : Operator) (m : Listed) (now : ℕ) (q : Request) (r : Reply) (call
   -- a top-up or a fare, which gives nothing back
   abbrev pub EntryCloseLaw : Type 0
   EntryCloseLaw =
-      (e : Bor Entry) (balance cash revenue : ℤ) → AreNumbersWith s e.now balance cash revenue → given_back e.now.kind e.now.amount ≡ pos 0
-      → Books (row.AddEntry e ∷ row.SetBalance e.now.rider balance ∷ row.SetMeta now cash revenue ∷ row.AddKept caller key command reply ∷ []) s m
+      (e : Bor Entry) (balance cash revenue : ℤ) → AreNumbersWith s e.now balance cash revenue
+      → given_back e.now.kind e.now.amount ≡ pos 0
+      → Books (row.AddEntry e ∷ row.SetBalance e.now.rider balance ∷ row.SetMeta now cash revenue
+      ∷ row.AddKept caller key command reply ∷ []) s m
       (after_close now q r (entry_added (Some e.now) s)) m
 
   -- a refund
@@ -58,11 +62,15 @@ module _ (s : Operator) (m : Listed) (now : ℕ) (q : Request) (r : Reply) (call
   RefundCloseLaw =
       (e : Bor Entry) (balance refunded cash revenue : ℤ) → AreNumbersWith s e.now balance cash revenue
       → refunded ≡ refunded_of e.now.rental s.entries +ℤ given_back e.now.kind e.now.amount
-      → Books (row.AddEntry e ∷ row.SetBalance e.now.rider balance ∷ row.SetRefunded e.now.rental refunded ∷ row.SetMeta now cash revenue ∷ row.AddKept caller key command reply ∷ []) s m
+      → Books (row.AddEntry e ∷ row.SetBalance e.now.rider balance ∷ row.SetRefunded e.now.rental refunded
+      ∷ row.SetMeta now cash revenue ∷ row.AddKept caller key command reply ∷ []) s m
       (after_close now q r (entry_added (Some e.now) s)) m
 
--- The law holds of each operator whose rows are listed right and whose kept requests have their keys, for each request and reply and their texts.
-abbrev pub AtEachClose : (Operator → Listed → ℕ → Request → Reply → Bor (List ℕ) → Bor (List ℕ) → Bor (List ℕ) → Bor (List ℕ) → Type 0) → Type 0
+-- The law holds of each operator whose rows are listed right and whose kept
+-- requests have their keys, for each request and reply and their texts.
+abbrev pub AtEachClose : (Operator → Listed → ℕ → Request → Reply → Bor (List ℕ) → Bor (List ℕ) → Bor (List ℕ)
+    → Bor (List ℕ) → Type 0) → Type 0
 AtEachClose Law =
-    (s : Operator) (m : Listed) (now : ℕ) (q : Request) (r : Reply) (caller key command reply : Bor (List ℕ)) → IsListing s m → AreKept s
+    (s : Operator) (m : Listed) (now : ℕ) (q : Request) (r : Reply) (caller key command reply : Bor (List ℕ))
+    → IsListing s m → AreKept s
     → AreTextsOf q r caller.now key.now command.now reply.now → Law s m now q r caller key command reply

@@ -1,11 +1,13 @@
--- What is found in the tables of an operator: the row of a key, rows by other columns, the last row, and how many there are.
-use Rattle.std.specs.Prelude.{◌≡◌, ◌==◌, ◌&&◌, ℕ, pos, length, List, [], ◌∷◌, false, Option, Some, None, is_some, option_map, find, map, filter, slice_get}
+-- What is found in the tables of an operator: the row of a key,
+-- rows by other columns, the last row, and how many there are.
+use Rattle.std.specs.Prelude.{◌≡◌, ◌==◌, ◌&&◌, ℕ, pos, length, List, [], ◌∷◌, false, Option, Some, None, is_some}
+use Rattle.std.specs.Prelude.{option_map, find, map, filter, slice_get}
 use Rattle.std.specs.List.{list_all}
 use Rattle.std.specs.FinMap as fin
 use Rattle.sqlite_value.specs.declared.value.Value.TheVariants.{Text}
 use Rattle.sqlite_value.specs.Order.{Row, column}
 use Rattle.sqlite_sql.specs.Ops.{is_null}
-use Rattle.bike_rows.specs.View.{row_with, rows_where, last_of}
+use Rattle.bike_sql.specs.View.{row_with, rows_where, last_of}
 use Rattle.bike_fields.specs.NameKinds.{kind_text}
 use Rattle.bike_fields.specs.declared.name_kind.NameKind.{NameKind}
 use Rattle.bike_operator.specs.Rows.{PlanRow}
@@ -14,14 +16,19 @@ use Rattle.bike_operator.specs.Replies.{reply_text}
 use Rattle.bike_ledger.specs.Ledger.{balance_of, cash_of, revenue_of, refunded_of}
 use Rattle.bike_operator.specs.declared.records.Rental.{Rental}
 use Rattle.bike_operator.specs.Operator.{Operator, item_numbered, key_of, name_key, dock_key}
-use Rattle.bike_operator.specs.Counts.{count, is_on_truck, is_for_order, docked_at, is_broken, is_open, is_riding, open_rentals, available_of, docks_available, docks_broken}
+use Rattle.bike_operator.specs.Counts.{count, is_on_truck, is_for_order, docked_at, is_broken, is_open, is_riding}
+use Rattle.bike_operator.specs.Counts.{open_rentals, available_of, docks_available, docks_broken}
 use Rattle.bike_operator.specs.Names.{further_names}
 use Rattle.bike_operator.specs.Sound.{IsSound}
 use Rattle.bike_book.specs.declared.version.TheConstants.{NEWEST}
 use Rattle.bike_accepted.specs.Numbers.{disabled_of}
-use Rattle.bike_book.specs.Tables.{TableName, rows_in, keys_of, Meta, System, Plans, Segments, Types, Regions, Stations, Docks, Bikes, Trucks, Riders, Rentals, Orders, Entries, Kept, Counts, MoreNames}
-use Rattle.bike_book.specs.Rows.{number_value, meta_row, system_row, plan_row, type_row, region_row, station_row, dock_row, bike_row, truck_row, rider_row, rental_row, order_row, entry_row, kept_row, count_row, name_row}
-use Rattle.bike_book.specs.Stored.{Listed, IsListing, with_numbers, segment_rows, stored_bike, stored_rental, tables_for}
+use Rattle.bike_book.specs.Tables.{TableName, rows_in, keys_of, Meta, System, Plans, Segments, Types, Regions, Stations}
+use Rattle.bike_book.specs.Tables.{Docks, Bikes, Trucks, Riders, Rentals, Orders, Entries, Kept, Counts, MoreNames}
+use Rattle.bike_book.specs.Rows.{number_value, meta_row, system_row, plan_row, type_row, region_row, station_row}
+use Rattle.bike_book.specs.Rows.{dock_row, bike_row, truck_row, rider_row, rental_row, order_row, entry_row, kept_row}
+use Rattle.bike_book.specs.Rows.{count_row, name_row}
+use Rattle.bike_book.specs.Stored.{Listed, IsListing, with_numbers, segment_rows, stored_bike, stored_rental}
+use Rattle.bike_book.specs.Stored.{tables_for}
 
 -- the fact holds of each sound operator whose rows are listed right
 abbrev pub WhereListed : (Operator → Listed → Type 0) → Type 0
@@ -39,34 +46,53 @@ row_under s m name key = row_with (keys_of name) key (rows_of s m name)
 
 -- The row under a key is that of the record, and there is none where there is no record.
 pub record FoundByKey (s : Operator) (m : Listed) : Type 0 where
-  pub meta : row_under s m Meta (number_value 1 ∷ []) ≡ Some (meta_row NEWEST s.now (cash_of s.entries) (revenue_of s.entries))
+  pub meta : row_under s m Meta (number_value 1 ∷ [])
+      ≡ Some (meta_row NEWEST s.now (cash_of s.entries) (revenue_of s.entries))
   pub system : row_under s m System (number_value 1 ∷ []) ≡ option_map system_row s.system
   pub plans : (id : List ℕ) → row_under s m Plans (Text id ∷ []) ≡ option_map (plan_row id) (fin.get s.plans id)
   pub types : (id : List ℕ) → row_under s m Types (Text id ∷ []) ≡ option_map (type_row id) (fin.get s.types id)
   pub regions : (id : List ℕ) → row_under s m Regions (Text id ∷ []) ≡ option_map (region_row id) (fin.get s.regions id)
   pub stations : (id : List ℕ) → row_under s m Stations (Text id ∷ [])
-      ≡ option_map (λ x. station_row id x (pos (docks_available s id x.row.docks)) (docks_broken s id x.row.docks)) (fin.get s.stations id)
-  pub bikes : (bike : ℕ) → row_under s m Bikes (number_value bike ∷ []) ≡ option_map (bike_row bike) (fin.get s.bikes bike)
-  pub trucks : (truck : ℕ) → row_under s m Trucks (number_value truck ∷ []) ≡ option_map (λ t. truck_row truck t.capacity) (fin.get s.trucks truck)
-  pub riders : (rider : ℕ) → row_under s m Riders (number_value rider ∷ []) ≡ option_map (λ r. rider_row rider r.is_blocked (balance_of rider s.entries)) (fin.get s.riders rider)
-  pub rentals : (rental : ℕ) → row_under s m Rentals (number_value rental ∷ []) ≡ option_map (λ r. rental_row rental r (refunded_of rental s.entries)) (item_numbered rental s.rentals)
-  pub orders : (order : ℕ) → row_under s m Orders (number_value order ∷ []) ≡ option_map (order_row order) (item_numbered order s.orders)
-  pub entries : (entry : ℕ) → row_under s m Entries (number_value entry ∷ []) ≡ option_map (entry_row entry) (item_numbered entry s.entries)
+      ≡ option_map (λ x. station_row id x (pos (docks_available s id x.row.docks)) (docks_broken s id x.row.docks))
+      (fin.get s.stations id)
+  pub bikes : (bike : ℕ) → row_under s m Bikes (number_value bike ∷ [])
+      ≡ option_map (bike_row bike) (fin.get s.bikes bike)
+  pub trucks : (truck : ℕ) → row_under s m Trucks (number_value truck ∷ [])
+      ≡ option_map (λ t. truck_row truck t.capacity) (fin.get s.trucks truck)
+  pub riders : (rider : ℕ) → row_under s m Riders (number_value rider ∷ [])
+      ≡ option_map (λ r. rider_row rider r.is_blocked (balance_of rider s.entries)) (fin.get s.riders rider)
+  pub rentals : (rental : ℕ) → row_under s m Rentals (number_value rental ∷ [])
+      ≡ option_map (λ r. rental_row rental r (refunded_of rental s.entries)) (item_numbered rental s.rentals)
+  pub orders : (order : ℕ) → row_under s m Orders (number_value order ∷ [])
+      ≡ option_map (order_row order) (item_numbered order s.orders)
+  pub entries : (entry : ℕ) → row_under s m Entries (number_value entry ∷ [])
+      ≡ option_map (entry_row entry) (item_numbered entry s.entries)
   pub kept : (caller key : List ℕ) → row_under s m Kept (Text caller ∷ Text key ∷ [])
-      ≡ option_map (λ k. kept_row caller key (text_of k.command) (reply_text k.reply)) (fin.get s.kept (key_of caller key))
-  pub more_names : (kind : NameKind) (id language : List ℕ) → row_under s m MoreNames (Text (kind_text kind) ∷ Text id ∷ Text language ∷ [])
+      ≡ option_map (λ k. kept_row caller key (text_of k.command) (reply_text k.reply))
+      (fin.get s.kept (key_of caller key))
+  pub more_names : (kind : NameKind) (id language : List ℕ)
+      → row_under s m MoreNames (Text (kind_text kind) ∷ Text id ∷ Text language ∷ [])
       ≡ option_map (name_row (name_key kind id language)) (fin.get s.more_names (name_key kind id language))
 
--- A dock has a row where it is listed, and works where it has none. Counts have a row where they are listed, and are 0 where they have none.
+-- A dock has a row where it is listed, and works where it has none. Counts
+-- have a row where they are listed, and are 0 where they have none.
 pub record FoundListed (s : Operator) (m : Listed) : Type 0 where
   pub docks : (station : List ℕ) (dock : ℕ) → row_under s m Docks (Text station ∷ number_value dock ∷ [])
-      ≡ option_map (λ listed. dock_row station dock (is_broken s station dock)) (fin.get m.docks (dock_key station dock))
-  pub dock_listed : (station : List ℕ) (dock : ℕ) → is_some (row_under s m Docks (Text station ∷ number_value dock ∷ [])) ≡ fin.contains_key m.docks (dock_key station dock)
-  pub works : (station : List ℕ) (dock : ℕ) → fin.get m.docks (dock_key station dock) ≡ None → is_broken s station dock ≡ false
+      ≡ option_map (λ listed. dock_row station dock (is_broken s station dock))
+      (fin.get m.docks (dock_key station dock))
+  pub dock_listed : (station : List ℕ) (dock : ℕ)
+      → is_some (row_under s m Docks (Text station ∷ number_value dock ∷ []))
+      ≡ fin.contains_key m.docks (dock_key station dock)
+  pub works : (station : List ℕ) (dock : ℕ) → fin.get m.docks (dock_key station dock) ≡ None
+      → is_broken s station dock ≡ false
   pub counts : (station type_id : List ℕ) → row_under s m Counts (Text station ∷ Text type_id ∷ [])
-      ≡ option_map (λ listed. count_row station type_id (available_of s station type_id) (disabled_of s station type_id)) (fin.get m.counts (key_of station type_id))
-  pub count_listed : (station type_id : List ℕ) → is_some (row_under s m Counts (Text station ∷ Text type_id ∷ [])) ≡ fin.contains_key m.counts (key_of station type_id)
-  pub none : (station type_id : List ℕ) → fin.get m.counts (key_of station type_id) ≡ None → (available_of s station type_id ≡ 0) × (disabled_of s station type_id ≡ 0)
+      ≡ option_map (λ listed. count_row station type_id (available_of s station type_id)
+      (disabled_of s station type_id)) (fin.get m.counts (key_of station type_id))
+  pub count_listed : (station type_id : List ℕ)
+      → is_some (row_under s m Counts (Text station ∷ Text type_id ∷ []))
+      ≡ fin.contains_key m.counts (key_of station type_id)
+  pub none : (station type_id : List ℕ) → fin.get m.counts (key_of station type_id) ≡ None
+      → (available_of s station type_id ≡ 0) × (disabled_of s station type_id ≡ 0)
 
 -- ---- by other columns
 
@@ -93,11 +119,18 @@ open_rental s rider = find (λ e. (e.1.rider == rider) && is_open e.1) (with_num
 
 -- The rows found by columns that are no key.
 pub record FoundByColumns (s : Operator) (m : Listed) : Type 0 where
-  pub segments : (plan : List ℕ) → rows_by s m Segments (0 ∷ []) (Text plan ∷ []) ≡ segments_in plan (fin.get s.plans plan)
-  pub docked : (station : List ℕ) (dock : ℕ) → slice_get (rows_by s m Bikes (3 ∷ 4 ∷ []) (Text station ∷ number_value dock ∷ [])) 0 ≡ option_map stored_bike (docked_at s station dock)
-  pub on_truck : (truck : ℕ) → length (rows_by s m Bikes (6 ∷ []) (number_value truck ∷ [])) ≡ count (λ b. is_on_truck truck b.1.place) (fin.entries s.bikes)
-  pub for_order : (order : ℕ) → length (rows_by s m Bikes (7 ∷ []) (number_value order ∷ [])) ≡ count (λ b. is_for_order order b.1.place) (fin.entries s.bikes)
-  pub named : (kind : NameKind) (id : List ℕ) → length (rows_by s m MoreNames (0 ∷ 1 ∷ []) (Text (kind_text kind) ∷ Text id ∷ [])) ≡ length (further_names s kind id)
+  pub segments : (plan : List ℕ) → rows_by s m Segments (0 ∷ []) (Text plan ∷ [])
+      ≡ segments_in plan (fin.get s.plans plan)
+  pub docked : (station : List ℕ) (dock : ℕ)
+      → slice_get (rows_by s m Bikes (3 ∷ 4 ∷ []) (Text station ∷ number_value dock ∷ [])) 0
+      ≡ option_map stored_bike (docked_at s station dock)
+  pub on_truck : (truck : ℕ) → length (rows_by s m Bikes (6 ∷ []) (number_value truck ∷ []))
+      ≡ count (λ b. is_on_truck truck b.1.place) (fin.entries s.bikes)
+  pub for_order : (order : ℕ) → length (rows_by s m Bikes (7 ∷ []) (number_value order ∷ []))
+      ≡ count (λ b. is_for_order order b.1.place) (fin.entries s.bikes)
+  pub named : (kind : NameKind) (id : List ℕ)
+      → length (rows_by s m MoreNames (0 ∷ 1 ∷ []) (Text (kind_text kind) ∷ Text id ∷ []))
+      ≡ length (further_names s kind id)
   pub open_rental_is : (rider : ℕ) → open_row s m rider ≡ option_map (stored_rental s.entries) (open_rental s rider)
   pub riding : (rider : ℕ) → is_some (open_row s m rider) ≡ is_riding s rider
 

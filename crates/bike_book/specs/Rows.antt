@@ -1,5 +1,6 @@
 -- Rows: how records of the operator stand in the tables, column by column. The columns of the key come first.
-use Rattle.std.specs.Prelude.{ℕ, ℤ, pos, List, [], ◌∷◌, ◌++◌, Bool, codes, if◌then◌else◌, Option, Some, None, slice_index_or}
+use Rattle.std.specs.Prelude.{ℕ, ℤ, pos, List, [], ◌∷◌, ◌++◌, Bool, codes, if◌then◌else◌, Option, Some, None}
+use Rattle.std.specs.Prelude.{slice_index_or}
 use Rattle.sqlite_value.specs.declared.value.Value.{Value}
 use Rattle.sqlite_value.specs.declared.value.Value.TheVariants.{Null, Int, Text}
 use Rattle.sqlite_value.specs.Order.{Row}
@@ -31,12 +32,14 @@ number_value n = Int (pos n)
 
 -- one, app, version, now (seconds), cash, revenue (hundredths)
 abbrev pub meta_row : ℕ → ℕ → ℤ → ℤ → Row
-meta_row version now cash revenue = Int (pos 1) ∷ Text (codes "bikeshare") ∷ number_value version ∷ number_value now ∷ Int cash ∷ Int revenue ∷ []
+meta_row version now cash revenue =
+    Int (pos 1) ∷ Text (codes "bikeshare") ∷ number_value version ∷ number_value now ∷ Int cash ∷ Int revenue ∷ []
 
 -- one, system_id, language, name, hours, contact, zone, currency, base_url, ttl (seconds)
 abbrev pub system_row : SystemRow → Row
 system_row x =
-    Int (pos 1) ∷ Text x.system_id ∷ Text x.language ∷ Text x.name ∷ Text x.opening_hours ∷ Text x.feed_contact_email ∷ Text x.timezone ∷ Text x.currency ∷ Text x.base_url
+    Int (pos 1) ∷ Text x.system_id ∷ Text x.language ∷ Text x.name ∷ Text x.opening_hours ∷ Text x.feed_contact_email
+    ∷ Text x.timezone ∷ Text x.currency ∷ Text x.base_url
     ∷ number_value x.ttl ∷ []
 
 -- plan_id, name, price (hundredths), taxable, description
@@ -45,20 +48,26 @@ plan_row id p = Text id ∷ Text p.name ∷ number_value p.price ∷ Int (truth 
 
 -- plan_id, seq, start (minutes), rate (hundredths), every (minutes), finish (minutes, or NULL)
 abbrev pub segment_row : List ℕ → ℕ → SegmentRow → Row
-segment_row id seq g = Text id ∷ number_value seq ∷ number_value g.start ∷ Int g.rate ∷ number_value g.interval ∷ or_null number_value g.end ∷ []
+segment_row id seq g =
+    Text id ∷ number_value seq ∷ number_value g.start ∷ Int g.rate ∷ number_value g.interval
+    ∷ or_null number_value g.end ∷ []
 
 -- type_id, name, form, propulsion, range_m (metres), plan_id
 abbrev pub type_row : List ℕ → TypeRow → Row
-type_row id t = Text id ∷ Text t.name ∷ Text (form_text t.form) ∷ Text (propulsion_text t.propulsion) ∷ number_value t.max_range ∷ Text t.plan_id ∷ []
+type_row id t =
+    Text id ∷ Text t.name ∷ Text (form_text t.form) ∷ Text (propulsion_text t.propulsion) ∷ number_value t.max_range
+    ∷ Text t.plan_id ∷ []
 
 -- region_id, name
 abbrev pub region_row : List ℕ → RegionRow → Row
 region_row id r = Text id ∷ Text r.name ∷ []
 
--- station_id, name, lat, lon (microdegrees), docks, installed, renting, returning, reported (seconds), free, broken, region_id (or NULL)
+-- station_id, name, lat, lon (microdegrees), docks, installed, renting,
+-- returning, reported (seconds), free, broken, region_id (or NULL)
 abbrev pub station_row : List ℕ → Station → ℤ → ℕ → Row
 station_row id x free broken =
-    Text id ∷ Text x.row.name ∷ Int x.row.lat ∷ Int x.row.lon ∷ number_value x.row.docks ∷ Int (truth x.is_installed) ∷ Int (truth x.is_renting) ∷ Int (truth x.is_returning)
+    Text id ∷ Text x.row.name ∷ Int x.row.lat ∷ Int x.row.lon ∷ number_value x.row.docks ∷ Int (truth x.is_installed)
+    ∷ Int (truth x.is_renting) ∷ Int (truth x.is_returning)
     ∷ number_value x.reported ∷ Int free ∷ number_value broken ∷ or_null Text x.region ∷ []
 
 -- station_id, dock, broken
@@ -98,7 +107,8 @@ closing_columns (Some c) = or_null Text c.to_station ∷ number_value c.finish �
 -- rental, rider, bike, plan_id, from_station, start (seconds), the columns of its closing, refunded (hundredths)
 abbrev pub rental_row : ℕ → Rental → ℤ → Row
 rental_row rental r refunded =
-    number_value rental ∷ number_value r.rider ∷ number_value r.bike ∷ Text r.plan ∷ Text r.from_station ∷ number_value r.start ∷ (closing_columns r.closing ++ Int refunded ∷ [])
+    number_value rental ∷ number_value r.rider ∷ number_value r.bike ∷ Text r.plan ∷ Text r.from_station
+    ∷ number_value r.start ∷ (closing_columns r.closing ++ Int refunded ∷ [])
 
 -- a station's id, and * for the depot
 abbrev pub end_text : OrderEnd → List ℕ
@@ -108,7 +118,8 @@ end_text (end.Station station) = station
 -- ord, truck, from_end, to_end, type_id, quantity, delivered, is_open
 abbrev pub order_row : ℕ → Order → Row
 order_row ord o =
-    number_value ord ∷ number_value o.truck ∷ Text (end_text o.from_end) ∷ Text (end_text o.to_end) ∷ Text o.type_id ∷ number_value o.count ∷ number_value o.delivered
+    number_value ord ∷ number_value o.truck ∷ Text (end_text o.from_end) ∷ Text (end_text o.to_end) ∷ Text o.type_id
+    ∷ number_value o.count ∷ number_value o.delivered
     ∷ Int (truth o.is_open) ∷ []
 
 -- 1 topup, 2 fare, 3 refund
@@ -119,7 +130,9 @@ kind_number Refund = pos 3
 
 -- entry, kind, rider, rental (0 for a top-up), amount (hundredths), at (seconds)
 abbrev pub entry_row : ℕ → Entry → Row
-entry_row entry e = number_value entry ∷ Int (kind_number e.kind) ∷ number_value e.rider ∷ number_value e.rental ∷ Int e.amount ∷ number_value e.at ∷ []
+entry_row entry e =
+    number_value entry ∷ Int (kind_number e.kind) ∷ number_value e.rider ∷ number_value e.rental ∷ Int e.amount
+    ∷ number_value e.at ∷ []
 
 -- caller, req_key, command, reply, each as its text
 abbrev pub kept_row : List ℕ → List ℕ → List ℕ → List ℕ → Row
@@ -127,7 +140,8 @@ kept_row caller key command reply = Text caller ∷ Text key ∷ Text command �
 
 -- station_id, type_id, available, disabled
 abbrev pub count_row : List ℕ → List ℕ → ℕ → ℕ → Row
-count_row station type_id available disabled = Text station ∷ Text type_id ∷ number_value available ∷ number_value disabled ∷ []
+count_row station type_id available disabled =
+    Text station ∷ Text type_id ∷ number_value available ∷ number_value disabled ∷ []
 
 -- ---- the parts of a key of two, or of three
 

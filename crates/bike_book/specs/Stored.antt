@@ -1,4 +1,5 @@
--- The tables of an operator: for each one the row of each record, in the order of its key, stored numbers by their definitions.
+-- The tables of an operator: for each one the row of each record,
+-- in the order of its key, stored numbers by their definitions.
 use Rattle.std.specs.Prelude.{◌≡◌, ℕ, pos, suc, List, [], ◌∷◌, ◌++◌, map, Option, Some, None, true, false}
 use Rattle.std.specs.FinMap as fin
 use Rattle.std.specs.FinMap.{FinMap}
@@ -13,13 +14,16 @@ use Rattle.bike_ledger.specs.Ledger.{balance_of, cash_of, revenue_of, refunded_o
 use Rattle.bike_operator.specs.declared.records.Bike.{Bike}
 use Rattle.bike_operator.specs.declared.records.Rental.{Rental}
 use Rattle.bike_operator.specs.declared.records.Order.{Order}
-use Rattle.bike_operator.specs.Operator.{Operator, Station, Truck, Rider, Kept, Key, NameKey, DockKey, texts_cmp, key_of, dock_key}
+use Rattle.bike_operator.specs.Operator.{Operator, Station, Truck, Rider, Kept, Key, NameKey, DockKey, texts_cmp}
+use Rattle.bike_operator.specs.Operator.{key_of, dock_key}
 use Rattle.bike_operator.specs.Counts.{available_of, docks_available, docks_broken}
 use Rattle.bike_operator.specs.Sound.{HasDock}
 use Rattle.bike_book.specs.declared.version.TheConstants.{NEWEST}
 use Rattle.bike_accepted.specs.Numbers.{disabled_of}
 use Rattle.bike_book.specs.Tables.{Tables}
-use Rattle.bike_book.specs.Rows.{meta_row, system_row, plan_row, segment_row, type_row, region_row, station_row, dock_row, bike_row, truck_row, rider_row, rental_row, order_row, entry_row, kept_row, count_row, name_row, first_text, second_text, second_number}
+use Rattle.bike_book.specs.Rows.{meta_row, system_row, plan_row, segment_row, type_row, region_row, station_row}
+use Rattle.bike_book.specs.Rows.{dock_row, bike_row, truck_row, rider_row, rental_row, order_row, entry_row, kept_row}
+use Rattle.bike_book.specs.Rows.{count_row, name_row, first_text, second_text, second_number}
 
 -- ---- numbered records with their numbers, from 1
 
@@ -74,7 +78,8 @@ stored_kept e = kept_row (first_text e.0) (second_text e.0) (text_of e.1.command
 -- a station's bicycles of a type, those that can be rented and those that can't
 abbrev pub stored_count : Operator → Key × Unit {0} → Row
 stored_count s e =
-    count_row (first_text e.0) (second_text e.0) (available_of s (first_text e.0) (second_text e.0)) (disabled_of s (first_text e.0) (second_text e.0))
+    count_row (first_text e.0) (second_text e.0) (available_of s (first_text e.0) (second_text e.0))
+    (disabled_of s (first_text e.0) (second_text e.0))
 
 abbrev pub stored_name : NameKey × List ℕ → Row
 stored_name e = name_row e.0 e.1
@@ -97,7 +102,8 @@ abbrev pub plans_segments : List (List ℕ × PlanRow) → List Row
 plans_segments [] = []
 plans_segments (e ∷ es) = segment_rows e.0 1 e.1.segments ++ plans_segments es
 
--- Which docks and which pairs of station and type have a row. A dock that works needs none, nor do counts of 0 and 0; none of these rows is ever deleted.
+-- Which docks and which pairs of station and type have a row. A dock that works
+-- needs none, nor do counts of 0 and 0; none of these rows is ever deleted.
 pub record Listed : Type 0 where
   pub docks : FinMap texts_cmp (Unit {0})
   pub counts : FinMap texts_cmp (Unit {0})
@@ -147,4 +153,5 @@ pub record IsListing (s : Operator) (m : Listed) : Type 0 where
   pub docks : (key : DockKey) → fin.contains_key m.docks key ≡ true → IsDockKey s key
   pub marked : (key : DockKey) → contains s.broken key ≡ true → fin.contains_key m.docks key ≡ true
   pub counts : (key : Key) → fin.contains_key m.counts key ≡ true → IsCountKey s key
-  pub counted : (station type_id : List ℕ) → fin.contains_key m.counts (key_of station type_id) ≡ false → (available_of s station type_id ≡ 0) × (disabled_of s station type_id ≡ 0)
+  pub counted : (station type_id : List ℕ) → fin.contains_key m.counts (key_of station type_id) ≡ false
+      → (available_of s station type_id ≡ 0) × (disabled_of s station type_id ≡ 0)

@@ -1,9 +1,9 @@
 //! Changes of one row each. Their numbers and texts are those of an operator's records.
 
 use bike_accepted::Change;
-use bike_fields::Segment;
+use bike_fields::{Ident, Segment};
 use bike_ledger::{Cents, Entry, Moment};
-use bike_operator::{BikeState, Ident, NewPlace};
+use bike_operator::{BikeState, NewPlace};
 
 /// One row that is added, under a key that is free, columns that are set in the row of a key, or a row that is
 /// removed. Money is in hundredths, moments in seconds.

@@ -38,11 +38,11 @@ use Rattle.bike_book.specs.CloseLaws.{after_close, AreKept, AreTextsOf, AreNumbe
 use Rattle.bike_book.proofs.CloseBooks.{close_quiet, close_entry, close_refund}
 use Rattle.bike_book.proofs.SoundNumbers.{no_refunds, no_balance}
 use Rattle.bike_booking.proofs.Ends.{sound_ends}
-use Rattle.bike_accepted.specs.declared.moved.Moved.{Moved}
-use Rattle.bike_accepted.specs.declared.moved.Moved.TheVariants as moved
+use Rattle.bike_accepted.specs.declared.movement.Movement.{Movement}
+use Rattle.bike_accepted.specs.declared.movement.Movement.TheVariants as moved
 use Rattle.bike_accepted.specs.declared.change.Change.{Change}
 use Rattle.bike_accepted.specs.declared.change.Change.TheVariants as change
-use Rattle.bike_accepted.specs.declared.accepted.Booked.{Booked}
+use Rattle.bike_accepted.specs.declared.accepted.BookedEntry.{BookedEntry}
 use Rattle.bike_accepted.specs.declared.accepted.Accepted.{Accepted}
 use Rattle.bike_accepted.specs.Effects.{bike_in, after_change, where_moved, where_changed, entry_of, changed_by, effect_of, Decides}
 use Rattle.bike_accepted.specs.Found.{IsMovedFound, IsFound, IsRefundFound, IsBookedFound}
@@ -107,7 +107,7 @@ reported now station s n h = record {
   };
 }
 
-moved_left : (now : ℕ) (mo : Option Moved) (s : Operator) → Leaves s (where_moved now mo s)
+moved_left : (now : ℕ) (mo : Option Movement) (s : Operator) → Leaves s (where_moved now mo s)
 moved_left now None s = none_left s
 moved_left now (Some (moved.Away bike type_id was becomes)) s = bike_left s (fin.insert s.bikes bike (bike_in type_id becomes))
 moved_left now (Some (moved.AtDock at bike type_id was becomes)) s =
@@ -149,7 +149,7 @@ changed_left (Some c) s = change_left c s
 
 -- ---- the parts of an acceptance
 
-leads_moved : (s : Operator) (m : Listed) (now : ℕ) (n : Stored) → IsSound s → IsListing s m → (mo : Option Moved) → IfSome mo (IsMovedFound s) → IfSome mo (IsMovedStored s m n)
+leads_moved : (s : Operator) (m : Listed) (now : ℕ) (n : Stored) → IsSound s → IsListing s m → (mo : Option Movement) → IfSome mo (IsMovedFound s) → IfSome mo (IsMovedStored s m n)
     → (w : Listed) × Leads (where_moved_writes now n mo) s m (where_moved now mo s) w
 leads_moved s m now n sound listing None found stored = (m, leads_none s m listing)
 leads_moved s m now n sound listing (Some mo) found stored = books_moved s m now n sound.catalogue sound.bikes listing mo found stored
@@ -159,7 +159,8 @@ leads_changed s m is_ready listing None found = leads_none s m listing
 leads_changed s m is_ready listing (Some c) found = books_change s m listing is_ready c found
 
 -- the operator after an accepted request is what was decided of the one before, closed
-accepted_closed : (s : Operator) (now : ℕ) (q : Request) (a : Accepted) → Decides s now q.command (Ok a) → (changed_by now a s).kept ≡ s.kept → after_acceptance s now q ≡ after_close now q a.reply (effect_of now a s)
+accepted_closed : (s : Operator) (now : ℕ) (q : Request) (a : Accepted) → Decides s now q.command (Ok a) → (changed_by now a s).kept ≡ s.kept
+    → after_acceptance s now q ≡ after_close now q a.reply (effect_of now a s)
 accepted_closed s now q a decides stays =
     let kept : (effect_of now a s).kept ≡ s.kept = go (entry_of a.entry) in
     λ i. record (sym decides.2 i) { now = now; kept = fin.insert (sym kept i) (key_in q) (record { command = q.command; reply = sym decides.1 i }) }
@@ -190,7 +191,7 @@ module _ (s : Operator) (m : Listed) (now : ℕ) (q : Request) (a : Accepted) (n
   texts_are : AreTextsOf q a.reply texts.caller.now texts.key.now texts.command.now texts.reply.now
   texts_are = record { caller_is = h.texts_are.caller; key_is = h.texts_are.key; command_is = h.texts_are.command; reply_is = h.texts_are.reply ∙ ap reply_text (sym h.decides.1) }
 
-  numbers : (b : Booked) → IsBookedFound s b → n.sums ≡ sums_after (sums_of s) (Some b) → AreNumbersWith next b.entry b.balance n.sums.cash n.sums.revenue
+  numbers : (b : BookedEntry) → IsBookedFound s b → n.sums ≡ sums_after (sums_of s) (Some b) → AreNumbersWith next b.entry b.balance n.sums.cash n.sums.revenue
   numbers b found sums = record {
     number_is = found.number_is ∙ ap (λ (es : List Entry). length es + 1) (sym entries);
     balance_is = found.balance_is ∙ ap (λ (es : List Entry). balance_of b.entry.rider es +ℤ credit b.entry.kind b.entry.amount) (sym entries);
@@ -199,15 +200,17 @@ module _ (s : Operator) (m : Listed) (now : ℕ) (q : Request) (a : Accepted) (n
   }
 
   -- the entry, where there is one, and the close
-  abbrev Closes : Listed → Option Booked → Type 0
+  abbrev Closes : Listed → Option BookedEntry → Type 0
   Closes w o = Leads (where_booked_writes o ++ writes_of (close_rows now n.sums texts)) next w (after_close now q a.reply (entry_added (entry_of o) next)) w
 
-  closes : (w : Listed) → IsListing next w → (o : Option Booked) → IfSome o (IsBookedFound s) → n.sums ≡ sums_after (sums_of s) o → Closes w o
+  closes : (w : Listed) → IsListing next w → (o : Option BookedEntry) → IfSome o (IsBookedFound s) → n.sums ≡ sums_after (sums_of s) o → Closes w o
   closes w listing None found sums =
-      close_quiet next w now q a.reply texts.caller texts.key texts.command texts.reply listing are_kept texts_are n.sums.cash n.sums.revenue (ap (λ (x : Sums). x.cash) sums ∙ ap cash_of (sym entries)) (ap (λ (x : Sums). x.revenue) sums ∙ ap revenue_of (sym entries))
+      close_quiet next w now q a.reply texts.caller texts.key texts.command texts.reply listing are_kept texts_are n.sums.cash n.sums.revenue
+      (ap (λ (x : Sums). x.cash) sums ∙ ap cash_of (sym entries)) (ap (λ (x : Sums). x.revenue) sums ∙ ap revenue_of (sym entries))
   closes w listing (Some b) found sums = go b.refunded found.refunded_is where
     go : (o : Option ℤ) → IsRefundFound s b.entry o
-        → Leads ((Add Entries (entry_row b.entry.number b.entry) ∷ write_of (row.SetBalance b.entry.rider b.balance) ∷ refund_writes b.entry.rental o) ++ writes_of (close_rows now n.sums texts)) next w (after_close now q a.reply (entry_added (Some b.entry) next)) w
+        → Leads ((Add Entries (entry_row b.entry.number b.entry) ∷ write_of (row.SetBalance b.entry.rider b.balance) ∷ refund_writes b.entry.rental o)
+        ++ writes_of (close_rows now n.sums texts)) next w (after_close now q a.reply (entry_added (Some b.entry) next)) w
     go None none =
         let e : Bor Entry = record { ref_ptr = (0, 0); now = b.entry } in
         close_entry next w now q a.reply texts.caller texts.key texts.command texts.reply listing are_kept texts_are e b.balance n.sums.cash n.sums.revenue (numbers b found sums) none
@@ -249,13 +252,13 @@ changed_by_left now a s =
 
 pub sums_take_one_more : SumsTakeOneMore
 sums_take_one_more s now q a sound decides sound_after = go a.entry refl where
-  go : (o : Option Booked) → a.entry ≡ o → IfSome o (λ _. IsBalance (cash_of s.entries) × IsBalance (revenue_of s.entries))
+  go : (o : Option BookedEntry) → a.entry ≡ o → IfSome o (λ _. IsBalance (cash_of s.entries) × IsBalance (revenue_of s.entries))
   go None is = tt
   go (Some b) is =
       let next = changed_by now a s in
       let left = changed_by_left now a s in
       let entries : (after_acceptance s now q).entries ≡ next.entries ++ b.entry ∷ [] =
-      ap (λ (o : Operator). o.entries) (accepted_closed s now q a decides left.1) ∙ ap (λ (o : Option Booked). (entry_added (entry_of o) next).entries) is in
+      ap (λ (o : Operator). o.entries) (accepted_closed s now q a decides left.1) ∙ ap (λ (o : Option BookedEntry). (entry_added (entry_of o) next).entries) is in
       let same = ap (λ (es : List Entry). length es) left.0 in
       let counted = ap (λ (es : List Entry). length es) entries in
       let longer = length-append next.entries (b.entry ∷ []) in
@@ -281,13 +284,13 @@ orders_with (Some (change.SetOwnName kind id name)) s found = ap (λ (os : List 
 orders_with (Some c) s found = refl
 
 -- the figures of the ledger with an entry
-record LedgerWith (s next : Operator) (o : Option Booked) : Type 0 where
+record LedgerWith (s next : Operator) (o : Option BookedEntry) : Type 0 where
   sums : sums_after (sums_of s) o ≡ sums_of (entry_added (entry_of o) next)
   entries : entries_after (length s.entries) o ≡ length (entry_added (entry_of o) next).entries
   rentals : (entry_added (entry_of o) next).rentals ≡ next.rentals
   orders : (entry_added (entry_of o) next).orders ≡ next.orders
 
-ledger_with : (s n : Operator) (o : Option Booked) → n.entries ≡ s.entries → IfSome o (IsBookedFound s) → LedgerWith s n o
+ledger_with : (s n : Operator) (o : Option BookedEntry) → n.entries ≡ s.entries → IfSome o (IsBookedFound s) → LedgerWith s n o
 ledger_with s n None same found = record {
   sums = λ i. record { cash = cash_of (sym same i); revenue = revenue_of (sym same i) };
   entries = ap (λ (es : List Entry). length es) (sym same);

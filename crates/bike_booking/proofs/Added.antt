@@ -10,10 +10,10 @@ use Rattle.bike_book.specs.Tables.{Segments, Entries}
 use Rattle.bike_book.specs.Rows.{segment_row, entry_row}
 use Rattle.bike_book.specs.Writes.{RowWrite, Add, record_write, write_of, writes_of}
 use Rattle.bike_book.specs.ChangeLaws.{segment_writes, segments_of, change_writes}
-use Rattle.bike_accepted.specs.declared.moved.Moved.{Moved}
+use Rattle.bike_accepted.specs.declared.movement.Movement.{Movement}
 use Rattle.bike_accepted.specs.declared.change.Change.{Change}
 use Rattle.bike_accepted.specs.declared.change.Change.TheVariants as change
-use Rattle.bike_accepted.specs.declared.accepted.Booked.{Booked}
+use Rattle.bike_accepted.specs.declared.accepted.BookedEntry.{BookedEntry}
 use Rattle.bike_booking.specs.declared.stored.Stored.{Stored}
 use Rattle.bike_booking.specs.Writes.{moved_rows, refund_writes, entry_writes, where_moved_writes, where_changed_writes, where_booked_writes, AreAdded}
 
@@ -69,11 +69,12 @@ no_segments_added made rows other = subst (λ (ws : List RowWrite). AreAdded ws 
 
 -- ---- an entry
 
-module _ (b : Booked) (e : Bor Entry) (rider : ℕ) (r0 r2 r3 : List RowChange) (entry_is : e.now ≡ b.entry) (rider_is : rider ≡ b.entry.rider)
+module _ (b : BookedEntry) (e : Bor Entry) (rider : ℕ) (r0 r2 r3 : List RowChange) (entry_is : e.now ≡ b.entry) (rider_is : rider ≡ b.entry.rider)
     (two : r2 ≡ r0 ++ row.AddEntry e ∷ row.SetBalance rider b.balance ∷ []) where
   plain : AreAdded (Add Entries (entry_row b.entry.number b.entry) ∷ write_of (row.SetBalance b.entry.rider b.balance) ∷ []) r0 r2
   plain =
-      subst₂ (λ (x : Entry) (r : ℕ). AreAdded (Add Entries (entry_row x.number x) ∷ write_of (row.SetBalance r b.balance) ∷ []) r0 r2) entry_is rider_is (added_rows r0 (row.AddEntry e ∷ row.SetBalance rider b.balance ∷ []) r2 two)
+      subst₂ (λ (x : Entry) (r : ℕ). AreAdded (Add Entries (entry_row x.number x) ∷ write_of (row.SetBalance r b.balance) ∷ []) r0 r2) entry_is rider_is
+      (added_rows r0 (row.AddEntry e ∷ row.SetBalance rider b.balance ∷ []) r2 two)
 
   pub refund_added : (rental : ℕ) (refunded : ℤ) → b.refunded ≡ Some refunded → rental ≡ b.entry.rental → r3 ≡ r2 ++ row.SetRefunded rental refunded ∷ [] → AreAdded (entry_writes b) r0 r3
   refund_added rental refunded some rental_is three =
@@ -82,16 +83,17 @@ module _ (b : Booked) (e : Bor Entry) (rider : ℕ) (r0 r2 r3 : List RowChange) 
       added_then (Add Entries (entry_row b.entry.number b.entry) ∷ write_of (row.SetBalance b.entry.rider b.balance) ∷ []) (refund_writes b.entry.rental b.refunded) r0 r2 r3 plain last
 
   pub entry_added : b.refunded ≡ None → AreAdded (entry_writes b) r0 r2
-  entry_added none = subst (λ (o : Option ℤ). AreAdded (Add Entries (entry_row b.entry.number b.entry) ∷ write_of (row.SetBalance b.entry.rider b.balance) ∷ refund_writes b.entry.rental o) r0 r2) (sym none) plain
+  entry_added none =
+      subst (λ (o : Option ℤ). AreAdded (Add Entries (entry_row b.entry.number b.entry) ∷ write_of (row.SetBalance b.entry.rider b.balance) ∷ refund_writes b.entry.rental o) r0 r2) (sym none) plain
 
 -- ---- where there is something
 
 module _ (before after : List RowChange) where
-  pub where_moved : (now : ℕ) (n : Stored) (o : Option Moved) (m : Moved) → o ≡ Some m → after ≡ before ++ moved_rows now n m → AreAdded (where_moved_writes now n o) before after
-  where_moved now n o m some are = subst (λ (z : Option Moved). AreAdded (where_moved_writes now n z) before after) (sym some) (added_rows before (moved_rows now n m) after are)
+  pub where_moved : (now : ℕ) (n : Stored) (o : Option Movement) (m : Movement) → o ≡ Some m → after ≡ before ++ moved_rows now n m → AreAdded (where_moved_writes now n o) before after
+  where_moved now n o m some are = subst (λ (z : Option Movement). AreAdded (where_moved_writes now n z) before after) (sym some) (added_rows before (moved_rows now n m) after are)
 
-  pub not_moved : (now : ℕ) (n : Stored) (o : Option Moved) → o ≡ None → after ≡ before → AreAdded (where_moved_writes now n o) before after
-  not_moved now n o none are = subst (λ (z : Option Moved). AreAdded (where_moved_writes now n z) before after) (sym none) (none_added before after are)
+  pub not_moved : (now : ℕ) (n : Stored) (o : Option Movement) → o ≡ None → after ≡ before → AreAdded (where_moved_writes now n o) before after
+  not_moved now n o none are = subst (λ (z : Option Movement). AreAdded (where_moved_writes now n z) before after) (sym none) (none_added before after are)
 
   pub where_changed : (o : Option Change) (c : Change) → o ≡ Some c → AreAdded (change_writes c) before after → AreAdded (where_changed_writes o) before after
   where_changed o c some are = subst (λ (z : Option Change). AreAdded (where_changed_writes z) before after) (sym some) are
@@ -99,8 +101,8 @@ module _ (before after : List RowChange) where
   pub not_changed : (o : Option Change) → o ≡ None → after ≡ before → AreAdded (where_changed_writes o) before after
   not_changed o none are = subst (λ (z : Option Change). AreAdded (where_changed_writes z) before after) (sym none) (none_added before after are)
 
-  pub where_booked : (o : Option Booked) (b : Booked) → o ≡ Some b → AreAdded (entry_writes b) before after → AreAdded (where_booked_writes o) before after
-  where_booked o b some are = subst (λ (z : Option Booked). AreAdded (where_booked_writes z) before after) (sym some) are
+  pub where_booked : (o : Option BookedEntry) (b : BookedEntry) → o ≡ Some b → AreAdded (entry_writes b) before after → AreAdded (where_booked_writes o) before after
+  where_booked o b some are = subst (λ (z : Option BookedEntry). AreAdded (where_booked_writes z) before after) (sym some) are
 
-  pub not_booked : (o : Option Booked) → o ≡ None → after ≡ before → AreAdded (where_booked_writes o) before after
-  not_booked o none are = subst (λ (z : Option Booked). AreAdded (where_booked_writes z) before after) (sym none) (none_added before after are)
+  pub not_booked : (o : Option BookedEntry) → o ≡ None → after ≡ before → AreAdded (where_booked_writes o) before after
+  not_booked o none are = subst (λ (z : Option BookedEntry). AreAdded (where_booked_writes z) before after) (sym none) (none_added before after are)

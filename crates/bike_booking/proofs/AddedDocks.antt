@@ -2,7 +2,7 @@
 use Rattle.std.proofs.Common.{◌≡◌, ◌+◌, ◌<◌, ℕ, zero, suc, ℤ, pos, List, [], ◌∷◌, Bool, true, false, Some, Option, refl, sym, ap, ap₂, ◌∙◌, subst, arith}
 use Rattle.std.specs.FinMap as fin
 use Rattle.std.proofs.lemmas.Int.{ints}
-use Rattle.bike_rows.specs.View.{with_values}
+use Rattle.bike_sql.specs.View.{with_values}
 use Rattle.bike_operator.specs.Rows.{more_docks}
 use Rattle.bike_operator.specs.Operator.{Operator, Station, dock_key}
 use Rattle.bike_operator.specs.Counts.{is_broken, docks_up_to, docks_broken}
@@ -19,7 +19,8 @@ use Rattle.bike_book.proofs.CatalogueBooks.{names_station}
 use Rattle.bike_booking.specs.PutLaws.{AddDocksLaw}
 
 -- where no dock past the last is broken, there are no more broken ones with the docks past it
-broken_up_to : (s : Operator) (station : List ℕ) (docks : ℕ) → ((n : ℕ) → docks < n → is_broken s station n ≡ false) → (count : ℕ) → docks_broken s station (count + docks) ≡ docks_broken s station docks
+broken_up_to : (s : Operator) (station : List ℕ) (docks : ℕ) → ((n : ℕ) → docks < n → is_broken s station n ≡ false) → (count : ℕ)
+    → docks_broken s station (count + docks) ≡ docks_broken s station docks
 unfolding docks_up_to
 broken_up_to s station docks works zero = let same : 0 + docks ≡ docks = omega arith in ap (docks_broken s station) same
 broken_up_to s station docks works (suc count) =
@@ -49,7 +50,8 @@ works_past s sound station row found n past = go (is_broken s station n) refl wh
 pub add_docks : Everywhere AddDocksLaw
 add_docks s m listing station row count d sound found free =
     let stations =
-    changed_entries texts (counted_station s) (counted_station s) (λ e. refl) (λ e. refl) s.stations station.now tt (with_values ((4, number_value (row.row.docks + count)) ∷ (9, number_value (d.free + count)) ∷ [])) f
+    changed_entries texts (counted_station s) (counted_station s) (λ e. refl) (λ e. refl) s.stations station.now tt
+    (with_values ((4, number_value (row.row.docks + count)) ∷ (9, number_value (d.free + count)) ∷ [])) f
     (λ v there. set v (let both : ◌≡◌ {A = Option Station} (Some row) (Some v) = sym found ∙ there in cc)) (λ q y there. (tt, λ apart. refl)) in
     record {
       leads = λ i. record (tables_between s m) { stations = stations i };
@@ -71,5 +73,6 @@ add_docks s m listing station row count d sound found free =
     set : (v : Station) → row ≡ v
         → with_values ((4, number_value (row.row.docks + count)) ∷ (9, number_value (d.free + count)) ∷ []) (counted_station s (station.now, v)) ≡ counted_station s (station.now, f v)
     set v same =
-        subst (λ (w : Station). with_values ((4, number_value (row.row.docks + count)) ∷ (9, number_value (d.free + count)) ∷ []) (counted_station s (station.now, w)) ≡ counted_station s (station.now, f w)) same
+        subst (λ (w : Station). with_values ((4, number_value (row.row.docks + count)) ∷ (9, number_value (d.free + count)) ∷ []) (counted_station s (station.now, w))
+        ≡ counted_station s (station.now, f w)) same
         (ap₂ (λ (z : ℤ) (b : ℕ). station_row station.now (f row) z b) (sym left) (sym broken))

@@ -7,7 +7,7 @@ use Rattle.std.specs.FinMap.{FinMap}
 use Rattle.std.proofs.lemmas.Int.{ints}
 use Rattle.sqlite_value.specs.declared.value.Value.{Value}
 use Rattle.sqlite_value.specs.declared.value.Value.TheVariants.{Null, Int, Text}
-use Rattle.bike_rows.specs.View.{rows_after_update, with_values}
+use Rattle.bike_sql.specs.View.{rows_after_update, with_values}
 use Rattle.bike_operator.specs.declared.records.BikeState.{BikeState}
 use Rattle.bike_operator.specs.declared.records.Place.{Place}
 use Rattle.bike_operator.specs.declared.records.Place.TheVariants as place
@@ -44,7 +44,8 @@ module _ (bike : ℕ) (type_id : List ℕ) (old state : BikeState) where
   over u v w x y (place.Truck truck order) = refl
   over u v w x y place.Depot = refl
 
-  row_turned : (p q : Place) → with_values (bike_columns state q) (bike_row bike (record { type_id = type_id; state = old; place = p })) ≡ bike_row bike (record { type_id = type_id; state = state; place = q })
+  row_turned : (p q : Place) → with_values (bike_columns state q) (bike_row bike (record { type_id = type_id; state = old; place = p }))
+      ≡ bike_row bike (record { type_id = type_id; state = state; place = q })
   row_turned (place.Dock station dock) q = over (Text station) (number_value dock) Null Null Null q
   row_turned (place.Rental rental) q = over Null Null (number_value rental) Null Null q
   row_turned (place.Truck truck order) q = over Null Null Null (number_value truck) (number_value order) q
@@ -78,7 +79,8 @@ module _ {s n : Operator} {bike : ℕ} {b x : Bike} (h : BikeMoves s n bike b x)
   law : PutLaw s n bike x
   law = put_law s n bike x h.put
 
-  pub available_moves : (station kind : List ℕ) → IsMoved (available_of s station kind) (available_of n station kind) (available_share s station kind (Some b)) (available_share s station kind (Some x))
+  pub available_moves : (station kind : List ℕ) → IsMoved (available_of s station kind) (available_of n station kind) (available_share s station kind (Some b))
+      (available_share s station kind (Some x))
   available_moves station kind = ap (λ (o : Option Bike). available_of n station kind + available_share s station kind o) (sym h.found) ∙ law.available station kind
 
   pub disabled_moves : (station kind : List ℕ) → IsMoved (disabled_of s station kind) (disabled_of n station kind) (disabled_share s station kind (Some b)) (disabled_share s station kind (Some x))
@@ -95,7 +97,8 @@ module _ {s n : Operator} {bike : ℕ} {b x : Bike} (h : BikeMoves s n bike b x)
   docks_stay : (station : List ℕ) → occupied_share s station (Some b) ≡ occupied_share s station (Some x) → SameDocks s n station
   docks_stay station same docks = let left = left_moves station docks in (omega (arith, ints, left, same), sym (law.broken station docks))
 
-  bikes_stay : (station kind : List ℕ) → available_share s station kind (Some b) ≡ available_share s station kind (Some x) → disabled_share s station kind (Some b) ≡ disabled_share s station kind (Some x)
+  bikes_stay : (station kind : List ℕ) → available_share s station kind (Some b) ≡ available_share s station kind (Some x)
+      → disabled_share s station kind (Some b) ≡ disabled_share s station kind (Some x)
       → SameBikes s n station kind
   bikes_stay station kind same also = let a = available_moves station kind in let d = disabled_moves station kind in (omega (arith, a, same), omega (arith, d, also))
 
@@ -129,7 +132,8 @@ module _ {s n : Operator} {bike : ℕ} {b x : Bike} {at : List ℕ} {from_broken
   pub bikes_elsewhere : SameBikesElsewhere s n at b.type_id
   bikes_elsewhere station kind apart =
       let other : station ≡ at → kind ≢ x.type_id = (λ same kinds. apart same (kinds ∙ h.type_same)) in
-      bikes_stay h.moves station kind (before.not_available station kind apart ∙ sym (after.not_available station kind other)) (before.not_disabled station kind apart ∙ sym (after.not_disabled station kind other))
+      bikes_stay h.moves station kind (before.not_available station kind apart ∙ sym (after.not_available station kind other))
+      (before.not_disabled station kind apart ∙ sym (after.not_disabled station kind other))
 
   pub docks_here : (d e : DockTotals) → HasDockTotals s at d → DocksMove d e (place_shares from_broken b.state b.place) (place_shares to_broken x.state x.place)
       → (y : Station) → fin.get s.stations at ≡ Some y → HasTotalsAt n at y e

@@ -42,13 +42,18 @@ has_marked s at dock mark = record { bikes = refl; marks = refl }
 
 module _ {s n : Operator} {at : List ℕ} {dock : ℕ} {mark : Bool} (law : MarkLaw s n at dock mark) (o : Option Bike) (here : docked_bike s at dock ≡ o) where
   available_moves : (station kind : List ℕ) → IsMoved (available_of s station kind) (available_of n station kind) (available_share s station kind o) (available_share n station kind o)
-  available_moves station kind = subst (λ (z : Option Bike). IsMoved (available_of s station kind) (available_of n station kind) (available_share s station kind z) (available_share n station kind z)) here (law.available station kind)
+  available_moves station kind =
+      subst (λ (z : Option Bike). IsMoved (available_of s station kind) (available_of n station kind) (available_share s station kind z) (available_share n station kind z)) here
+      (law.available station kind)
 
   disabled_moves : (station kind : List ℕ) → IsMoved (disabled_of s station kind) (disabled_of n station kind) (disabled_share s station kind o) (disabled_share n station kind o)
-  disabled_moves station kind = subst (λ (z : Option Bike). IsMoved (disabled_of s station kind) (disabled_of n station kind) (disabled_share s station kind z) (disabled_share n station kind z)) here (law.disabled station kind)
+  disabled_moves station kind =
+      subst (λ (z : Option Bike). IsMoved (disabled_of s station kind) (disabled_of n station kind) (disabled_share s station kind z) (disabled_share n station kind z)) here
+      (law.disabled station kind)
 
   occupied_moves : (station : List ℕ) → IsMoved (occupied_docks s station) (occupied_docks n station) (occupied_share s station o) (occupied_share n station o)
-  occupied_moves station = subst (λ (z : Option Bike). IsMoved (occupied_docks s station) (occupied_docks n station) (occupied_share s station z) (occupied_share n station z)) here (law.occupied station)
+  occupied_moves station =
+      subst (λ (z : Option Bike). IsMoved (occupied_docks s station) (occupied_docks n station) (occupied_share s station z) (occupied_share n station z)) here (law.occupied station)
 
   docks_elsewhere : ((station : List ℕ) → station ≢ at → occupied_share s station o ≡ occupied_share n station o) → (station : List ℕ) → station ≢ at → SameDocks s n station
   docks_elsewhere same station apart docks =
@@ -150,7 +155,8 @@ module _ (s : Operator) (at : List ℕ) (dock : ℕ) (mark : Bool) (bike : ℕ) 
       omega (arith, moved, p, q)
 
 -- with the numbers before and after
-module _ {s : Operator} {at : List ℕ} {dock : ℕ} {mark : Bool} {bike : ℕ} {b : Bike} {d e : DockTotals} {n o : BikeTotals} (sound : AreBikesSound s) (h : IsMarkedHeld s at dock mark bike b d e n o) where
+module _ {s : Operator} {at : List ℕ} {dock : ℕ} {mark : Bool} {bike : ℕ} {b : Bike} {d e : DockTotals} {n o : BikeTotals} (sound : AreBikesSound s)
+    (h : IsMarkedHeld s at dock mark bike b d e n o) where
   pub held_here : (x : Station) → fin.get s.stations at ≡ Some x → HasTotalsAt (dock_marked at dock mark s) at x e
   held_here x found =
       let had = totals_at s at d h.docks x found in

@@ -89,7 +89,8 @@ module _ (s n : Operator) (m : Listed) (names : KeepsNames s n) (marks : AreMark
   }
 
   -- where the counts of one type at one station change, and are listed
-  pub listing_counted_at : (at type_id : List ℕ) → fin.contains_key s.stations at ≡ true → fin.contains_key s.types type_id ≡ true → SameBikesElsewhere s n at type_id → IsListing n (with_count at type_id m)
+  pub listing_counted_at : (at type_id : List ℕ) → fin.contains_key s.stations at ≡ true → fin.contains_key s.types type_id ≡ true → SameBikesElsewhere s n at type_id
+      → IsListing n (with_count at type_id m)
   listing_counted_at at type_id has_station has_type others = record {
     docks = λ key there. dock_kept s n names key (listing.docks key there);
     marked = marks;

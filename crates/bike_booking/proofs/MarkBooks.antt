@@ -44,7 +44,8 @@ module _ (s : Operator) (m : Listed) (listing : IsListing s m) (sound : AreBikes
   mark_written : tables_after (write_of (dock_change m station dock mark)) (tables_between s m) ≡ with_mark
   mark_written =
       let marked = has_marked s station.now dock mark in
-      dock_written s next m listing station dock mark (λ other d apart. sym (marked_other s next station.now dock mark marked other d apart)) (marked_here s next station.now dock mark marked) (tables_between s m) refl
+      dock_written s next m listing station dock mark (λ other d apart. sym (marked_other s next station.now dock mark marked other d apart)) (marked_here s next station.now dock mark marked)
+      (tables_between s m) refl
 
   pub empty_books : (now : ℕ) (d e : DockTotals) → IsMarkedEmpty s station.now dock mark d e
       → Books (dock_change m station dock mark ∷ docks_reported now station e ∷ []) s m (with_report station.now now next) w

@@ -12,12 +12,12 @@ use Rattle.bike_book.specs.declared.row_change.RowChange.TheVariants as row
 use Rattle.bike_book.specs.ChangeLaws.{segment_writes}
 use Rattle.bike_book.proofs.MayLemmas.{IsElsewhere, AreElsewhere, elsewhere_both, all_may, may_keep}
 use Rattle.bike_booking.specs.Facts.{BikeTotals}
-use Rattle.bike_accepted.specs.declared.moved.DockAt.{DockAt}
-use Rattle.bike_accepted.specs.declared.moved.Moved.{Moved}
-use Rattle.bike_accepted.specs.declared.moved.Moved.TheVariants as moved
+use Rattle.bike_accepted.specs.declared.movement.DockAt.{DockAt}
+use Rattle.bike_accepted.specs.declared.movement.Movement.{Movement}
+use Rattle.bike_accepted.specs.declared.movement.Movement.TheVariants as moved
 use Rattle.bike_accepted.specs.declared.change.Change.{Change}
 use Rattle.bike_accepted.specs.declared.change.Change.TheVariants as change
-use Rattle.bike_accepted.specs.declared.accepted.Booked.{Booked}
+use Rattle.bike_accepted.specs.declared.accepted.BookedEntry.{BookedEntry}
 use Rattle.bike_booking.specs.declared.stored.StoredCounts.{StoredCounts}
 use Rattle.bike_booking.specs.declared.stored.Stored.{Stored}
 use Rattle.bike_booking.specs.Writes.{count_row, dock_row, refund_writes, close_rows, where_moved_writes, where_changed_writes, where_booked_writes}
@@ -33,7 +33,7 @@ dock_elsewhere : (listed : Bool) (at : DockAt) (broken : Bool) → IsElsewhere (
 dock_elsewhere true at broken = refl
 dock_elsewhere false at broken = refl
 
-moved_elsewhere : (now : ℕ) (n : Stored) (o : Option Moved) → AreElsewhere (where_moved_writes now n o)
+moved_elsewhere : (now : ℕ) (n : Stored) (o : Option Movement) → AreElsewhere (where_moved_writes now n o)
 moved_elsewhere now n None = tt
 moved_elsewhere now n (Some (moved.Away bike type_id was becomes)) = (refl, tt)
 moved_elsewhere now n (Some (moved.AtDock at bike type_id was becomes)) = (refl, (refl, (count_elsewhere n.counts at.station type_id _, tt)))
@@ -78,7 +78,7 @@ changed_elsewhere (Some (change.CloseRental rental to_station finish fare)) = (r
 changed_elsewhere (Some (change.AddOrder order truck from_end to_end type_id count)) = (refl, tt)
 changed_elsewhere (Some (change.SetOrder order delivered is_open)) = (refl, tt)
 
-booked_elsewhere : (o : Option Booked) → AreElsewhere (where_booked_writes o)
+booked_elsewhere : (o : Option BookedEntry) → AreElsewhere (where_booked_writes o)
 booked_elsewhere None = tt
 booked_elsewhere (Some b) = (refl, (refl, by b.refunded))
   where

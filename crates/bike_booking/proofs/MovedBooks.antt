@@ -22,9 +22,9 @@ use Rattle.bike_booking.proofs.Ends.{left_is}
 use Rattle.bike_booking.proofs.PutBooks.{put_away, put_at_dock}
 use Rattle.bike_booking.proofs.AddedDocks.{add_docks}
 use Rattle.bike_booking.proofs.MarkedBooks.{marked_empty, marked_held}
-use Rattle.bike_accepted.specs.declared.moved.DockAt.{DockAt}
-use Rattle.bike_accepted.specs.declared.moved.Moved.{Moved}
-use Rattle.bike_accepted.specs.declared.moved.Moved.TheVariants as moved
+use Rattle.bike_accepted.specs.declared.movement.DockAt.{DockAt}
+use Rattle.bike_accepted.specs.declared.movement.Movement.{Movement}
+use Rattle.bike_accepted.specs.declared.movement.Movement.TheVariants as moved
 use Rattle.bike_accepted.specs.Effects.{bike_in, after_moved}
 use Rattle.bike_accepted.specs.Found.{IsDockFound, held_bike, IsMovedFound}
 use Rattle.bike_booking.specs.declared.stored.StoredCounts.{StoredCounts}
@@ -41,7 +41,8 @@ count_is m station type_id None n has =
 count_is m station type_id (Some c) n has =
     ap (λ (b : Bool). if b then row.SetCount station type_id n.available n.disabled else row.AddCount station type_id n.available n.disabled) (sym has)
 
-dock_is_row : (m : Listed) (at : DockAt) (listed broken : Bool) → listed ≡ fin.contains_key m.docks (dock_key at.station.now at.dock) → dock_change m at.station at.dock broken ≡ dock_row listed at broken
+dock_is_row : (m : Listed) (at : DockAt) (listed broken : Bool) → listed ≡ fin.contains_key m.docks (dock_key at.station.now at.dock)
+    → dock_change m at.station at.dock broken ≡ dock_row listed at broken
 dock_is_row m at listed broken has = ap (λ (b : Bool). if b then row.SetDock at.station at.dock broken else row.AddDock at.station at.dock broken) (sym has)
 
 module _ (s : Operator) (m : Listed) (now : ℕ) (n : Stored) (catalogue : IsCatalogueSound s) (sound : AreBikesSound s) (listing : IsListing s m) where
@@ -55,7 +56,8 @@ module _ (s : Operator) (m : Listed) (now : ℕ) (n : Stored) (catalogue : IsCat
     broken = sym (stored.broken found.has.row found.has.found);
   }
 
-  bikes_of : (at : DockAt) (bike : ℕ) (b : Bike) → IsDockFound s at → fin.get s.bikes bike ≡ Some b → AreCountsStored s m at b.type_id n.counts → HasBikeTotals s at.station.now b.type_id (counts_in n.counts)
+  bikes_of : (at : DockAt) (bike : ℕ) (b : Bike) → IsDockFound s at → fin.get s.bikes bike ≡ Some b → AreCountsStored s m at b.type_id n.counts
+      → HasBikeTotals s at.station.now b.type_id (counts_in n.counts)
   bikes_of at bike b found is stored = record {
     station_is = ap (λ (o : Option Station). is_some o) found.has.found;
     type_is = (sound.bikes bike b is).type_is;
@@ -68,7 +70,7 @@ module _ (s : Operator) (m : Listed) (now : ℕ) (n : Stored) (catalogue : IsCat
 
   -- ---- the law
 
-  pub books_moved : (mo : Moved) → IsMovedFound s mo → IsMovedStored s m n mo → (w : Listed) × Books (moved_rows now n mo) s m (after_moved now mo s) w
+  pub books_moved : (mo : Movement) → IsMovedFound s mo → IsMovedStored s m n mo → (w : Listed) × Books (moved_rows now n mo) s m (after_moved now mo s) w
   books_moved (moved.Away bike type_id was becomes) found stored = (m, put_away s m now listing bike (bike_in type_id was) becomes.state becomes.place found.found found.from_away found.to_away)
   books_moved (moved.AtDock at bike type_id was becomes) found stored =
       let b = bike_in type_id was in
@@ -80,7 +82,8 @@ module _ (s : Operator) (m : Listed) (now : ℕ) (n : Stored) (catalogue : IsCat
       let o = bikes_by adds (counts_in n.counts) in
       let w = with_count at.station.now type_id.now m in (
         w,
-        subst (λ (c : RowChange). Books (row.SetBike bike becomes.state becomes.place ∷ docks_reported now at.station (docks_by adds (docks_in n.dock)) ∷ c ∷ []) s m (after_moved now (moved.AtDock at bike type_id was becomes) s) w)
+        subst (λ (c : RowChange). Books (row.SetBike bike becomes.state becomes.place ∷ docks_reported now at.station (docks_by adds (docks_in n.dock)) ∷ c ∷ []) s m
+            (after_moved now (moved.AtDock at bike type_id was becomes) s) w)
             (count_is m at.station type_id n.counts o stored.1.has_row)
             (put_at_dock s m now listing bike b becomes.state becomes.place at.station type_id at.dock at.is_broken (docks_in n.dock) (counts_in n.counts) sound refl h docks bikes),
       )
@@ -109,5 +112,6 @@ module _ (s : Operator) (m : Listed) (now : ℕ) (n : Stored) (catalogue : IsCat
       (docks_of at found.dock stored.0) (bikes_of at h.bike b found.dock there stored.2) in (
         w,
         subst (λ (c : RowChange). Books (c ∷ docks_reported now at.station e ∷ count_row n.counts at.station h.type_id o ∷ []) s m next w) (dock_is_row m at n.dock.is_listed broken stored.1)
-            (subst (λ (c : RowChange). Books (dock_change m at.station at.dock broken ∷ docks_reported now at.station e ∷ c ∷ []) s m next w) (count_is m at.station h.type_id n.counts o stored.2.has_row) rows),
+            (subst (λ (c : RowChange). Books (dock_change m at.station at.dock broken ∷ docks_reported now at.station e ∷ c ∷ []) s m next w)
+            (count_is m at.station h.type_id n.counts o stored.2.has_row) rows),
       )

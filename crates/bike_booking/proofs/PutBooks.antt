@@ -29,7 +29,8 @@ use Rattle.bike_booking.specs.PutLaws.{AtEachMoment, docks_reported, AwayLaw, At
 use Rattle.bike_booking.proofs.NumbersMove.{DocksMove, BikesMove}
 use Rattle.bike_booking.proofs.TotalsRows.{totals_at, stations_set}
 use Rattle.bike_booking.proofs.ReportBooks.{report_listed}
-use Rattle.bike_booking.proofs.BikeMoves.{bike_changed, key_found, moves_by, MovesAt, bikes_set, docks_elsewhere, bikes_elsewhere, docks_here, available_here, disabled_here, before, after, available_moves, disabled_moves}
+use Rattle.bike_booking.proofs.BikeMoves.{bike_changed, key_found, moves_by, MovesAt, bikes_set, docks_elsewhere, bikes_elsewhere, docks_here, available_here, disabled_here, before, after}
+use Rattle.bike_booking.proofs.BikeMoves.{available_moves, disabled_moves}
 use Rattle.bike_booking.proofs.BikeBooks.{away, counts_at, listing_at}
 use Rattle.bike_booking.proofs.DockMarks.{has_marked}
 use Rattle.bike_booking.proofs.Ends.{left_is}

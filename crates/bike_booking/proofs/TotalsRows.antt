@@ -7,7 +7,7 @@ use Rattle.std.specs.Cmp.{IsTotalOrder, eq_by_cmp_equiv}
 use Rattle.std.specs.FinMap as fin
 use Rattle.std.specs.Borrow.{Bor}
 use Rattle.sqlite_value.specs.declared.value.Value.TheVariants.{Int, Text}
-use Rattle.bike_rows.specs.View.{put_row_by, rows_after_update, with_values}
+use Rattle.bike_sql.specs.View.{put_row_by, rows_after_update, with_values}
 use Rattle.bike_operator.specs.Operator.{Operator, Station, Key, DockKey, text_cmp, texts_cmp, key_of, dock_key}
 use Rattle.bike_operator.specs.Counts.{is_broken, available_of, docks_broken}
 use Rattle.bike_operator.specs.Steps.{key_changed}
@@ -67,7 +67,8 @@ module _ (s n : Operator) where
       → rows_after_update 1 (Text station ∷ []) (with_values ((9, number_value e.free) ∷ (10, number_value e.broken) ∷ (8, number_value now) ∷ [])) (map (counted_station s) (fin.entries s.stations))
       ≡ map (counted_station n) (fin.entries (key_changed s.stations station (λ x. record x { reported = now })))
   stations_set station e now others here =
-      changed_entries texts (counted_station s) (counted_station n) (λ x. refl) (λ x. refl) s.stations station tt (with_values ((9, number_value e.free) ∷ (10, number_value e.broken) ∷ (8, number_value now) ∷ []))
+      changed_entries texts (counted_station s) (counted_station n) (λ x. refl) (λ x. refl) s.stations station tt
+      (with_values ((9, number_value e.free) ∷ (10, number_value e.broken) ∷ (8, number_value now) ∷ []))
       (λ x. record x { reported = now }) (λ x found. let e = here x found in sym (ap₂ (station_row station (record x { reported = now })) e.0 e.1))
       (λ q y there. (tt, λ apart. let e = others q (apart_texts station q apart) y.row.docks in ap₂ (station_row q y) e.0 e.1))
 
@@ -115,7 +116,8 @@ module _ (s n : Operator) where
           let set : rows_after_update 2 (Text station.now ∷ Text type_id.now ∷ []) (with_values ((2, number_value o.available) ∷ (3, number_value o.disabled) ∷ [])) t.counts
           ≡ map (stored_count n) (fin.entries (fin.insert m.counts (key_of station.now type_id.now) tt)) =
           ap (rows_after_update 2 (Text station.now ∷ Text type_id.now ∷ []) (with_values ((2, number_value o.available) ∷ (3, number_value o.disabled) ∷ []))) is
-          ∙ set_entries pairs (stored_count s) (stored_count n) (λ x. refl) (λ x. refl) m.counts (key_of station.now type_id.now) good (with_values ((2, number_value o.available) ∷ (3, number_value o.disabled) ∷ []))
+          ∙ set_entries pairs (stored_count s) (stored_count n) (λ x. refl) (λ x. refl) m.counts (key_of station.now type_id.now) good
+          (with_values ((2, number_value o.available) ∷ (3, number_value o.disabled) ∷ []))
           tt tt (there_of (fin.get m.counts (key_of station.now type_id.now)) there).1 new_row each in
           λ i. record t { counts = set i }
       go false none =
@@ -137,7 +139,8 @@ dock_written s n m listing station dock broken others here t is = go (fin.contai
   new_row : dock_row station.now dock broken ≡ stored_dock n.broken (dock_key station.now dock, tt)
   new_row = ap (dock_row station.now dock) (sym here)
 
-  each : (q : DockKey) (y : Unit {0}) → fin.get m.docks q ≡ Some y → IsDockPair q × (eq_by_cmp texts_cmp (dock_key station.now dock) q ≡ false → stored_dock s.broken (q, y) ≡ stored_dock n.broken (q, y))
+  each : (q : DockKey) (y : Unit {0}) → fin.get m.docks q ≡ Some y → IsDockPair q
+      × (eq_by_cmp texts_cmp (dock_key station.now dock) q ≡ false → stored_dock s.broken (q, y) ≡ stored_dock n.broken (q, y))
   each q y found =
       let p = dock_pair s m listing q y found in (
         p,
@@ -147,7 +150,8 @@ dock_written s n m listing station dock broken others here t is = go (fin.contai
       )
 
   go : (b : Bool) → fin.contains_key m.docks (dock_key station.now dock) ≡ b
-      → tables_after (write_of (if b then row.SetDock station dock broken else row.AddDock station dock broken)) t ≡ record t { docks = map (stored_dock n.broken) (fin.entries (fin.insert m.docks (dock_key station.now dock) tt)) }
+      → tables_after (write_of (if b then row.SetDock station dock broken else row.AddDock station dock broken)) t
+      ≡ record t { docks = map (stored_dock n.broken) (fin.entries (fin.insert m.docks (dock_key station.now dock) tt)) }
   go true there =
       let set : rows_after_update 2 (Text station.now ∷ number_value dock ∷ []) (with_values ((2, Int (truth broken)) ∷ [])) t.docks ≡ map (stored_dock n.broken) (fin.entries (fin.insert m.docks (dock_key station.now dock) tt)) =
       ap (rows_after_update 2 (Text station.now ∷ number_value dock ∷ []) (with_values ((2, Int (truth broken)) ∷ []))) is

@@ -10,12 +10,14 @@ use Rattle.bike_booking.specs.Facts.{BikeTotals}
 
 abbrev pub count_change : Listed → Bor (List ℕ) → Bor (List ℕ) → BikeTotals → RowChange
 count_change m station type_id n =
-    if map.contains_key m.counts (key_of station.now type_id.now) then row.SetCount station type_id n.available n.disabled
+    if map.contains_key m.counts (key_of station.now type_id.now)
+    then row.SetCount station type_id n.available n.disabled
     else row.AddCount station type_id n.available n.disabled
 
 abbrev pub dock_change : Listed → Bor (List ℕ) → ℕ → Bool → RowChange
 dock_change m station dock broken =
-    if map.contains_key m.docks (dock_key station.now dock) then row.SetDock station dock broken else row.AddDock station dock broken
+    if map.contains_key m.docks (dock_key station.now dock) then row.SetDock station dock broken
+    else row.AddDock station dock broken
 
 -- what is listed then
 abbrev pub with_count : List ℕ → List ℕ → Listed → Listed

@@ -30,7 +30,8 @@ pub record AreTexts (s : Operator) (now : ℕ) (q : Request) (texts : KeptTexts)
   pub reply : texts.reply.now ≡ reply_text (reply_of s now q.command)
 
 -- What is known of an acceptance: the operator decides so, the records before are its own, and what is stored was read.
-pub record IsAccepted (s : Operator) (m : Listed) (now : ℕ) (q : Request) (a : Accepted) (n : Stored) (texts : KeptTexts) : Type 0 where
+pub record IsAccepted (s : Operator) (m : Listed) (now : ℕ) (q : Request) (a : Accepted) (n : Stored)
+    (texts : KeptTexts) : Type 0 where
   pub sound : IsSound s
   pub listing : IsListing s m
   pub decides : Decides s now q.command (Ok a)
@@ -46,18 +47,23 @@ pub record Books (changes : List RowChange) (s : Operator) (m : Listed) (now : �
 
 abbrev pub BooksAccepted : Type 0
 BooksAccepted =
-    (s : Operator) (m : Listed) (now : ℕ) (q : Request) (a : Accepted) (n : Stored) (texts : KeptTexts) (rows : List RowChange)
+    (s : Operator) (m : Listed) (now : ℕ) (q : Request) (a : Accepted) (n : Stored) (texts : KeptTexts)
+    (rows : List RowChange)
     → IsAccepted s m now q a n texts → writes_of rows ≡ writes_of_accepted now n texts a → Books rows s m now q
 
 -- Where the request's key isn't kept, each of them may be written after those before it.
 abbrev pub MayBeWritten : Type 0
 MayBeWritten =
-    (s : Operator) (m : Listed) (now : ℕ) (q : Request) (a : Accepted) (n : Stored) (texts : KeptTexts) (rows : List RowChange)
-    → IsAccepted s m now q a n texts → fin.get s.kept (key_in q) ≡ None → writes_of rows ≡ writes_of_accepted now n texts a
+    (s : Operator) (m : Listed) (now : ℕ) (q : Request) (a : Accepted) (n : Stored) (texts : KeptTexts)
+    (rows : List RowChange)
+    → IsAccepted s m now q a n texts → fin.get s.kept (key_in q) ≡ None
+    → writes_of rows ≡ writes_of_accepted now n texts a
     → MayWriteAll (writes_of rows) (tables_for s m)
 
--- Where an entry is booked, it is added to the entries of a sound operator, which are fewer than there may be: its sums take one more.
+-- Where an entry is booked, it is added to the entries of a sound
+-- operator, which are fewer than there may be: its sums take one more.
 abbrev pub SumsTakeOneMore : Type 0
 SumsTakeOneMore =
-    (s : Operator) (now : ℕ) (q : Request) (a : Accepted) → IsSound s → Decides s now q.command (Ok a) → IsSound (after_acceptance s now q)
+    (s : Operator) (now : ℕ) (q : Request) (a : Accepted) → IsSound s → Decides s now q.command (Ok a)
+    → IsSound (after_acceptance s now q)
     → IfSome a.entry (λ _. AreBounded (sums_of s))

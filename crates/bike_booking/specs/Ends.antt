@@ -14,7 +14,10 @@ use Rattle.bike_booking.specs.Facts.{HasDockTotals}
 abbrev pub StoredDocksLaw : Type 0
 StoredDocksLaw =
     (s : Operator) (station : List ℕ) (x : Station) → AreBikesSound s → map.get s.stations station ≡ Some x
-    → HasDockTotals s station (record { free = docks_available s station x.row.docks; broken = docks_broken s station x.row.docks })
+    → HasDockTotals s station (record {
+      free = docks_available s station x.row.docks;
+      broken = docks_broken s station x.row.docks;
+    })
 
 -- row changes that book all changes of a request lead from the operator's own tables to those of the next
 abbrev pub SoundEndsLaw : Type 0

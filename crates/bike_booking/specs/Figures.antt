@@ -5,7 +5,7 @@ use Rattle.bike_operator.specs.Operator.{Operator}
 use Rattle.bike_operator.specs.Runs.{after_acceptance}
 use Rattle.bike_accepted.specs.declared.change.Change.{Change}
 use Rattle.bike_accepted.specs.declared.change.Change.TheVariants as change
-use Rattle.bike_accepted.specs.declared.accepted.Booked.{Booked}
+use Rattle.bike_accepted.specs.declared.accepted.BookedEntry.{BookedEntry}
 use Rattle.bike_accepted.specs.declared.accepted.Accepted.{Accepted}
 use Rattle.bike_accepted.specs.Effects.{Decides}
 use Rattle.bike_accepted.specs.Found.{AreFound}
@@ -13,7 +13,14 @@ use Rattle.bike_booking.specs.declared.figures.Figures.{Figures}
 use Rattle.bike_booking.specs.Sums.{sums_of, sums_after}
 
 abbrev pub figures_of : Operator → Figures
-figures_of s = record { now = s.now; sums = sums_of s; rentals = length s.rentals; orders = length s.orders; entries = length s.entries }
+figures_of s =
+    record {
+      now = s.now;
+      sums = sums_of s;
+      rentals = length s.rentals;
+      orders = length s.orders;
+      entries = length s.entries;
+    }
 
 -- what is added has the next number, and that is how many there are then
 abbrev pub rentals_after : ℕ → Option Change → ℕ
@@ -24,7 +31,7 @@ abbrev pub orders_after : ℕ → Option Change → ℕ
 orders_after orders (Some (change.AddOrder order truck from_end to_end type_id count)) = order
 orders_after orders c = orders
 
-abbrev pub entries_after : ℕ → Option Booked → ℕ
+abbrev pub entries_after : ℕ → Option BookedEntry → ℕ
 entries_after entries None = entries
 entries_after entries (Some b) = b.entry.number
 
@@ -39,4 +46,6 @@ figures_after f now a = record {
 
 -- The figures with an accepted request are those of the operator after it.
 abbrev pub FiguresFollow : Type 0
-FiguresFollow = (s : Operator) (now : ℕ) (q : Request) (a : Accepted) → Decides s now q.command (Ok a) → AreFound now s a → figures_after (figures_of s) now a ≡ figures_of (after_acceptance s now q)
+FiguresFollow =
+    (s : Operator) (now : ℕ) (q : Request) (a : Accepted) → Decides s now q.command (Ok a) → AreFound now s a
+    → figures_after (figures_of s) now a ≡ figures_of (after_acceptance s now q)

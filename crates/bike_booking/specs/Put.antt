@@ -37,8 +37,10 @@ IsNoOtherDock at n (place.Rental rental) = Unit {0}
 IsNoOtherDock at n (place.Truck truck order) = Unit {0}
 IsNoOtherDock at n place.Depot = Unit {0}
 
--- A bicycle is put from this dock, into it, or in another state in it. Where it was in no dock, this one is empty and works.
-pub record IsPutAtDock (s : Operator) (station : List ℕ) (dock : ℕ) (broken : Bool) (bike : ℕ) (b : Bike) (to : Place) : Type 0 where
+-- A bicycle is put from this dock, into it, or in another state
+-- in it. Where it was in no dock, this one is empty and works.
+pub record IsPutAtDock (s : Operator) (station : List ℕ) (dock : ℕ) (broken : Bool) (bike : ℕ) (b : Bike)
+    (to : Place) : Type 0 where
   pub found : map.get s.bikes bike ≡ Some b
   pub at : IsDockAt s station dock broken
   pub from_is : IsNoOtherDock station dock b.place
@@ -58,7 +60,8 @@ pub record Adds : Type 0 where
 
 -- by its record, as it was and as it is put
 abbrev pub adds_put : Bool → Bike → BikeState → NewPlace → Adds
-adds_put broken b state p = record { less = place_shares broken b.state b.place; more = place_shares broken state (place_of p) }
+adds_put broken b state p =
+    record { less = place_shares broken b.state b.place; more = place_shares broken state (place_of p) }
 
 -- by the dock's mark, as it was and as it is
 abbrev pub adds_marked : Bool → Bool → BikeState → Adds
@@ -69,11 +72,16 @@ abbrev pub docks_by : Adds → DockTotals → DockTotals
 docks_by a d = record { free = moved_by d.free a.more.occupied a.less.occupied; broken = d.broken }
 
 abbrev pub bikes_by : Adds → BikeTotals → BikeTotals
-bikes_by a n = record { available = moved_by n.available a.less.available a.more.available; disabled = moved_by n.disabled a.less.disabled a.more.disabled }
+bikes_by a n =
+    record {
+      available = moved_by n.available a.less.available a.more.available;
+      disabled = moved_by n.disabled a.less.disabled a.more.disabled;
+    }
 
 -- By the mark of an empty dock, and of one with a bicycle in it, which wasn't available and isn't.
 abbrev pub docks_marked_empty : Bool → Bool → DockTotals → DockTotals
-docks_marked_empty was broken d = record { free = moved_by d.free (one broken) (one was); broken = moved_by d.broken (one was) (one broken) }
+docks_marked_empty was broken d =
+    record { free = moved_by d.free (one broken) (one was); broken = moved_by d.broken (one was) (one broken) }
 
 abbrev pub docks_marked_held : Bool → Bool → DockTotals → DockTotals
 docks_marked_held was broken d = record { free = d.free; broken = moved_by d.broken (one was) (one broken) }

@@ -18,7 +18,8 @@ use Rattle.bike_book.specs.Stored.{Listed, IsListing}
 use Rattle.bike_book.specs.Between.{docks_left, Books}
 use Rattle.bike_booking.specs.Facts.{DockTotals, BikeTotals, HasDockTotals, HasBikeTotals}
 use Rattle.bike_booking.specs.AddedOrSet.{count_change, dock_change, with_count, with_dock}
-use Rattle.bike_booking.specs.Put.{standing, bike_put, IsDockAt, IsPutAtDock, adds_put, adds_marked, docks_by, bikes_by, docks_marked_empty, docks_marked_held}
+use Rattle.bike_booking.specs.Put.{standing, bike_put, IsDockAt, IsPutAtDock, adds_put, adds_marked, docks_by, bikes_by}
+use Rattle.bike_booking.specs.Put.{docks_marked_empty, docks_marked_held}
 
 -- the numbers of a station's docks, with its report
 abbrev pub docks_reported : ℕ → Bor (List ℕ) → DockTotals → RowChange
@@ -28,13 +29,15 @@ module _ (s : Operator) (m : Listed) (now : ℕ) where
   -- from no dock to no dock
   abbrev pub AwayLaw : Type 0
   AwayLaw =
-      (bike : ℕ) (b : Bike) (state : BikeState) (p : NewPlace) → map.get s.bikes bike ≡ Some b → IsAway b.place → IsAway (place_of p)
+      (bike : ℕ) (b : Bike) (state : BikeState) (p : NewPlace) → map.get s.bikes bike ≡ Some b → IsAway b.place
+      → IsAway (place_of p)
       → Books (row.SetBike bike state p ∷ []) s m (bike_put bike (standing b state p) s) m
 
   -- from a dock, into one, or in one
   abbrev pub AtDockLaw : Type 0
   AtDockLaw =
-      (bike : ℕ) (b : Bike) (state : BikeState) (p : NewPlace) (station type_id : Bor (List ℕ)) (dock : ℕ) (broken : Bool) (d : DockTotals) (n : BikeTotals)
+      (bike : ℕ) (b : Bike) (state : BikeState) (p : NewPlace) (station type_id : Bor (List ℕ)) (dock : ℕ)
+      (broken : Bool) (d : DockTotals) (n : BikeTotals)
       → AreBikesSound s → type_id.now ≡ b.type_id → IsPutAtDock s station.now dock broken bike b (place_of p)
       → HasDockTotals s station.now d → HasBikeTotals s station.now b.type_id n
       → Books (row.SetBike bike state p ∷ docks_reported now station (docks_by (adds_put broken b state p) d)
@@ -45,19 +48,24 @@ module _ (s : Operator) (m : Listed) (now : ℕ) where
   abbrev pub MarkedEmptyLaw : Type 0
   MarkedEmptyLaw =
       (station : Bor (List ℕ)) (dock : ℕ) (was broken : Bool) (d : DockTotals)
-      → AreBikesSound s → IsDockAt s station.now dock was → docked_at s station.now dock ≡ None → HasDockTotals s station.now d
-      → Books (dock_change m station dock broken ∷ docks_reported now station (docks_marked_empty was broken d) ∷ []) s m
+      → AreBikesSound s → IsDockAt s station.now dock was → docked_at s station.now dock ≡ None
+      → HasDockTotals s station.now d
+      → Books (dock_change m station dock broken ∷ docks_reported now station (docks_marked_empty was broken d)
+      ∷ []) s m
       (with_report station.now now (dock_marked station.now dock broken s)) (with_dock station.now dock m)
 
   -- a dock with a bicycle in it
   abbrev pub MarkedHeldLaw : Type 0
   MarkedHeldLaw =
-      (station type_id : Bor (List ℕ)) (dock : ℕ) (was broken : Bool) (bike : ℕ) (b : Bike) (d : DockTotals) (n : BikeTotals)
-      → AreBikesSound s → type_id.now ≡ b.type_id → IsDockAt s station.now dock was → docked_at s station.now dock ≡ Some (bike, b)
+      (station type_id : Bor (List ℕ)) (dock : ℕ) (was broken : Bool) (bike : ℕ) (b : Bike) (d : DockTotals)
+      (n : BikeTotals)
+      → AreBikesSound s → type_id.now ≡ b.type_id → IsDockAt s station.now dock was
+      → docked_at s station.now dock ≡ Some (bike, b)
       → HasDockTotals s station.now d → HasBikeTotals s station.now b.type_id n
       → Books (dock_change m station dock broken ∷ docks_reported now station (docks_marked_held was broken d)
       ∷ count_change m station type_id (bikes_by (adds_marked was broken b.state) n) ∷ []) s m
-      (with_report station.now now (dock_marked station.now dock broken s)) (with_count station.now type_id.now (with_dock station.now dock m))
+      (with_report station.now now (dock_marked station.now dock broken s))
+      (with_count station.now type_id.now (with_dock station.now dock m))
 
 -- The law holds of each operator whose rows are listed right, at each moment.
 abbrev pub AtEachMoment : (Operator → Listed → ℕ → Type 0) → Type 0

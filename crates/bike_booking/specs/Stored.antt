@@ -6,10 +6,10 @@ use Rattle.bike_operator.specs.Counts.{available_of, docks_available, docks_brok
 use Rattle.bike_laws.specs.SingleSteps.Numbers.{disabled_of}
 use Rattle.bike_book.specs.Stored.{Listed}
 use Rattle.bike_booking.specs.Facts.{DockTotals, BikeTotals}
-use Rattle.bike_accepted.specs.declared.moved.DockAt.{DockAt}
-use Rattle.bike_accepted.specs.declared.moved.Held.{Held}
-use Rattle.bike_accepted.specs.declared.moved.Moved.{Moved}
-use Rattle.bike_accepted.specs.declared.moved.Moved.TheVariants as moved
+use Rattle.bike_accepted.specs.declared.movement.DockAt.{DockAt}
+use Rattle.bike_accepted.specs.declared.movement.DockOccupant.{DockOccupant}
+use Rattle.bike_accepted.specs.declared.movement.Movement.{Movement}
+use Rattle.bike_accepted.specs.declared.movement.Movement.TheVariants as moved
 use Rattle.bike_accepted.specs.declared.accepted.Accepted.{Accepted}
 use Rattle.bike_booking.specs.declared.stored.StoredDock.{StoredDock}
 use Rattle.bike_booking.specs.declared.stored.StoredCounts.{StoredCounts}
@@ -41,16 +41,18 @@ module _ (s : Operator) (m : Listed) where
     pub available : (counts_in c).available ≡ available_of s at.station.now type_id
     pub disabled : (counts_in c).disabled ≡ disabled_of s at.station.now type_id
 
-  abbrev pub AreHeldStored : DockAt → Option Held → Option StoredCounts → Type 0
+  abbrev pub AreHeldStored : DockAt → Option DockOccupant → Option StoredCounts → Type 0
   AreHeldStored at None c = Unit {0}
   AreHeldStored at (Some h) c = AreCountsStored at h.type_id.now c
 
   -- THE TABLE: what is stored of the dock that is touched, and of the type of its bicycle
-  abbrev pub IsMovedStored : Stored → Moved → Type 0
+  abbrev pub IsMovedStored : Stored → Movement → Type 0
   IsMovedStored n (moved.Away bike type_id was becomes) = Unit {0}
-  IsMovedStored n (moved.AtDock at bike type_id was becomes) = IsDockStored at.station.now n.dock × AreCountsStored at type_id.now n.counts
+  IsMovedStored n (moved.AtDock at bike type_id was becomes) =
+      IsDockStored at.station.now n.dock × AreCountsStored at type_id.now n.counts
   IsMovedStored n (moved.AddDocks station was count) = IsDockStored station.now n.dock
-  IsMovedStored n (moved.Marked at held broken) = IsDockStored at.station.now n.dock × IsListedAt at n.dock × AreHeldStored at held n.counts
+  IsMovedStored n (moved.Marked at held broken) =
+      IsDockStored at.station.now n.dock × IsListedAt at n.dock × AreHeldStored at held n.counts
 
   -- that, and the operator's sums with the entry
   pub record IsStored (a : Accepted) (n : Stored) : Type 0 where

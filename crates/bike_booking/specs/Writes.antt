@@ -10,11 +10,11 @@ use Rattle.bike_book.specs.ChangeLaws.{change_writes}
 use Rattle.bike_booking.specs.Facts.{BikeTotals}
 use Rattle.bike_booking.specs.Put.{adds_put, adds_marked, docks_by, bikes_by, docks_marked_empty, docks_marked_held}
 use Rattle.bike_booking.specs.PutLaws.{docks_reported}
-use Rattle.bike_accepted.specs.declared.moved.DockAt.{DockAt}
-use Rattle.bike_accepted.specs.declared.moved.Moved.{Moved}
-use Rattle.bike_accepted.specs.declared.moved.Moved.TheVariants as moved
+use Rattle.bike_accepted.specs.declared.movement.DockAt.{DockAt}
+use Rattle.bike_accepted.specs.declared.movement.Movement.{Movement}
+use Rattle.bike_accepted.specs.declared.movement.Movement.TheVariants as moved
 use Rattle.bike_accepted.specs.declared.change.Change.{Change}
-use Rattle.bike_accepted.specs.declared.accepted.Booked.{Booked}
+use Rattle.bike_accepted.specs.declared.accepted.BookedEntry.{BookedEntry}
 use Rattle.bike_accepted.specs.declared.accepted.Accepted.{Accepted}
 use Rattle.bike_accepted.specs.Effects.{bike_in}
 use Rattle.bike_booking.specs.Stored.{docks_in, counts_in}
@@ -31,21 +31,28 @@ count_row None station type_id n = row.AddCount station type_id n.available n.di
 count_row (Some c) station type_id n = row.SetCount station type_id n.available n.disabled
 
 abbrev pub dock_row : Bool → DockAt → Bool → RowChange
-dock_row listed at broken = if listed then row.SetDock at.station at.dock broken else row.AddDock at.station at.dock broken
+dock_row listed at broken =
+    if listed then row.SetDock at.station at.dock broken else row.AddDock at.station at.dock broken
 
 -- THE TABLE: the row changes of what is put or marked. The station of the dock reports.
-abbrev pub moved_rows : ℕ → Stored → Moved → List RowChange
+abbrev pub moved_rows : ℕ → Stored → Movement → List RowChange
 moved_rows now n (moved.Away bike type_id was becomes) = row.SetBike bike becomes.state becomes.place ∷ []
 moved_rows now n (moved.AtDock at bike type_id was becomes) =
     row.SetBike bike becomes.state becomes.place
-    ∷ docks_reported now at.station (docks_by (adds_put at.is_broken (bike_in type_id was) becomes.state becomes.place) (docks_in n.dock))
-    ∷ count_row n.counts at.station type_id (bikes_by (adds_put at.is_broken (bike_in type_id was) becomes.state becomes.place) (counts_in n.counts)) ∷ []
-moved_rows now n (moved.AddDocks station was count) = row.SetDockCount station (was.now + count.now) (n.dock.free + count.now) ∷ []
+    ∷ docks_reported now at.station (docks_by (adds_put at.is_broken (bike_in type_id was) becomes.state becomes.place)
+    (docks_in n.dock))
+    ∷ count_row n.counts at.station type_id (bikes_by
+    (adds_put at.is_broken (bike_in type_id was) becomes.state becomes.place) (counts_in n.counts)) ∷ []
+moved_rows now n (moved.AddDocks station was count) =
+    row.SetDockCount station (was.now + count.now) (n.dock.free + count.now) ∷ []
 moved_rows now n (moved.Marked at None broken) =
-    dock_row n.dock.is_listed at broken ∷ docks_reported now at.station (docks_marked_empty at.is_broken broken (docks_in n.dock)) ∷ []
+    dock_row n.dock.is_listed at broken ∷ docks_reported now at.station
+    (docks_marked_empty at.is_broken broken (docks_in n.dock)) ∷ []
 moved_rows now n (moved.Marked at (Some h) broken) =
-    dock_row n.dock.is_listed at broken ∷ docks_reported now at.station (docks_marked_held at.is_broken broken (docks_in n.dock))
-    ∷ count_row n.counts at.station h.type_id (bikes_by (adds_marked at.is_broken broken h.state) (counts_in n.counts)) ∷ []
+    dock_row n.dock.is_listed at broken ∷ docks_reported now at.station
+    (docks_marked_held at.is_broken broken (docks_in n.dock))
+    ∷ count_row n.counts at.station h.type_id (bikes_by (adds_marked at.is_broken broken h.state) (counts_in n.counts))
+    ∷ []
 
 -- ---- an entry, and the close
 
@@ -54,16 +61,19 @@ abbrev pub refund_writes : ℕ → Option ℤ → List RowWrite
 refund_writes rental None = []
 refund_writes rental (Some refunded) = write_of (row.SetRefunded rental refunded) ∷ []
 
-abbrev pub entry_writes : Booked → List RowWrite
-entry_writes b = Add Entries (entry_row b.entry.number b.entry) ∷ write_of (row.SetBalance b.entry.rider b.balance) ∷ refund_writes b.entry.rental b.refunded
+abbrev pub entry_writes : BookedEntry → List RowWrite
+entry_writes b =
+    Add Entries (entry_row b.entry.number b.entry) ∷ write_of (row.SetBalance b.entry.rider b.balance)
+    ∷ refund_writes b.entry.rental b.refunded
 
 -- the operator's moment and sums, and what is kept of the request
 abbrev pub close_rows : ℕ → Sums → KeptTexts → List RowChange
-close_rows now sums texts = row.SetMeta now sums.cash sums.revenue ∷ row.AddKept texts.caller texts.key texts.command texts.reply ∷ []
+close_rows now sums texts =
+    row.SetMeta now sums.cash sums.revenue ∷ row.AddKept texts.caller texts.key texts.command texts.reply ∷ []
 
 -- ---- an acceptance
 
-abbrev pub where_moved_writes : ℕ → Stored → Option Moved → List RowWrite
+abbrev pub where_moved_writes : ℕ → Stored → Option Movement → List RowWrite
 where_moved_writes now n None = []
 where_moved_writes now n (Some m) = writes_of (moved_rows now n m)
 
@@ -71,13 +81,14 @@ abbrev pub where_changed_writes : Option Change → List RowWrite
 where_changed_writes None = []
 where_changed_writes (Some c) = change_writes c
 
-abbrev pub where_booked_writes : Option Booked → List RowWrite
+abbrev pub where_booked_writes : Option BookedEntry → List RowWrite
 where_booked_writes None = []
 where_booked_writes (Some b) = entry_writes b
 
 abbrev pub writes_of_accepted : ℕ → Stored → KeptTexts → Accepted → List RowWrite
 writes_of_accepted now n texts a =
-    where_moved_writes now n a.moved ++ where_changed_writes a.change ++ where_booked_writes a.entry ++ writes_of (close_rows now n.sums texts)
+    where_moved_writes now n a.moved ++ where_changed_writes a.change ++ where_booked_writes a.entry
+    ++ writes_of (close_rows now n.sums texts)
 
 -- these are written beside those before
 abbrev pub AreAdded : List RowWrite → List RowChange → List RowChange → Type 0

@@ -5,7 +5,7 @@ ghost use Rattle.bike_booking.specs.Figures.{entries_after, figures_after, order
 ghost use Rattle.bike_booking.specs.Sums.{AreBounded};
 
 use crate::stored::Sums;
-use bike_accepted::{Accepted, Booked, Change};
+use bike_accepted::{Accepted, BookedEntry, Change};
 use bike_fixed::Moment;
 
 /// The operator's moment and sums, and how many rentals, orders and entries it has.
@@ -44,7 +44,7 @@ fn orders_after(orders: u32, change: &Option<Change<'_>>) -> u32
 }
 
 /// How many entries there are with the one that is booked.
-fn entries_after(entries: u32, entry: &Option<Booked>) -> u32
+fn entries_after(entries: u32, entry: &Option<BookedEntry>) -> u32
     ensures { result ≡ entries_after entries entry.now }
 {
     match entry {

@@ -5,7 +5,7 @@ ghost use Rattle.bike_book.specs.declared.row_change.RowChange.TheVariants as ro
 ghost use Rattle.bike_book.specs.ChangeLaws.{segment_writes, change_writes};
 ghost use Rattle.bike_book.specs.Writes.{writes_of};
 ghost use Rattle.bike_booking.specs.Put.{bikes_by};
-ghost use Rattle.bike_accepted.specs.declared.moved.Moved.TheVariants as moved;
+ghost use Rattle.bike_accepted.specs.declared.movement.Movement.TheVariants as moved;
 ghost use Rattle.bike_booking.specs.Room.{HasRoom, TakesRows};
 ghost use Rattle.bike_booking.specs.Stored.{counts_in};
 ghost use Rattle.bike_booking.specs.Writes.{count_row, dock_row, moved_rows, entry_writes, close_rows};
@@ -15,7 +15,7 @@ use crate::shares::{BikeShares, moved_by, one};
 use crate::stored::{Stored, StoredCounts, StoredDock, Sums};
 use crate::texts::KeptTexts;
 use arrayvec::ArrayVec;
-use bike_accepted::{Accepted, Booked, Change, DockAt, Held, Moved, Standing};
+use bike_accepted::{Accepted, BikeStatus, BookedEntry, Change, DockAt, DockOccupant, Movement};
 use bike_book::RowChange;
 use bike_fields::{DockCount, Ident, Segment};
 use bike_fixed::Moment;
@@ -66,7 +66,7 @@ fn count_row<'a>(
 }
 
 /// A bicycle's state and place.
-fn bike_row<'a>(bike: u32, becomes: &Standing<'a>) -> RowChange<'a>
+fn bike_row<'a>(bike: u32, becomes: &BikeStatus<'a>) -> RowChange<'a>
     ensures { result ≡ row.SetBike bike becomes.now.state becomes.now.place }
 {
     RowChange::SetBike {
@@ -150,7 +150,7 @@ fn push_mark<'a>(
 fn push_held_mark<'a>(
     rows: &mut Rows<'a>,
     at: &DockAt<'a>,
-    held: &Held<'a>,
+    held: &DockOccupant<'a>,
     is_broken: bool,
     stored: &Stored,
     now: Moment,
@@ -171,14 +171,14 @@ fn push_held_mark<'a>(
 }
 
 /// Adds the row changes of what is put or marked.
-fn push_moved<'a>(rows: &mut Rows<'a>, moved: &Moved<'a>, stored: &Stored, now: Moment)
+fn push_moved<'a>(rows: &mut Rows<'a>, moved: &Movement<'a>, stored: &Stored, now: Moment)
     requires { HasRoom 3 rows.old }
     ensures rows { rows.new.items ≡ rows.old.items ++ moved_rows now stored.now moved.now }
     ensures room { TakesRows 3 rows.old rows.new }
 {
     match moved {
-        Moved::Away { bike, becomes, .. } => add(rows, &[bike_row(*bike, becomes)]),
-        Moved::AtDock {
+        Movement::Away { bike, becomes, .. } => add(rows, &[bike_row(*bike, becomes)]),
+        Movement::AtDock {
             at,
             bike,
             type_id,
@@ -193,17 +193,17 @@ fn push_moved<'a>(rows: &mut Rows<'a>, moved: &Moved<'a>, stored: &Stored, now: 
             let count = count_row(&stored.counts, at.station, type_id, less, more);
             add(rows, &[bike_row(*bike, becomes), docks, count]);
         }
-        Moved::AddDocks {
+        Movement::AddDocks {
             station,
             was,
             count,
         } => add(rows, &[dock_count_row(station, was, count, &stored.dock)]),
-        Moved::Marked {
+        Movement::Marked {
             at,
             held: None,
             is_broken,
         } => push_mark(rows, at, *is_broken, stored, now),
-        Moved::Marked {
+        Movement::Marked {
             at,
             held: Some(held),
             is_broken,
@@ -238,7 +238,7 @@ fn push_change<'a>(rows: &mut Rows<'a>, change: &'a Change<'a>)
 }
 
 /// Adds the row changes of an entry.
-fn push_entry<'a>(rows: &mut Rows<'a>, booked: &'a Booked)
+fn push_entry<'a>(rows: &mut Rows<'a>, booked: &'a BookedEntry)
     requires { HasRoom 3 rows.old }
     ensures added { AreAdded (entry_writes booked.now) rows.old.items rows.new.items }
     ensures room { TakesRows 3 rows.old rows.new }

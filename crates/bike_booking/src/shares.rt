@@ -6,7 +6,7 @@ ghost use Rattle.bike_operator.specs.Counts.{is_fit};
 ghost use Rattle.bike_laws.specs.SingleSteps.Laws.{one, dock_shares, place_shares};
 ghost use Rattle.bike_booking.specs.Put.{moved_by};
 
-use bike_accepted::Standing;
+use bike_accepted::BikeStatus;
 use bike_fields::MOST_DOCKS;
 use bike_operator::{BikeState, NewPlace};
 use std::marker::Model;
@@ -47,7 +47,7 @@ impl BikeShares {
     }
 
     /// What a bicycle adds where it stands: where that is a dock, one that is broken, or works.
-    pub(crate) fn of(is_broken: bool, standing: &Standing) -> BikeShares
+    pub(crate) fn of(is_broken: bool, standing: &BikeStatus) -> BikeShares
         ensures { result ≡ place_shares is_broken standing.now.state (place_of standing.now.place) }
     {
         match standing.place {

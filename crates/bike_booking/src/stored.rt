@@ -3,7 +3,7 @@
 ghost use Rattle.std.specs.Prelude.{◌≡◌, ◌↔◌, IfSome, IsTrue};
 ghost use Rattle.bike_booking.specs.Sums.{AreBounded, sums_after};
 
-use bike_accepted::Booked;
+use bike_accepted::BookedEntry;
 use bike_fields::DockTotal;
 use bike_fixed::Cents;
 use bike_ledger::{cash_after, is_balance, revenue_after};
@@ -46,7 +46,7 @@ impl Sums {
     }
 
     /// The sums with the entry of a request, where it has one. Sums to which none can be added stay as they are.
-    pub(crate) fn with(self, entry: &Option<Booked>) -> Sums
+    pub(crate) fn with(self, entry: &Option<BookedEntry>) -> Sums
         ensures { IfSome entry.now (λ _. AreBounded self) → result ≡ sums_after self entry.now }
     {
         match entry {

@@ -14,7 +14,8 @@ checked_ok x value None e = (cc, refl)
 checked_ok x value (Some f) e = absurd cc
 
 -- an error that a check gave is the whole test's, where the fields before it passed
-refused : {A B Y : Type 0} (view : A → B) (kept : B) (value : Y) (own whole : Option (Field × Bound)) (r : Result A FieldFault) (e : FieldFault) → Err e ≡ value_or_fault value own → whole ≡ own → IsErr r × IsErrAnd r (λ x. x ≡ e) → Tests view kept whole r
+refused : {A B Y : Type 0} (view : A → B) (kept : B) (value : Y) (own whole : Option (Field × Bound)) (r : Result A FieldFault) (e : FieldFault) → Err e ≡ value_or_fault value own → whole ≡ own
+    → IsErr r × IsErrAnd r (λ x. x ≡ e) → Tests view kept whole r
 refused view kept value None whole r e given same passed = absurd cc
 refused view kept value (Some f) whole (Ok x) e given same passed = absurd cc
 refused view kept value (Some f) whole (Err x) e given same passed =
@@ -26,7 +27,8 @@ or_none : (f : Option (Field × Bound)) → or_else f None ≡ f
 or_none None = refl
 or_none (Some f) = refl
 
-pub fifth_refused : {A B Y : Type 0} (view : A → B) (kept : B) (value : Y) (a b c d own : Option (Field × Bound)) (r : Result A FieldFault) (e : FieldFault) → a ≡ None → b ≡ None → c ≡ None → d ≡ None → Err e ≡ value_or_fault value own → IsErr r × IsErrAnd r (λ x. x ≡ e)
+pub fifth_refused : {A B Y : Type 0} (view : A → B) (kept : B) (value : Y) (a b c d own : Option (Field × Bound)) (r : Result A FieldFault) (e : FieldFault) → a ≡ None → b ≡ None → c ≡ None → d ≡ None
+    → Err e ≡ value_or_fault value own → IsErr r × IsErrAnd r (λ x. x ≡ e)
     → Tests view kept (or_else a (or_else b (or_else c (or_else d (or_else own None))))) r
 fifth_refused view kept value a b c d own r e p q s t given passed =
     refused view kept value own (or_else a (or_else b (or_else c (or_else d (or_else own None))))) r e given (rw (p, q, s, t) (or_none own)) passed
@@ -41,6 +43,7 @@ nine_clear a b c d e f g h i p q r s t u v w x = rw (p, q, r, s, t) (rw (u, v, w
 pub same_three : {A B C : Type 0} (a x : A) (b y : B) (c z : C) → a ≡ x → b ≡ y → c ≡ z → ◌≡◌ {A = A × B × C} (a, b, c) (x, y, z)
 same_three a x b y c z p q r = rw (p, q, r) refl
 
-pub same_system : (s : SystemRow) (a b c d e f g h : List ℕ) (i : ℕ) → a ≡ s.system_id → b ≡ s.language → c ≡ s.name → d ≡ s.opening_hours → e ≡ s.feed_contact_email → f ≡ s.timezone → g ≡ s.currency → h ≡ s.base_url → i ≡ s.ttl
+pub same_system : (s : SystemRow) (a b c d e f g h : List ℕ) (i : ℕ) → a ≡ s.system_id → b ≡ s.language → c ≡ s.name → d ≡ s.opening_hours → e ≡ s.feed_contact_email → f ≡ s.timezone → g ≡ s.currency
+    → h ≡ s.base_url → i ≡ s.ttl
     → (let row : SystemRow = record { system_id = a; language = b; name = c; opening_hours = d; feed_contact_email = e; timezone = f; currency = g; base_url = h; ttl = i } in row ≡ s)
 same_system s a b c d e f g h i p q r t u v w x y = rw (p, q, r, t, u) (rw (v, w, x, y) refl)

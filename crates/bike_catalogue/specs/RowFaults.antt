@@ -4,11 +4,15 @@ use Rattle.bike_fixed.specs.declared.micro.TheConstants.{GREATEST_COORDINATE}
 use Rattle.bike_fields.specs.declared.fault.Bound.{Bound}
 use Rattle.bike_fields.specs.declared.fault.Bound.TheVariants.{Length}
 use Rattle.bike_fields.specs.declared.fault.Field.{Field}
-use Rattle.bike_fields.specs.declared.fault.Field.TheVariants.{SystemId, Language, Name, OpeningHours, FeedContactEmail, Timezone, Currency, BaseUrl, Ttl, Plan, Price, Description, Segments, TypeId, MaxRange, Station, Lat, Lon, Docks, Region}
+use Rattle.bike_fields.specs.declared.fault.Field.TheVariants.{SystemId, Language, Name, OpeningHours, FeedContactEmail}
+use Rattle.bike_fields.specs.declared.fault.Field.TheVariants.{Timezone, Currency, BaseUrl, Ttl, Plan, Price}
+use Rattle.bike_fields.specs.declared.fault.Field.TheVariants.{Description, Segments, TypeId, MaxRange, Station, Lat}
+use Rattle.bike_fields.specs.declared.fault.Field.TheVariants.{Lon, Docks, Region}
 use Rattle.bike_fields.specs.declared.fault.FieldFault.{FieldFault}
 use Rattle.bike_fields.specs.declared.vehicle.Propulsion.{Propulsion}
 use Rattle.bike_fields.specs.declared.vehicle.Propulsion.TheVariants.{Human, ElectricAssist}
-use Rattle.bike_fields.specs.declared.numbers.TheConstants.{MOST_DOCKS, GREATEST_PRICE, GREATEST_RANGE, LONGEST_TIME_TO_LIVE}
+use Rattle.bike_fields.specs.declared.numbers.TheConstants.{MOST_DOCKS, GREATEST_PRICE, GREATEST_RANGE}
+use Rattle.bike_fields.specs.declared.numbers.TheConstants.{LONGEST_TIME_TO_LIVE}
 use Rattle.bike_fields.specs.declared.limits.TheConstants.{MOST_SEGMENTS, GREATEST_LATITUDE}
 use Rattle.bike_fields.specs.Fault.{Makes, ident_fault, name_fault, ascii_fault, language_fault, currency_fault}
 use Rattle.bike_fields.specs.Values.{SegmentRow}

@@ -63,13 +63,30 @@ pub record SettingsRow : Type 0 where
 -- each record from its fields, in order
 
 abbrev pub plan_of_fields : List ℕ → List ℕ → ℕ → Bool → List ℕ → List SegmentRow → PlanRow
-plan_of_fields plan_id name price taxable description segments = record { plan_id = plan_id; name = name; price = price; taxable = taxable; description = description; segments = segments }
+plan_of_fields plan_id name price taxable description segments =
+    record {
+      plan_id = plan_id;
+      name = name;
+      price = price;
+      taxable = taxable;
+      description = description;
+      segments = segments;
+    }
 
 abbrev pub type_of_fields : List ℕ → List ℕ → Form → Propulsion → ℕ → List ℕ → TypeRow
-type_of_fields type_id name form propulsion max_range plan_id = record { type_id = type_id; name = name; form = form; propulsion = propulsion; max_range = max_range; plan_id = plan_id }
+type_of_fields type_id name form propulsion max_range plan_id =
+    record {
+      type_id = type_id;
+      name = name;
+      form = form;
+      propulsion = propulsion;
+      max_range = max_range;
+      plan_id = plan_id;
+    }
 
 abbrev pub station_of_fields : List ℕ → List ℕ → ℤ → ℤ → ℕ → StationRow
-station_of_fields station_id name lat lon docks = record { station_id = station_id; name = name; lat = lat; lon = lon; docks = docks }
+station_of_fields station_id name lat lon docks =
+    record { station_id = station_id; name = name; lat = lat; lon = lon; docks = docks }
 
 abbrev pub region_of_fields : List ℕ → List ℕ → RegionRow
 region_of_fields region_id name = record { region_id = region_id; name = name }

@@ -10,7 +10,7 @@ use Rattle.bike_ledger.specs.declared.entry.EntryKind.{EntryKind}
 use Rattle.bike_ledger.specs.declared.entry.EntryKind.TheVariants.{TopUp, Fare, Refund}
 use Rattle.bike_readings.specs.Readings.{entry_read}
 use Rattle.bike_readings.specs.ReadOff.{entry_in}
-use Rattle.bike_catalogue_rules.specs.declared.meta.Sums.{Sums}
+use Rattle.bike_catalogue_rules.specs.declared.meta.CashAndRevenue.{CashAndRevenue}
 use Rattle.bike_catalogue_rules.specs.Sums.{with_amount, with_entry, after_entry}
 
 -- the entries that rows spell
@@ -20,28 +20,30 @@ entries_of rows = map (λ e. e.1) (filter_map entry_in rows)
 abbrev and_entry : Option Entry → List Row → List Entry
 and_entry o rows = map (λ e. e.1) (cons_option (option_map (λ (e : Entry). (e.number, e)) o) (filter_map entry_in rows))
 
-pub cash_sum : (s : Sums) (rows : List Row) → (fold after_entry s rows).cash ≡ s.cash +ℤ cash_of (entries_of rows)
+pub cash_sum : (s : CashAndRevenue) (rows : List Row) → (fold after_entry s rows).cash ≡ s.cash +ℤ cash_of (entries_of rows)
 cash_sum s [] = omega (arith, ints)
 cash_sum s (r ∷ rows) = go (entry_read r) (λ z. cash_sum z rows) where
-  by : (k : EntryKind) (amount : ℤ) → ((z : Sums) → (fold after_entry z rows).cash ≡ z.cash +ℤ cash_of (entries_of rows))
+  by : (k : EntryKind) (amount : ℤ) → ((z : CashAndRevenue) → (fold after_entry z rows).cash ≡ z.cash +ℤ cash_of (entries_of rows))
       → (fold after_entry (with_amount s k amount) rows).cash ≡ s.cash +ℤ (cash_in k amount +ℤ cash_of (entries_of rows))
   by TopUp amount rest = let h = rest (with_amount s TopUp amount) in omega (arith, ints, h)
   by Fare amount rest = let h = rest (with_amount s Fare amount) in omega (arith, ints, h)
   by Refund amount rest = let h = rest (with_amount s Refund amount) in omega (arith, ints, h)
 
-  go : (o : Option Entry) → ((z : Sums) → (fold after_entry z rows).cash ≡ z.cash +ℤ cash_of (entries_of rows)) → (fold after_entry (with_entry s o) rows).cash ≡ s.cash +ℤ cash_of (and_entry o rows)
+  go : (o : Option Entry) → ((z : CashAndRevenue) → (fold after_entry z rows).cash ≡ z.cash +ℤ cash_of (entries_of rows))
+      → (fold after_entry (with_entry s o) rows).cash ≡ s.cash +ℤ cash_of (and_entry o rows)
   go None rest = rest s
   go (Some e) rest = by e.kind e.amount rest
 
-pub revenue_sum : (s : Sums) (rows : List Row) → (fold after_entry s rows).revenue ≡ s.revenue +ℤ revenue_of (entries_of rows)
+pub revenue_sum : (s : CashAndRevenue) (rows : List Row) → (fold after_entry s rows).revenue ≡ s.revenue +ℤ revenue_of (entries_of rows)
 revenue_sum s [] = omega (arith, ints)
 revenue_sum s (r ∷ rows) = go (entry_read r) (λ z. revenue_sum z rows) where
-  by : (k : EntryKind) (amount : ℤ) → ((z : Sums) → (fold after_entry z rows).revenue ≡ z.revenue +ℤ revenue_of (entries_of rows))
+  by : (k : EntryKind) (amount : ℤ) → ((z : CashAndRevenue) → (fold after_entry z rows).revenue ≡ z.revenue +ℤ revenue_of (entries_of rows))
       → (fold after_entry (with_amount s k amount) rows).revenue ≡ s.revenue +ℤ (revenue_in k amount +ℤ revenue_of (entries_of rows))
   by TopUp amount rest = let h = rest (with_amount s TopUp amount) in omega (arith, ints, h)
   by Fare amount rest = let h = rest (with_amount s Fare amount) in omega (arith, ints, h)
   by Refund amount rest = let h = rest (with_amount s Refund amount) in omega (arith, ints, h)
 
-  go : (o : Option Entry) → ((z : Sums) → (fold after_entry z rows).revenue ≡ z.revenue +ℤ revenue_of (entries_of rows)) → (fold after_entry (with_entry s o) rows).revenue ≡ s.revenue +ℤ revenue_of (and_entry o rows)
+  go : (o : Option Entry) → ((z : CashAndRevenue) → (fold after_entry z rows).revenue ≡ z.revenue +ℤ revenue_of (entries_of rows))
+      → (fold after_entry (with_entry s o) rows).revenue ≡ s.revenue +ℤ revenue_of (and_entry o rows)
   go None rest = rest s
   go (Some e) rest = by e.kind e.amount rest

@@ -53,7 +53,8 @@ none_fails test key n (r ∷ rows) all =
 module _ (db : Database) (before : ℕ) (zero : before ≡ 0) (found : Option BadKey) where
   pub system_judged : Finds (first_failing is_system (take 1) before (lines_of query.System (tables_of db))) found → JudgesTable System db found
   system_judged finds earlier =
-      judged (tables_of db) System (stored_in_order db) (λ r. r) is_system (take 1) (λ r has. refl) (system_test (tables_of db)) (tables_of db).system (same_lines (tables_of db).system) before zero found finds
+      judged (tables_of db) System (stored_in_order db) (λ r. r) is_system (take 1) (λ r has. refl) (system_test (tables_of db)) (tables_of db).system
+      (same_lines (tables_of db).system) before zero found finds
 
   pub kept_judged : Finds (first_failing is_kept (take 2) before (lines_of query.Kept (tables_of db))) found → JudgesTable Kept db found
   kept_judged finds earlier =
@@ -61,11 +62,13 @@ module _ (db : Database) (before : ℕ) (zero : before ≡ 0) (found : Option Ba
 
   pub plans_judged : Finds (first_failing is_plan (take 1) before (lines_of query.Plans (tables_of db))) found → JudgesTable Plans db found
   plans_judged finds earlier =
-      judged (tables_of db) Plans (stored_in_order db) (λ r. r) is_plan (take 1) (λ r has. refl) (plan_test (tables_of db)) (tables_of db).plans (same_lines (tables_of db).plans) before zero found finds
+      judged (tables_of db) Plans (stored_in_order db) (λ r. r) is_plan (take 1) (λ r has. refl) (plan_test (tables_of db)) (tables_of db).plans
+      (same_lines (tables_of db).plans) before zero found finds
 
   pub regions_judged : Finds (first_failing is_region (take 1) before (lines_of query.Regions (tables_of db))) found → JudgesTable Regions db found
   regions_judged finds earlier =
-      judged (tables_of db) Regions (stored_in_order db) (λ r. r) is_region (take 1) (λ r has. refl) (region_test (tables_of db)) (tables_of db).regions (same_lines (tables_of db).regions) before zero found finds
+      judged (tables_of db) Regions (stored_in_order db) (λ r. r) is_region (take 1) (λ r has. refl) (region_test (tables_of db)) (tables_of db).regions
+      (same_lines (tables_of db).regions) before zero found finds
 
   pub types_judged : IsOurs db → Finds (first_failing is_type (take 1) before (lines_of query.Types (tables_of db))) found → JudgesTable Types db found
   types_judged ours finds earlier =

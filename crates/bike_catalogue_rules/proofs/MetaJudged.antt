@@ -13,23 +13,24 @@ use Rattle.bike_judges.specs.declared.key.BadKey.{BadKey}
 use Rattle.bike_judges.specs.Judging.{key_row, Continues}
 use Rattle.bike_judges.specs.Verdicts.{IsTableVerdict, JudgesTable}
 use Rattle.bike_judges.specs.Least.{least_key}
-use Rattle.bike_catalogue_rules.specs.declared.meta.Sums.{Sums}
+use Rattle.bike_catalogue_rules.specs.declared.meta.CashAndRevenue.{CashAndRevenue}
 use Rattle.bike_catalogue_rules.specs.Sums.{after_entry, is_meta, one_key, first_meta}
 use Rattle.bike_catalogue_rules.proofs.EntrySums.{entries_of, cash_sum, revenue_sum}
 use Rattle.bike_catalogue_rules.proofs.Judged.{Finds}
 use Rattle.bike_catalogue_rules.proofs.MetaRules.{meta_verdict}
 
 -- nothing is added up yet
-abbrev pub no_sums : Sums
+abbrev pub no_sums : CashAndRevenue
 no_sums = record { cash = pos 0; revenue = pos 0 }
 
 from_none : (z : ℤ) → pos 0 +ℤ z ≡ z
 from_none z = omega (arith, ints)
 
-pub meta_judged : (db : Database) (sums : Sums) → sums ≡ fold after_entry no_sums (tables_of db).entries → (found : Option BadKey) → Finds (first_meta (is_meta sums) false (tables_of db).meta) found → JudgesTable Meta db found
+pub meta_judged : (db : Database) (sums : CashAndRevenue) → sums ≡ fold after_entry no_sums (tables_of db).entries → (found : Option BadKey)
+    → Finds (first_meta (is_meta sums) false (tables_of db).meta) found → JudgesTable Meta db found
 meta_judged db sums total found finds earlier =
-    let cash : sums.cash ≡ cash_of (entries_of (tables_of db).entries) = ap (λ (s : Sums). s.cash) total ∙ cash_sum no_sums (tables_of db).entries ∙ from_none _ in
-    let revenue : sums.revenue ≡ revenue_of (entries_of (tables_of db).entries) = ap (λ (s : Sums). s.revenue) total ∙ revenue_sum no_sums (tables_of db).entries ∙ from_none _ in
+    let cash : sums.cash ≡ cash_of (entries_of (tables_of db).entries) = ap (λ (s : CashAndRevenue). s.cash) total ∙ cash_sum no_sums (tables_of db).entries ∙ from_none _ in
+    let revenue : sums.revenue ≡ revenue_of (entries_of (tables_of db).entries) = ap (λ (s : CashAndRevenue). s.revenue) total ∙ revenue_sum no_sums (tables_of db).entries ∙ from_none _ in
     subst (IsTableVerdict (tables_of db) Meta) (sym (finds (first_meta (is_meta sums) false (tables_of db).meta) refl)) (meta_verdict (tables_of db) (stored_in_order db) sums cash revenue)
 
 -- ---- one more row

@@ -12,9 +12,9 @@ use Rattle.sqlite_value.specs.Order.{Row, row_cmp}
 use Rattle.sqlite_value.proofs.OrderLemmas.{row_cmp_total}
 use Rattle.sqlite_rules.specs.Lists.{Has}
 use Rattle.bike_fields.proofs.Lengths.{both_hold}
-use Rattle.bike_rows.specs.View.{by_key}
-use Rattle.bike_rows.proofs.OrderLemmas.{Rises, all_has}
-use Rattle.bike_rows.proofs.TreeLemmas.{by_key_total}
+use Rattle.bike_sql.specs.View.{by_key}
+use Rattle.bike_sql.proofs.OrderLemmas.{Rises, all_has}
+use Rattle.bike_sql.proofs.TreeLemmas.{by_key_total}
 use Rattle.bike_ledger.specs.Ledger.{cash_of, revenue_of}
 use Rattle.bike_book.specs.declared.version.TheConstants.{NEWEST}
 use Rattle.bike_book.specs.Tables.{Tables, Meta}
@@ -27,11 +27,11 @@ use Rattle.bike_readings.proofs.Places.{has_under, under_has}
 use Rattle.bike_readings.proofs.RowRules.{some_with}
 use Rattle.bike_judges.specs.Verdicts.{IsTableVerdict}
 use Rattle.bike_judges.specs.Least.{least_key}
-use Rattle.bike_catalogue_rules.specs.declared.meta.Sums.{Sums}
+use Rattle.bike_catalogue_rules.specs.declared.meta.CashAndRevenue.{CashAndRevenue}
 use Rattle.bike_catalogue_rules.specs.Sums.{has_sums, is_meta, one_key, first_meta}
 use Rattle.bike_catalogue_rules.proofs.EntrySums.{entries_of}
 
-module _ (t : Tables) (up : AreInOrder t) (sums : Sums) (cash : sums.cash ≡ cash_of (entries_of t.entries)) (revenue : sums.revenue ≡ revenue_of (entries_of t.entries)) where
+module _ (t : Tables) (up : AreInOrder t) (sums : CashAndRevenue) (cash : sums.cash ≡ cash_of (entries_of t.entries)) (revenue : sums.revenue ≡ revenue_of (entries_of t.entries)) where
   abbrev IsGood : Row → Type 0
   IsGood r = (n : ℕ) → IsSomeAnd (meta_read r) (IsGoodMeta (operator_of t) n)
 
@@ -145,7 +145,9 @@ module _ (t : Tables) (up : AreInOrder t) (sums : Sums) (cash : sums.cash ≡ ca
         let also = row_good (take 1 x) x (found r (x ∷ rest) is x (inr (inl refl))) good in
         less_apart (take 1 r) (take 1 x) one_key (rise r (x ∷ rest) is).0.0 (good_key r passes) (good_key x also));
     own = subst (λ (o : Option Row). IfSome o (λ row. take 1 row ≡ take 1 x)) (sym (found r (x ∷ rest) is x (inr (inl refl)))) refl;
-    before = λ other low. good_under other (λ y under. below y (had r (x ∷ rest) is y (under_has 1 other t.meta y under).0) (row_cmp_total.congr (take 1 y) other (take 1 x) (under_has 1 other t.meta y under).1 ∙ low)) (lacks r (x ∷ rest) is passes other);
+    before =
+        λ other low. good_under other (λ y under. below y (had r (x ∷ rest) is y (under_has 1 other t.meta y under).0)
+        (row_cmp_total.congr (take 1 y) other (take 1 x) (under_has 1 other t.meta y under).1 ∙ low)) (lacks r (x ∷ rest) is passes other);
   }
     where
       below : (y : Row) → Has (r ∷ x ∷ rest) y → by_key 1 y x ≡ Less → is_meta sums y ≡ true
@@ -162,7 +164,8 @@ module _ (t : Tables) (up : AreInOrder t) (sums : Sums) (cash : sums.cash ≡ ca
   none_there is = record {
     bad = none_bad (none one_key);
     own = subst (λ (o : Option Row). IfSome o (λ row. take 1 row ≡ one_key)) (sym (none one_key)) tt;
-    before = λ other low. good_under other (λ x under. let both : ◌≡◌ {A = Option Row} None (Some x) = sym (none other) ∙ under in absurd cc) (λ gone one. less_apart other one_key one_key low one refl);
+    before =
+        λ other low. good_under other (λ x under. let both : ◌≡◌ {A = Option Row} None (Some x) = sym (none other) ∙ under in absurd cc) (λ gone one. less_apart other one_key one_key low one refl);
   }
     where
       none : (key : Row) → row_under t Meta key ≡ None
@@ -177,8 +180,11 @@ module _ (t : Tables) (up : AreInOrder t) (sums : Sums) (cash : sums.cash ≡ ca
   at_first r rest is fails = go (row_cmp one_key (take 1 r)) refl where
     go : (o : Ordering) → row_cmp one_key (take 1 r) ≡ o → IsTableVerdict t Meta (cond (is_lt (row_cmp one_key (take 1 r))) (Some one_key) (Some (take 1 r)))
     go Less e = subst (λ (b : Bool). IsTableVerdict t Meta (cond b (Some one_key) (Some (take 1 r)))) (sym (ap is_lt e)) (missing r rest is e)
-    go Equal e = subst (λ (b : Bool). IsTableVerdict t Meta (cond b (Some one_key) (Some (take 1 r)))) (sym (ap is_lt e)) (first_bad r rest is fails (λ low. let both : Less ≡ Equal = sym low ∙ e in absurd cc))
-    go Greater e = subst (λ (b : Bool). IsTableVerdict t Meta (cond b (Some one_key) (Some (take 1 r)))) (sym (ap is_lt e)) (first_bad r rest is fails (λ low. let both : Less ≡ Greater = sym low ∙ e in absurd cc))
+    go Equal e =
+        subst (λ (b : Bool). IsTableVerdict t Meta (cond b (Some one_key) (Some (take 1 r)))) (sym (ap is_lt e)) (first_bad r rest is fails (λ low. let both : Less ≡ Equal = sym low ∙ e in absurd cc))
+    go Greater e =
+        subst (λ (b : Bool). IsTableVerdict t Meta (cond b (Some one_key) (Some (take 1 r)))) (sym (ap is_lt e))
+        (first_bad r rest is fails (λ low. let both : Less ≡ Greater = sym low ∙ e in absurd cc))
 
   -- THE VERDICT on meta
   pub meta_verdict : IsTableVerdict t Meta (first_meta (is_meta sums) false t.meta)

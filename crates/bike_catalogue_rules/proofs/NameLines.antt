@@ -5,7 +5,7 @@ use Rattle.std.specs.FinMap as fin
 use Rattle.sqlite_value.specs.declared.value.Value.TheVariants.{Text}
 use Rattle.sqlite_value.specs.Order.{Row, column}
 use Rattle.sqlite_rules.specs.Lists.{Has}
-use Rattle.bike_rows.specs.View.{partner}
+use Rattle.bike_sql.specs.View.{partner}
 use Rattle.bike_catalogue.specs.Rows.{SystemRow}
 use Rattle.bike_fields.specs.declared.name_kind.NameKind.{NameKind}
 use Rattle.bike_fields.specs.declared.name_kind.NameKind.TheVariants as named
@@ -55,7 +55,8 @@ also_true true = refl
 also_true false = refl
 
 -- what has the name is there exactly where the system is that, and so are a place and an offer
-pub named_parts : (s : Operator) (x : SystemRow) → s.system ≡ Some x → (kind : NameKind) (id : List ℕ) → has_named s kind id ≡ is_own_id (system_key x) kind id && (place_named s kind id && offer_named s kind id)
+pub named_parts : (s : Operator) (x : SystemRow) → s.system ≡ Some x → (kind : NameKind) (id : List ℕ)
+    → has_named s kind id ≡ is_own_id (system_key x) kind id && (place_named s kind id && offer_named s kind id)
 named_parts s x set named.System id = ap (λ (o : Option SystemRow). is_system o id) set ∙ also_true (is_system (Some x) id)
 named_parts s x set named.Station id = also_true (fin.contains_key s.stations id)
 named_parts s x set named.«Type» id = refl
@@ -99,12 +100,14 @@ module _ (t : Tables) (up : AreInOrder t) (wide : AreWide t) (row : Row) (has : 
 
   station_there : is_some (station_read (part more_names.COLUMNS stations.COLUMNS (places_line t row))) ≡ fin.contains_key s.stations e.1
   station_there =
-      ap (λ (r : Row). is_some (station_read r)) (second_part more_names.COLUMNS stations.COLUMNS row (beside stations.COLUMNS t.stations) (beside regions.COLUMNS t.regions) (wide.more_names row has) stations_wide)
+      ap (λ (r : Row). is_some (station_read r)) (second_part more_names.COLUMNS stations.COLUMNS row (beside stations.COLUMNS t.stations) (beside regions.COLUMNS t.regions)
+      (wide.more_names row has) stations_wide)
       ∙ is_there station_in station_key station_read (λ r. mapped_some station_part (station_read r)) stations.COLUMNS t.stations (up Stations) refl (column row 1) e.1 id_is
 
   region_there : is_some (region_read (part (more_names.COLUMNS + stations.COLUMNS) regions.COLUMNS (places_line t row))) ≡ fin.contains_key s.regions e.1
   region_there =
-      ap (λ (r : Row). is_some (region_read r)) (third_part more_names.COLUMNS stations.COLUMNS regions.COLUMNS row (beside stations.COLUMNS t.stations) (beside regions.COLUMNS t.regions) (wide.more_names row has) stations_wide regions_wide)
+      ap (λ (r : Row). is_some (region_read r)) (third_part more_names.COLUMNS stations.COLUMNS regions.COLUMNS row (beside stations.COLUMNS t.stations) (beside regions.COLUMNS t.regions)
+      (wide.more_names row has) stations_wide regions_wide)
       ∙ is_there region_read region_key region_read (λ r. refl) regions.COLUMNS t.regions (up Regions) refl (column row 1) e.1 id_is
 
   type_there : is_some (type_read (part more_names.COLUMNS types.COLUMNS (offers_line t row))) ≡ fin.contains_key s.types e.1
@@ -114,7 +117,8 @@ module _ (t : Tables) (up : AreInOrder t) (wide : AreWide t) (row : Row) (has : 
 
   named_plan_there : is_some (plan_read (part (more_names.COLUMNS + types.COLUMNS) plans.COLUMNS (offers_line t row))) ≡ fin.contains_key s.plans e.1
   named_plan_there =
-      ap (λ (r : Row). is_some (plan_read r)) (third_part more_names.COLUMNS types.COLUMNS plans.COLUMNS row (beside types.COLUMNS t.types) (beside plans.COLUMNS t.plans) (wide.more_names row has) types_wide plans_wide)
+      ap (λ (r : Row). is_some (plan_read r)) (third_part more_names.COLUMNS types.COLUMNS plans.COLUMNS row (beside types.COLUMNS t.types) (beside plans.COLUMNS t.plans)
+      (wide.more_names row has) types_wide plans_wide)
       ∙ plan_there t up row 1 e.1 id_is
 
   pub place_is : (n : ℕ) → has_place n (places_line t row) ≡ place_named s e.0 e.1

@@ -14,7 +14,7 @@ use Rattle.bike_fields.specs.NameKinds.{kind_text}
 use Rattle.bike_operator.specs.Operator.{text_cmp, name_key}
 use Rattle.bike_book.specs.Rows.{name_row}
 use Rattle.bike_book.proofs.Keys.{texts}
-use Rattle.bike_rows.specs.View.{by_key}
+use Rattle.bike_sql.specs.View.{by_key}
 use Rattle.bike_readings.specs.Readings.{name_read}
 use Rattle.bike_readings.proofs.CatalogueRows.{name_reading}
 use Rattle.bike_catalogue_rules.specs.Names.{FurtherName, is_of_same}

@@ -4,9 +4,9 @@ use Rattle.std.specs.Prelude.{take}
 use Rattle.std.specs.declared.cmp.Ordering.TheVariants.{Less}
 use Rattle.sqlite_value.specs.Order.{Row}
 use Rattle.sqlite_rules.specs.Lists.{Has}
-use Rattle.bike_rows.specs.View.{by_key}
-use Rattle.bike_rows.proofs.OrderLemmas.{Rises}
-use Rattle.bike_rows.proofs.TreeLemmas.{by_key_total}
+use Rattle.bike_sql.specs.View.{by_key}
+use Rattle.bike_sql.proofs.OrderLemmas.{Rises}
+use Rattle.bike_sql.proofs.TreeLemmas.{by_key_total}
 use Rattle.bike_operator.specs.Operator.{Operator, NameKey}
 use Rattle.bike_book.specs.Tables.{Tables, MoreNames}
 use Rattle.bike_book.proofs.Keys.{triples, triple_key, name_triple, IsTriple}
@@ -49,7 +49,8 @@ module _ (t : Tables) (up : AreInOrder t) (own : Option SystemKey) where
       ap (λ (es : List (NameKey × List ℕ)). length (low_names e es)) (entries_read triples name_in name_spells t.more_names (up MoreNames)) ∙ spelled_before e t.more_names
       ∙ ap (λ (rows : List Row). length (filter (λ z. precedes e (name_read z)) rows)) is ∙ ap length (preceding before r rest e (subst (Rises (by_key_total 3)) is (up MoreNames)) read)
 
-  each : (before rest : List Row) → t.more_names ≡ before ++ rest → (last : Option FurtherName) (run n : ℕ) → IsRun before last run → first_misnamed own last run rest ≡ first_failing test (take 3) n rest
+  each : (before rest : List Row) → t.more_names ≡ before ++ rest → (last : Option FurtherName) (run n : ℕ) → IsRun before last run
+      → first_misnamed own last run rest ≡ first_failing test (take 3) n rest
   unfolding first_misnamed first_failing
   each before [] is last run n so_far = refl
   each before (r ∷ rest) is last run n so_far = go (name_read r) refl (λ last m so_far. each (before ++ r ∷ []) rest (is ∙ sym (append_assoc before (r ∷ []) rest)) last m (suc n) so_far) where
@@ -67,7 +68,8 @@ module _ (t : Tables) (up : AreInOrder t) (own : Option SystemKey) where
         at : names_since last run e ≡ length (names_before s e.0 e.1 e.2.language)
         at = so_far r e read below ∙ sym (counted before r rest e is read)
 
-        by : (b : Bool) → misnamed_or r (cond b (Some (suc (names_since last run e))) None) (λ m. first_misnamed own (Some e) m rest) ≡ cond b (first_failing test (take 3) (suc n) rest) (Some (take 3 r))
+        by : (b : Bool) → misnamed_or r (cond b (Some (suc (names_since last run e))) None) (λ m. first_misnamed own (Some e) m rest)
+            ≡ cond b (first_failing test (take 3) (suc n) rest) (Some (take 3 r))
         by true = later (Some e) (suc (names_since last run e)) (next_is_run before last run r e so_far read below)
         by false = refl
 

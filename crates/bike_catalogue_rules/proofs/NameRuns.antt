@@ -1,5 +1,6 @@
 -- The names of one thing stand together: how many stand just before a row is how many of that thing have lesser languages.
-use Rattle.std.proofs.Common.{◌≡◌, inl, inr, ◌⊎◌, ℕ, suc, ◌+◌, List, [], ◌∷◌, ◌++◌, length, length-append, map, filter, Bool, true, false, cond, ◌&&◌, Option, Some, None, refl, sym, ap, ap₂, ◌∙◌, subst, arith}
+use Rattle.std.proofs.Common.{◌≡◌, inl, inr, ◌⊎◌, ℕ, suc, ◌+◌, List, [], ◌∷◌, ◌++◌, length, length-append, map, filter, Bool, true, false, cond, ◌&&◌, Option, Some, None, refl, sym, ap, ap₂, ◌∙◌}
+use Rattle.std.proofs.Common.{subst, arith}
 use Rattle.std.specs.List.{filter_map, cons_option}
 use Rattle.std.specs.Prelude.{option_map}
 use Rattle.std.specs.Str.{bytes_eq}
@@ -10,9 +11,9 @@ use Rattle.std.proofs.lemmas.Cmp.{tied_itself}
 use Rattle.std.proofs.lemmas.List.Elements.{filter-append}
 use Rattle.sqlite_value.specs.Order.{Row}
 use Rattle.sqlite_rules.specs.Lists.{Has}
-use Rattle.bike_rows.specs.View.{by_key}
-use Rattle.bike_rows.proofs.OrderLemmas.{Rises, all_has}
-use Rattle.bike_rows.proofs.TreeLemmas.{by_key_total}
+use Rattle.bike_sql.specs.View.{by_key}
+use Rattle.bike_sql.proofs.OrderLemmas.{Rises, all_has}
+use Rattle.bike_sql.proofs.TreeLemmas.{by_key_total}
 use Rattle.bike_fields.specs.NameKinds.{kind_text}
 use Rattle.bike_catalogue.specs.Rows.{MoreNameRow}
 use Rattle.bike_operator.specs.Operator.{NameKey, text_cmp, name_key}
@@ -122,10 +123,12 @@ shares_as a e same rows = filter_same (λ r. shares a (name_read r)) (λ r. shar
   go None = refl
   go (Some b) = ap₂ (λ (k i : List ℕ). bytes_eq (kind_text b.0) k && bytes_eq b.1 i) same.kinds same.ids
 
-pub next_is_run : (before : List Row) (last : Option FurtherName) (run : ℕ) (r : Row) (a : FurtherName) → IsRun before last run → name_read r ≡ Some a → ((z : Row) → Has before z → by_key 3 z r ≡ Less)
+pub next_is_run : (before : List Row) (last : Option FurtherName) (run : ℕ) (r : Row) (a : FurtherName) → IsRun before last run → name_read r ≡ Some a
+    → ((z : Row) → Has before z → by_key 3 z r ≡ Less)
     → IsRun (before ++ r ∷ []) (Some a) (suc (names_since last run a))
 next_is_run before last run r a so_far read below x e is low =
-    by (is_of_same a e) refl ∙ sym (ap length (filter-append (λ z. shares e (name_read z)) before (r ∷ [])) ∙ ap (λ (o : Option FurtherName). length (shared e before ++ cond (shares e o) (r ∷ []) [])) read)
+    by (is_of_same a e) refl ∙ sym (ap length (filter-append (λ z. shares e (name_read z)) before (r ∷ []))
+    ∙ ap (λ (o : Option FurtherName). length (shared e before ++ cond (shares e o) (r ∷ []) [])) read)
   where
     earlier : (xs : List Row) (z : Row) → Has xs z → Has (xs ++ r ∷ []) z
     earlier [] z h = elim h [ ]

@@ -112,7 +112,8 @@ module _ (t : Tables) (up : AreInOrder t) (wide : AreWide t) (own : Option Syste
         (offer_is t up wide r has it.value it.value_is below ∙ each.offer);
   }
     where
-      good : (below : ℕ) (r : Row) → Has t.more_names r → (o : Option FurtherName) → name_read r ≡ o → is_placed own s (name_read r) ≡ true → with_place below r ≡ true → with_offer below r ≡ true → IsSomeAnd (name_read r) (IsGoodName s below)
+      good : (below : ℕ) (r : Row) → Has t.more_names r → (o : Option FurtherName) → name_read r ≡ o → is_placed own s (name_read r) ≡ true → with_place below r ≡ true → with_offer below r ≡ true
+          → IsSomeAnd (name_read r) (IsGoodName s below)
       good below r has None read follows place offer = absurd (let never : is_placed own s None ≡ true = ap (is_placed own s) (sym read) ∙ follows in cc)
       good below r has (Some e) read follows place offer =
           some_and (IsGoodName s below) (name_read r) e read
@@ -126,7 +127,8 @@ module _ (t : Tables) (up : AreInOrder t) (wide : AreWide t) (own : Option Syste
   line_key r rest has = let four = wide.more_names r has in take-append-le 3 r rest (omega (arith, four))
 
   -- THE VERDICT on names
-  pub names_verdict : (a b c : Option Row) → first_misnamed own None 0 (lines_of query.Names t) ≡ a → first_failing has_place (take 3) 0 (lines_of query.NamePlaces t) ≡ b → first_failing has_offer (take 3) 0 (lines_of query.NameOffers t) ≡ c
+  pub names_verdict : (a b c : Option Row) → first_misnamed own None 0 (lines_of query.Names t) ≡ a → first_failing has_place (take 3) 0 (lines_of query.NamePlaces t) ≡ b
+      → first_failing has_offer (take 3) 0 (lines_of query.NameOffers t) ≡ c
       → IsTableVerdict t MoreNames (least_key (least_key a b) c)
   names_verdict a b c order place offer =
       let first = rows_verdict t MoreNames up placed (take 3) (λ r has. refl) a (sym (misnamed_failing t up own) ∙ order) in

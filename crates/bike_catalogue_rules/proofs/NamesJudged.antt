@@ -42,7 +42,8 @@ key_found found [] = key_kept found.key
 key_found found (row ∷ rows) = key_found (with_system found row) rows ∙ key_then found.key (system_read row) (filter_map system_read rows)
 
 -- .. which is that of the operator
-pub own_is : (db : Database) (start found : FirstSystem) → start.key ≡ None → found ≡ fold with_system start (lines_of query.System (tables_of db)) → found.key ≡ option_map system_key (operator_of (tables_of db)).system
+pub own_is : (db : Database) (start found : FirstSystem) → start.key ≡ None → found ≡ fold with_system start (lines_of query.System (tables_of db))
+    → found.key ≡ option_map system_key (operator_of (tables_of db)).system
 own_is db start found none is =
     ap (λ (f : FirstSystem). f.key) is ∙ key_found start (tables_of db).system ∙ ap (λ (o : Option SystemKey). key_or o (operator_of (tables_of db)).system) none
 
@@ -58,7 +59,8 @@ pub record AreFound (own : Option SystemKey) (order place : Option BadKey) (db :
 
 -- the least of the three keys is the verdict
 pub names_judged : (db : Database) (own : Option SystemKey) (order place offer least : Option BadKey)
-    → option_map key_row least ≡ least_key (least_key (option_map key_row order) (option_map key_row place)) (option_map key_row offer) → AreFound own order place db offer → JudgesTable MoreNames db least
+    → option_map key_row least ≡ least_key (least_key (option_map key_row order) (option_map key_row place)) (option_map key_row offer) → AreFound own order place db offer
+    → JudgesTable MoreNames db least
 names_judged db own order place offer least least_is found earlier =
     subst (IsTableVerdict (tables_of db) MoreNames) (sym least_is)
     (names_verdict (tables_of db) (stored_in_order db) (are_wide db found.ours.has) own found.own_is (option_map key_row order) (option_map key_row place) (option_map key_row offer)

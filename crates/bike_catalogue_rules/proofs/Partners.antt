@@ -8,9 +8,9 @@ use Rattle.sqlite_value.specs.declared.value.Value.{Value}
 use Rattle.sqlite_value.specs.declared.value.Value.TheVariants.{Text}
 use Rattle.sqlite_value.specs.Order.{Row}
 use Rattle.sqlite_rules.specs.Lists.{Has}
-use Rattle.bike_rows.specs.View.{row_with, partner}
-use Rattle.bike_rows.proofs.OrderLemmas.{Rises}
-use Rattle.bike_rows.proofs.TreeLemmas.{by_key_total}
+use Rattle.bike_sql.specs.View.{row_with, partner}
+use Rattle.bike_sql.proofs.OrderLemmas.{Rises}
+use Rattle.bike_sql.proofs.TreeLemmas.{by_key_total}
 use Rattle.bike_operator.specs.Operator.{text_cmp}
 use Rattle.bike_book.proofs.Keys.{text_key, texts}
 use Rattle.bike_readings.proofs.Places.{under_has}

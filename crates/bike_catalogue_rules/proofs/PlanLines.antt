@@ -5,7 +5,7 @@ use Rattle.std.specs.List.{filter_map}
 use Rattle.std.specs.FinMap as fin
 use Rattle.sqlite_value.specs.declared.value.Value.TheVariants.{Text}
 use Rattle.sqlite_value.specs.Order.{Row, column}
-use Rattle.bike_rows.specs.View.{partner}
+use Rattle.bike_sql.specs.View.{partner}
 use Rattle.bike_catalogue.specs.Rows.{PlanRow}
 use Rattle.bike_operator.specs.Operator.{text_cmp}
 use Rattle.bike_book.specs.Tables.{Tables, Plans}

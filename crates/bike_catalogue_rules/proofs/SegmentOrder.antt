@@ -8,8 +8,8 @@ use Rattle.std.proofs.lemmas.Cmp.{tied_itself}
 use Rattle.sqlite_value.specs.Order.{Row}
 use Rattle.sqlite_value.proofs.OrderLemmas.{value_cmp-Text, then-Equal}
 use Rattle.sqlite_rules.specs.Lists.{Has}
-use Rattle.bike_rows.specs.View.{by_key}
-use Rattle.bike_rows.proofs.OrderLemmas.{Rises, all_has}
+use Rattle.bike_sql.specs.View.{by_key}
+use Rattle.bike_sql.proofs.OrderLemmas.{Rises, all_has}
 use Rattle.bike_fields.specs.Values.{SegmentRow}
 use Rattle.bike_operator.specs.Operator.{text_cmp, item_at, item_numbered}
 use Rattle.bike_book.specs.Rows.{segment_row}
@@ -28,8 +28,10 @@ unfolding segments_from
 next_found rows id seq zero i x g is few there = absurd cc
 next_found rows id seq (suc zero) i x g is few there = absurd (omega (arith, few))
 next_found rows id seq (suc (suc most)) i x g is few there = go (segment_at rows id seq) refl i is few there (λ j. next_found rows id (suc seq) (suc most) j x g) where
-  go : (o : Option SegmentRow) → segment_at rows id seq ≡ o → (i : ℕ) → item_at i (and_after o (segments_from rows id (suc seq) (suc most))) ≡ Some x → suc i < suc (suc most) → segment_at rows id (seq + suc i) ≡ Some g
-      → ((j : ℕ) → item_at j (segments_from rows id (suc seq) (suc most)) ≡ Some x → suc j < suc most → segment_at rows id (suc seq + suc j) ≡ Some g → item_at (suc j) (segments_from rows id (suc seq) (suc most)) ≡ Some g)
+  go : (o : Option SegmentRow) → segment_at rows id seq ≡ o → (i : ℕ) → item_at i (and_after o (segments_from rows id (suc seq) (suc most))) ≡ Some x → suc i < suc (suc most)
+      → segment_at rows id (seq + suc i) ≡ Some g
+      → ((j : ℕ) → item_at j (segments_from rows id (suc seq) (suc most)) ≡ Some x → suc j < suc most → segment_at rows id (suc seq + suc j) ≡ Some g
+      → item_at (suc j) (segments_from rows id (suc seq) (suc most)) ≡ Some g)
       → item_at (suc i) (and_after (segment_at rows id seq) (segments_from rows id (suc seq) (suc most))) ≡ Some g
   go None e i is few there rest = absurd cc
   go (Some y) e zero is few there rest =
@@ -44,7 +46,8 @@ next_found rows id seq (suc (suc most)) i x g is few there = go (segment_at rows
 pub first_numbered : (rows : List Row) (id : List ℕ) (g : SegmentRow) → segment_at rows id 1 ≡ Some g → item_numbered 1 (segments_of rows id) ≡ Some g
 first_numbered rows id g is = first_found rows id 1 7 g is
 
-pub next_numbered : (rows : List Row) (id : List ℕ) (n : ℕ) (x g : SegmentRow) → item_numbered n (segments_of rows id) ≡ Some x → suc n ≤ 8 → segment_at rows id (suc n) ≡ Some g → item_numbered (suc n) (segments_of rows id) ≡ Some g
+pub next_numbered : (rows : List Row) (id : List ℕ) (n : ℕ) (x g : SegmentRow) → item_numbered n (segments_of rows id) ≡ Some x → suc n ≤ 8 → segment_at rows id (suc n) ≡ Some g
+    → item_numbered (suc n) (segments_of rows id) ≡ Some g
 next_numbered rows id zero x g is few there = absurd cc
 next_numbered rows id (suc i) x g is few there = let number : 1 + suc i ≡ suc (suc i) = omega arith in next_found rows id 1 8 i x g is (omega (arith, few)) (ap (segment_at rows id) number ∙ there)
 
@@ -64,7 +67,8 @@ below_next id n g h =
     segment_cmp id id n (suc n) g h ∙ ap (λ (o : Ordering). ordering_then o (nat_cmp n (suc n))) (tied_itself texts.total id) ∙ sym (nat_cmp_is n (suc n) Less (omega arith))
 
 -- no segment stands between one and the next
-pub none_between : (id other : List ℕ) (n seq : ℕ) (g h k : SegmentRow) → by_key 2 (segment_row id n g) (segment_row other seq h) ≡ Less → by_key 2 (segment_row other seq h) (segment_row id (suc n) k) ≡ Less → ⊥
+pub none_between : (id other : List ℕ) (n seq : ℕ) (g h k : SegmentRow) → by_key 2 (segment_row id n g) (segment_row other seq h) ≡ Less
+    → by_key 2 (segment_row other seq h) (segment_row id (suc n) k) ≡ Less → ⊥
 none_between id other n seq g h k low high = go (text_cmp id other) refl where
   first : ordering_then (text_cmp id other) (nat_cmp n seq) ≡ Less
   first = sym (segment_cmp id other n seq g h) ∙ low

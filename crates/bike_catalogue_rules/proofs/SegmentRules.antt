@@ -1,5 +1,6 @@
 -- The first segment that isn't the next one of its plan is the first bad row of segments.
-use Rattle.std.proofs.Common.{◌≡◌, inl, inr, ◌⊎◌, ℕ, zero, suc, ◌+◌, List, [], ◌∷◌, ◌++◌, append_assoc, length, map, Bool, true, false, cond, ◌&&◌, ◌||◌, Option, Some, None, is_some, refl, sym, ap, ◌∙◌, subst, arith}
+use Rattle.std.proofs.Common.{◌≡◌, inl, inr, ◌⊎◌, ℕ, zero, suc, ◌+◌, List, [], ◌∷◌, ◌++◌, append_assoc, length, map, Bool, true, false, cond, ◌&&◌, ◌||◌, Option, Some, None, is_some, refl, sym, ap}
+use Rattle.std.proofs.Common.{◌∙◌, subst, arith}
 use Rattle.std.specs.Prelude.{take, option_map, IfSome, ◌==◌}
 use Rattle.std.specs.Option.{IsSomeAnd}
 use Rattle.std.specs.FinMap as fin
@@ -15,9 +16,9 @@ use Rattle.sqlite_value.specs.Order.{Row, column, row_cmp}
 use Rattle.sqlite_value.proofs.OrderLemmas.{row_cmp_total}
 use Rattle.sqlite_rules.specs.Lists.{Has}
 use Rattle.bike_fields.proofs.Lengths.{both_hold}
-use Rattle.bike_rows.specs.View.{by_key}
-use Rattle.bike_rows.proofs.OrderLemmas.{Rises, all_has}
-use Rattle.bike_rows.proofs.TreeLemmas.{by_key_total}
+use Rattle.bike_sql.specs.View.{by_key}
+use Rattle.bike_sql.proofs.OrderLemmas.{Rises, all_has}
+use Rattle.bike_sql.proofs.TreeLemmas.{by_key_total}
 use Rattle.bike_fields.specs.Values.{SegmentRow}
 use Rattle.bike_catalogue.specs.Rows.{PlanRow}
 use Rattle.bike_operator.specs.Operator.{item_numbered}
@@ -201,7 +202,8 @@ module _ (t : Tables) (up : AreInOrder t) (wide : AreWide t) where
           record { id = e.0; seq = e.1; segment = it.segment; plan = it.plan; read_is = it.read_is; found = it.found; segment_is = next_is e it h }
 
     -- the row of the number before stands just before
-    just_before : (id : List ℕ) (n : ℕ) (g : SegmentRow) → segment_read r ≡ Some (id, suc n, g) → (x : SegmentRow) → segment_at rows id n ≡ Some x → (p : PlanRow) → fin.get (operator_of t).plans id ≡ Some p → b ≡ Some (id, n)
+    just_before : (id : List ℕ) (n : ℕ) (g : SegmentRow) → segment_read r ≡ Some (id, suc n, g) → (x : SegmentRow) → segment_at rows id n ≡ Some x → (p : PlanRow)
+        → fin.get (operator_of t).plans id ≡ Some p → b ≡ Some (id, n)
     just_before id n g read x at p found = go last where
       row_is : r ≡ segment_row id (suc n) g
       row_is = (segment_reading.sound r (id, suc n, g) read).0
@@ -300,7 +302,8 @@ module _ (t : Tables) (up : AreInOrder t) (wide : AreWide t) where
   line_key : (r : Row) → length r ≡ 6 → take 2 (line r) ≡ take 2 r
   line_key r six = take-append-le 2 r _ (omega (arith, six))
 
-  each : (before rest : List Row) → rows ≡ before ++ rest → ((x : Row) → Has before x → IsPlaced x) → (b : Option (List ℕ × ℕ)) → IsLast before b → (v : Option Row) → first_astray b (map line rest) ≡ v → Came rest v
+  each : (before rest : List Row) → rows ≡ before ++ rest → ((x : Row) → Has before x → IsPlaced x) → (b : Option (List ℕ × ℕ)) → IsLast before b → (v : Option Row)
+      → first_astray b (map line rest) ≡ v → Came rest v
   unfolding first_astray
   each before [] is placed b last v e = subst (Came []) e (λ x h. elim h [ ])
   each before (r ∷ rest) is placed b last v e =

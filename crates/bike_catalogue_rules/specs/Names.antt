@@ -1,5 +1,7 @@
--- What is asked of the lines of names in further languages: by the system and the names before them, and with what has them beside them.
-use Rattle.std.specs.Prelude.{ℕ, suc, ◌+◌, nat_lt, List, [], ◌∷◌, take, Bool, true, false, not, ◌&&◌, if◌then◌else◌, Option, Some, None, is_some, option_map}
+-- What is asked of the lines of names in further languages: by the
+-- system and the names before them, and with what has them beside them.
+use Rattle.std.specs.Prelude.{ℕ, suc, ◌+◌, nat_lt, List, [], ◌∷◌, take, Bool, true, false, not, ◌&&◌, if◌then◌else◌}
+use Rattle.std.specs.Prelude.{Option, Some, None, is_some, option_map}
 use Rattle.std.specs.Str.{bytes_eq}
 use Rattle.sqlite_value.specs.Order.{Row}
 use Rattle.bike_book.specs.declared.columns.plans.TheConstants as plans
@@ -66,7 +68,8 @@ may_follow own before e = nat_lt before MOST_FURTHER_NAMES && is_further own e
 -- how many names of the same thing there are with this one, where it may follow
 abbrev pub next_run : Option SystemKey → Option FurtherName → ℕ → Option FurtherName → Option ℕ
 next_run own last run None = None
-next_run own last run (Some e) = if may_follow own (names_since last run e) e then Some (suc (names_since last run e)) else None
+next_run own last run (Some e) =
+    if may_follow own (names_since last run e) e then Some (suc (names_since last run e)) else None
 
 abbrev pub misnamed_or : Row → Option ℕ → (ℕ → Option Row) → Option Row
 misnamed_or line None rest = Some (take 3 line)
@@ -75,7 +78,8 @@ misnamed_or line (Some run) rest = rest run
 -- the key of the first line that isn't a name which may follow those before it
 unfoldable pub first_misnamed : Option SystemKey → Option FurtherName → ℕ → List Row → Option Row
 first_misnamed own last run [] = None
-first_misnamed own last run (x ∷ xs) = misnamed_or x (next_run own last run (name_read x)) (λ n. first_misnamed own (name_read x) n xs)
+first_misnamed own last run (x ∷ xs) =
+    misnamed_or x (next_run own last run (name_read x)) (λ n. first_misnamed own (name_read x) n xs)
 
 -- ---- names with what has them
 
@@ -86,7 +90,8 @@ is_place_there named.Station line = is_some (station_read (part more_names.COLUM
 is_place_there named.«Type» line = true
 is_place_there named.Plan line = true
 is_place_there named.Description line = true
-is_place_there named.Region line = is_some (region_read (part (more_names.COLUMNS + stations.COLUMNS) regions.COLUMNS line))
+is_place_there named.Region line =
+    is_some (region_read (part (more_names.COLUMNS + stations.COLUMNS) regions.COLUMNS line))
 
 -- so is a vehicle type or a plan
 abbrev pub is_offer_there : NameKind → Row → Bool
@@ -94,7 +99,8 @@ is_offer_there named.System line = true
 is_offer_there named.Station line = true
 is_offer_there named.«Type» line = is_some (type_read (part more_names.COLUMNS types.COLUMNS line))
 is_offer_there named.Plan line = is_some (plan_read (part (more_names.COLUMNS + types.COLUMNS) plans.COLUMNS line))
-is_offer_there named.Description line = is_some (plan_read (part (more_names.COLUMNS + types.COLUMNS) plans.COLUMNS line))
+is_offer_there named.Description line =
+    is_some (plan_read (part (more_names.COLUMNS + types.COLUMNS) plans.COLUMNS line))
 is_offer_there named.Region line = true
 
 -- the line spells a name, and this holds of its kind

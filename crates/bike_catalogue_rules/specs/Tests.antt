@@ -1,5 +1,7 @@
--- What is asked of the lines of the catalogue: a row of meta, system, plans, regions or kept, or a segment or a vehicle type with its plan beside it.
-use Rattle.std.specs.Prelude.{ℕ, ◌+◌, ◌==◌, ◌&&◌, ◌||◌, nat_lt, List, [], ◌∷◌, take, Bool, false, if◌then◌else◌, Option, Some, None, is_some, option_map}
+-- What is asked of the lines of the catalogue: a row of meta, system, plans,
+-- regions or kept, or a segment or a vehicle type with its plan beside it.
+use Rattle.std.specs.Prelude.{ℕ, ◌+◌, ◌==◌, ◌&&◌, ◌||◌, nat_lt, List, [], ◌∷◌, take, Bool, false, if◌then◌else◌, Option}
+use Rattle.std.specs.Prelude.{Some, None, is_some, option_map}
 use Rattle.std.specs.Str.{bytes_eq}
 use Rattle.sqlite_value.specs.Order.{Row}
 use Rattle.bike_book.specs.declared.columns.plans.TheConstants as plans
@@ -28,13 +30,16 @@ abbrev pub has_plan : ℕ → Row → Bool
 has_plan at line = is_some (plan_read (part at plans.COLUMNS line))
 
 abbrev pub is_type : ℕ → Row → Bool
-is_type before line = nat_lt before MOST_TYPES && (has_plan types.COLUMNS line && is_some (type_read (part 0 types.COLUMNS line)))
+is_type before line =
+    nat_lt before MOST_TYPES && (has_plan types.COLUMNS line && is_some (type_read (part 0 types.COLUMNS line)))
 
 -- ---- segments, each after the one before it
 
 -- the plan of a segment, where it is there, and the segment's number
 abbrev pub segment_name : Row → Option (List ℕ × ℕ)
-segment_name line = if has_plan segments.COLUMNS line then option_map (λ e. (e.0, e.1)) (segment_read (part 0 segments.COLUMNS line)) else None
+segment_name line =
+    if has_plan segments.COLUMNS line then option_map (λ e. (e.0, e.1)) (segment_read (part 0 segments.COLUMNS line))
+    else None
 
 -- it is the one after this in a plan
 abbrev pub comes_after : Option (List ℕ × ℕ) → List ℕ × ℕ → Bool
@@ -49,4 +54,5 @@ is_next before (Some e) = (e.1 == 1) || comes_after before e
 -- the key of the first segment that isn't the next one of a plan
 unfoldable pub first_astray : Option (List ℕ × ℕ) → List Row → Option Row
 first_astray before [] = None
-first_astray before (x ∷ xs) = if is_next before (segment_name x) then first_astray (segment_name x) xs else Some (take 2 x)
+first_astray before (x ∷ xs) =
+    if is_next before (segment_name x) then first_astray (segment_name x) xs else Some (take 2 x)

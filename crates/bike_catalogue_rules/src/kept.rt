@@ -1,7 +1,7 @@
 //! Kept requests.
 
 ghost use Rattle.std.specs.Prelude.{take, is_some};
-ghost use Rattle.bike_rows.specs.Calls.{ReadsWhere};
+ghost use Rattle.bike_sql.specs.Calls.{ReadsWhere};
 ghost use Rattle.bike_book.specs.Tables.{Kept};
 ghost use Rattle.bike_schema.specs.Tables.{IsOurs};
 ghost use Rattle.bike_readings.specs.Readings.{kept_read};

@@ -1,7 +1,7 @@
 //! The row of `meta`, whose sums are those of all entries.
 
 ghost use Rattle.std.specs.Prelude.{◌≡◌, IfOk, Some};
-ghost use Rattle.bike_rows.specs.Calls.{ReadsWhere};
+ghost use Rattle.bike_sql.specs.Calls.{ReadsWhere};
 ghost use Rattle.bike_book.specs.Tables.{Meta};
 ghost use Rattle.bike_schema.specs.Tables.{IsOurs};
 ghost use Rattle.bike_judges.specs.Verdicts.{JudgesTable};
@@ -17,14 +17,14 @@ use sqlite::{Alter, Connection, Row};
 
 /// What entries come to.
 #[derive(Drop)]
-pub(crate) struct Sums {
+pub(crate) struct CashAndRevenue {
     /// All top-ups, in hundredths.
     cash: i64,
     /// All fares less all refunds, in hundredths.
     revenue: i64,
 }
 
-impl LineFold for Sums {
+impl LineFold for CashAndRevenue {
     ghost after = { after_entry };
 
     fn add(&mut self, line: &Row) -> Result<(), StatementFault> {
@@ -54,7 +54,7 @@ fn sum(amount: Option<i64>) -> Result<i64, StatementFault>
 }
 
 /// Whether a line is a row of `meta` of the newest version with these sums.
-fn is_meta(sums: &Sums, line: &Row) -> bool
+fn is_meta(sums: &CashAndRevenue, line: &Row) -> bool
     ensures { result ≡ is_meta sums.now line.now }
 {
     match read_meta(Part::whole(line)) {
@@ -70,7 +70,7 @@ fn is_meta(sums: &Sums, line: &Row) -> bool
 /// Finds the first row of `meta` that isn't the one that has to be there, or that this is missing.
 #[derive(Drop)]
 struct MetaJudge {
-    sums: Sums,
+    sums: CashAndRevenue,
     /// Whether the one row was there.
     seen: bool,
 }
@@ -106,7 +106,7 @@ pub fn judge_meta<S: Alter>(conn: &mut Connection<S>) -> Result<Option<BadKey>, 
     let sums = fold_lines(
         conn,
         Query::Entries,
-        Sums {
+        CashAndRevenue {
             cash: 0,
             revenue: 0,
         },

@@ -1,5 +1,6 @@
 -- What clap has against the first of the words, and what follows of what is told.
-use Rattle.std.proofs.Common.{◌≡◌, ◌∙◌, ◌<◌, ℕ, zero, suc, ap, sym, subst, arith, min, map, take, length, get_or, slice_get, slice_index_or, Bor, List, [], ◌∷◌, ◌==◌, ◌-◌, Bool, true, false, if◌then◌else◌, refl, Option, Some, None, option_and_then, codes, inl, inr}
+use Rattle.std.proofs.Common.{◌≡◌, ◌∙◌, ◌<◌, ℕ, zero, suc, ap, sym, subst, arith, min, map, take, length, get_or, slice_get, slice_index_or, Bor, List, [], ◌∷◌, ◌==◌, ◌-◌, Bool, true, false}
+use Rattle.std.proofs.Common.{if◌then◌else◌, refl, Option, Some, None, option_and_then, codes, inl, inr}
 use Rattle.std.specs.Str.{bytes_eq}
 use Rattle.std.proofs.lemmas.Bool.{cases_lt}
 use Rattle.std.proofs.lemmas.List.{take-map, take_all}
@@ -12,9 +13,9 @@ use Rattle.bike_fixed.specs.Whole.{last_moment}
 use Rattle.bike_command_line.specs.Program.{program}
 use Rattle.bike_command_line.specs.Asked.{Found, name_in, value_in}
 use Rattle.bike_command_line.specs.Names.{IsBad, IsTaken, id_of, value_behind, word_name, word_named}
-use Rattle.bike_command_line.specs.Wrong.{IsWrong}
+use Rattle.bike_command_line.specs.BadValue.{IsWrong}
 use Rattle.bike_command_line.specs.Told.{Against, Begins, IsOfValue, IsOther, IsSo, IsUnknown, Leads, Offends, Otherwise, has_one_hyphen, value_meant}
-use Rattle.bike_command_line.specs.declared.task.Wrong.TheVariants.{Bad, Missing}
+use Rattle.bike_command_line.specs.declared.task.BadValue.TheVariants.{Bad, Missing}
 use Rattle.bike_command_line.specs.declared.value.Value.{Value}
 use Rattle.bike_command_line.specs.declared.word.Word.{Word}
 use Rattle.bike_command_line.specs.declared.word.Word.TheVariants as word

@@ -1,5 +1,6 @@
 -- What the words ask for.
-use Rattle.std.specs.Prelude.{◌≡◌, ◌==◌, ℕ, List, [], map, Option, Some, None, option_map, option_and_then, codes, if◌then◌else◌, Result, MatchResult}
+use Rattle.std.specs.Prelude.{◌≡◌, ◌==◌, ℕ, List, [], map, Option, Some, None, option_map, option_and_then, codes}
+use Rattle.std.specs.Prelude.{if◌then◌else◌, Result, MatchResult}
 use Rattle.std.specs.Borrow.{Bor}
 use Rattle.std.specs.List.{slice_split}
 use Rattle.std.specs.Str.{bytes_eq}
@@ -86,7 +87,9 @@ feed_task found = option_and_then (λ feed. option_map (λ at. Feed feed at) (mo
 
 abbrev pub day_task : Found → Option Wanted
 day_task found =
-    option_and_then (λ table. option_and_then (λ date. option_map (λ zone. Day table date zone) (value_in found (codes "zone"))) (value_in found (codes "date")))
+    option_and_then (λ table. option_and_then
+    (λ date. option_map (λ zone. Day table date zone) (value_in found (codes "zone")))
+    (value_in found (codes "date")))
     (table_in found)
 
 abbrev pub import_task : Found → Option Wanted
@@ -134,4 +137,6 @@ AskNothing texts = (task : Task) (file : Text) → Ask texts task file → ⊥
 
 -- this task on this file is told, where memory isn't refused
 abbrev pub IsTold : Task → Text → Result Words WordsFault → Type 0
-IsTold task file answer = MatchResult answer (λ words. (want_of words.task ≡ want_of task) × (words.file.now ≡ file)) (λ fault. fault ≡ NoMemory)
+IsTold task file answer =
+    MatchResult answer (λ words. (want_of words.task ≡ want_of task) × (words.file.now ≡ file))
+    (λ fault. fault ≡ NoMemory)

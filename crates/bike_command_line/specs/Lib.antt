@@ -1,6 +1,6 @@
 pub mod Program
 pub mod Asked
 pub mod Names
-pub mod Wrong
+pub mod BadValue
 pub mod Told
 pub mod Usage

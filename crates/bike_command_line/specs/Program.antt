@@ -1,6 +1,7 @@
--- The program as clap reads it: its words, each with its FILE and with what it takes besides. Nothing is required of clap: what a task
--- wants has to be found (`Asked.IsFound`).
-use Rattle.std.specs.Prelude.{◌≡◌, ◌==◌, ◌≤◌, ℕ, [], ◌∷◌, ◌++◌, fold, codes, decimal, Bool, true, nat_eq, if◌then◌else◌, List, Option, Some, None, IfSome}
+-- The program as clap reads it: its words, each with its FILE and with what it takes besides. Nothing is required of
+-- clap: what a task wants has to be found (`Asked.IsFound`).
+use Rattle.std.specs.Prelude.{◌≡◌, ◌==◌, ◌≤◌, ℕ, [], ◌∷◌, ◌++◌, fold, codes, decimal, Bool, true, nat_eq, if◌then◌else◌}
+use Rattle.std.specs.Prelude.{List, Option, Some, None, IfSome}
 use Rattle.std.specs.List.{list_any, slice_split, starts_with}
 use Rattle.std.specs.Str.Parse.{starts_with_minus}
 use Rattle.clap.specs.Words.{App, Rule, Text, new_app, new_rule, with_rule, with_subcommand}
@@ -44,7 +45,9 @@ named_word name = with_rule (with_rule (on_file name) (value_rule (codes "name")
 
 -- .. and the table WHICH of the day of a DATE in a ZONE
 abbrev pub day_word : App
-day_word = with_rule (with_rule (with_rule (on_file (codes "day")) (value_rule (codes "which"))) (value_rule (codes "date"))) (value_rule (codes "zone"))
+day_word =
+    with_rule (with_rule (with_rule (on_file (codes "day")) (value_rule (codes "which"))) (value_rule (codes "date")))
+    (value_rule (codes "zone"))
 
 -- .. and a port, and may have a count
 abbrev pub serve_word : App
@@ -71,9 +74,11 @@ abbrev pub option_words : Text → Option ℕ → List Text
 option_words flag None = []
 option_words flag (Some n) = flag ∷ decimal n ∷ []
 
--- Texts by their places, and the options behind them. Where one of the texts would be taken for an option, they stand behind a `--`.
+-- Texts by their places, and the options behind them. Where one of
+-- the texts would be taken for an option, they stand behind a `--`.
 abbrev pub words_in_order : List Text → List Text → List Text
-words_in_order texts options = if list_any starts_with_minus texts then options ++ codes "--" ∷ texts else texts ++ options
+words_in_order texts options =
+    if list_any starts_with_minus texts then options ++ codes "--" ∷ texts else texts ++ options
 
 -- the words for a task on a file, in the usual order
 abbrev pub words_for : Task → Text → List Text
@@ -82,9 +87,12 @@ words_for (OnFile Check) file = codes "check" ∷ file ∷ []
 words_for (OnFile Raise) file = codes "raise" ∷ file ∷ []
 words_for (OnFile Lines) file = codes "lines" ∷ file ∷ []
 words_for (OnFile (Feed feed at)) file = codes "feed" ∷ file ∷ feed_name feed ∷ option_words (codes "--at") at
-words_for (OnFile (Day table date zone)) file = codes "day" ∷ words_in_order (file ∷ table_name table ∷ date.now ∷ zone.now ∷ []) []
-words_for (OnFile (Import name at)) file = codes "import" ∷ words_in_order (file ∷ name.now ∷ []) (option_words (codes "--at") at)
-words_for (Serve port count) file = codes "serve" ∷ file ∷ codes "--port" ∷ decimal port ∷ option_words (codes "--count") count
+words_for (OnFile (Day table date zone)) file =
+    codes "day" ∷ words_in_order (file ∷ table_name table ∷ date.now ∷ zone.now ∷ []) []
+words_for (OnFile (Import name at)) file =
+    codes "import" ∷ words_in_order (file ∷ name.now ∷ []) (option_words (codes "--at") at)
+words_for (Serve port count) file =
+    codes "serve" ∷ file ∷ codes "--port" ∷ decimal port ∷ option_words (codes "--count") count
 
 -- its numbers lie within their bounds, and the name of an import is spelled as an identifier
 abbrev pub IsWithinOnFile : FileTask → Type 0
@@ -117,7 +125,8 @@ form_of task = name_of task ++ codes " FILE"
 
 -- a line of the text is for this form
 abbrev pub has_line : Text → Text → Bool
-has_line text form = list_any (λ line. starts_with nat_eq line (codes "  " ++ (form ++ codes "  "))) (slice_split (λ b. b == 10) text)
+has_line text form =
+    list_any (λ line. starts_with nat_eq line (codes "  " ++ (form ++ codes "  "))) (slice_split (λ b. b == 10) text)
 
 -- a line of the text is for the task's word
 abbrev pub tells : Text → Task → Bool

@@ -8,12 +8,12 @@ ghost use Rattle.bike_command_line.specs.Program.{IsWithin, program, words_for};
 ghost use Rattle.bike_command_line.specs.Asked.{Ask, AskNothing, IsFound, IsNothing, IsTold, name_in, task_of};
 ghost use Rattle.bike_command_line.specs.Asked.{texts_of, value_in, want_of};
 ghost use Rattle.bike_command_line.specs.Names.{word_name, word_named};
-ghost use Rattle.bike_command_line.specs.Wrong.{IsWrong};
+ghost use Rattle.bike_command_line.specs.BadValue.{IsWrong};
 ghost use Rattle.bike_command_line.specs.Told.{Against, IsOfValue, IsSo, Leads};
 
 use crate::mistake::Mistake;
 use crate::parsing::{matches_of, offence};
-use crate::task::{FileTask, Task, Wrong, task_of, wanted_in};
+use crate::task::{BadValue, FileTask, Task, task_of, wanted_in};
 use crate::value::Value;
 use crate::word::Word;
 use clap::ArgMatches;
@@ -46,7 +46,7 @@ fn word_in(matches: &ArgMatches<'_>) -> Option<Word>
 }
 
 /// What the matches ask of the word.
-fn words_of<'a>(word: Word, matches: &ArgMatches<'a>) -> Result<Words<'a>, Wrong<'a>>
+fn words_of<'a>(word: Word, matches: &ArgMatches<'a>) -> Result<Words<'a>, BadValue<'a>>
     ensures task { let found = subcommand_rows_of matches.now in
         IfOk result (λ words. task_of (word_name word) found ≡ Some (want_of words.task)) }
     ensures file { let found = subcommand_rows_of matches.now in
@@ -74,8 +74,8 @@ fn words_in<'a>(matches: &ArgMatches<'a>, first: &'a str) -> Result<Words<'a>, M
     };
     match words_of(word, matches) {
         Ok(words) => Ok(words),
-        Err(Wrong::Missing(value)) => Err(Mistake::Missing { word, value }),
-        Err(Wrong::Bad(value, text)) => Err(Mistake::BadValue { word, value, text }),
+        Err(BadValue::Missing(value)) => Err(Mistake::Missing { word, value }),
+        Err(BadValue::Bad(value, text)) => Err(Mistake::BadValue { word, value, text }),
     }
 }
 

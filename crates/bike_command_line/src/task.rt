@@ -6,7 +6,7 @@ ghost use Rattle.bike_command_line.specs.Asked.{count_in, day_task, feed_in, fee
 ghost use Rattle.bike_command_line.specs.Asked.{moment_in, port_in, serve_task};
 ghost use Rattle.bike_command_line.specs.Asked.{table_in, task_of, value_in, want_of};
 ghost use Rattle.bike_command_line.specs.Names.{id_of, word_name};
-ghost use Rattle.bike_command_line.specs.Wrong.{IsRead, IsWrong};
+ghost use Rattle.bike_command_line.specs.BadValue.{IsRead, IsWrong};
 
 use crate::value::Value;
 use crate::word::Word;
@@ -71,7 +71,7 @@ pub enum FileTask<'a> {
 
 /// What is wrong with a value behind a word.
 #[derive(Clone, Copy, Debug, Drop)]
-pub(crate) enum Wrong<'a> {
+pub(crate) enum BadValue<'a> {
     /// There is none, and it is wanted.
     Missing(Value),
     /// This text is none of its kind.
@@ -89,26 +89,27 @@ fn value_in<'a>(matches: &ArgMatches<'a>, id: &str) -> Option<&'a str>
 }
 
 /// The text of a value that is wanted.
-pub(crate) fn wanted_in<'a>(matches: &ArgMatches<'a>, value: Value) -> Result<&'a str, Wrong<'a>>
+pub(crate) fn wanted_in<'a>(matches: &ArgMatches<'a>, value: Value) -> Result<&'a str, BadValue<'a>>
     ensures { let given = value_in (subcommand_rows_of matches.now) (id_of value) in
-        MatchResult result (λ text. given ≡ Some text.now) (λ wrong. (given ≡ None) × (wrong ≡ Wrong.Missing value)) }
+        MatchResult result (λ text. given ≡ Some text.now)
+        (λ wrong. (given ≡ None) × (wrong ≡ BadValue.Missing value)) }
 {
     match value_in(matches, value.id()) {
         Some(text) => Ok(text),
-        None => Err(Wrong::Missing(value)),
+        None => Err(BadValue::Missing(value)),
     }
 }
 
 /// The feed of the NAME.
-fn feed_in<'a>(matches: &ArgMatches<'a>) -> Result<Feed, Wrong<'a>>
+fn feed_in<'a>(matches: &ArgMatches<'a>) -> Result<Feed, BadValue<'a>>
     ensures { IsRead Word.Feed (subcommand_rows_of matches.now) (λ feed. feed) feed_in result }
 {
     let text = wanted_in(matches, Value::Feed)?;
-    Feed::read(text).ok_or(Wrong::Bad(Value::Feed, text))
+    Feed::read(text).ok_or(BadValue::Bad(Value::Feed, text))
 }
 
 /// The moment of a feed or an import, which may be left out.
-fn moment_in<'a>(matches: &ArgMatches<'a>) -> Result<Option<Moment>, Wrong<'a>>
+fn moment_in<'a>(matches: &ArgMatches<'a>) -> Result<Option<Moment>, BadValue<'a>>
     ensures feed { IsRead Word.Feed (subcommand_rows_of matches.now) (λ at. at) moment_in result }
     ensures import { IsRead Word.Import (subcommand_rows_of matches.now) (λ at. at) moment_in result }
 {
@@ -117,39 +118,39 @@ fn moment_in<'a>(matches: &ArgMatches<'a>) -> Result<Option<Moment>, Wrong<'a>>
     };
     match Moment::read(text) {
         Some(at) => Ok(Some(at)),
-        None => Err(Wrong::Bad(Value::Moment, text)),
+        None => Err(BadValue::Bad(Value::Moment, text)),
     }
 }
 
 /// The table of the WHICH.
-fn table_in<'a>(matches: &ArgMatches<'a>) -> Result<DayTable, Wrong<'a>>
+fn table_in<'a>(matches: &ArgMatches<'a>) -> Result<DayTable, BadValue<'a>>
     ensures { IsRead Word.Day (subcommand_rows_of matches.now) (λ table. table) table_in result }
 {
     let text = wanted_in(matches, Value::Table)?;
-    DayTable::read(text).ok_or(Wrong::Bad(Value::Table, text))
+    DayTable::read(text).ok_or(BadValue::Bad(Value::Table, text))
 }
 
 /// The name of an import.
-fn import_in<'a>(matches: &ArgMatches<'a>) -> Result<&'a str, Wrong<'a>>
+fn import_in<'a>(matches: &ArgMatches<'a>) -> Result<&'a str, BadValue<'a>>
     ensures { IsRead Word.Import (subcommand_rows_of matches.now) (λ name. name.now) import_in result }
 {
     let text = wanted_in(matches, Value::Import)?;
-    Ident::checked(text).ok_or(Wrong::Bad(Value::Import, text))
+    Ident::checked(text).ok_or(BadValue::Bad(Value::Import, text))
 }
 
 /// The port.
-fn port_in<'a>(matches: &ArgMatches<'a>) -> Result<u16, Wrong<'a>>
+fn port_in<'a>(matches: &ArgMatches<'a>) -> Result<u16, BadValue<'a>>
     ensures { IsRead Word.Serve (subcommand_rows_of matches.now) (λ port. port) port_in result }
 {
     let text = wanted_in(matches, Value::Port)?;
     match read_whole(text, 0, 65_535) {
         Some(port) => Ok(port as u16),
-        None => Err(Wrong::Bad(Value::Port, text)),
+        None => Err(BadValue::Bad(Value::Port, text)),
     }
 }
 
 /// The number of connections, which may be left out.
-fn count_in<'a>(matches: &ArgMatches<'a>) -> Result<Option<u32>, Wrong<'a>>
+fn count_in<'a>(matches: &ArgMatches<'a>) -> Result<Option<u32>, BadValue<'a>>
     ensures { IsRead Word.Serve (subcommand_rows_of matches.now) (λ count. count) count_in result }
 {
     let Some(text) = value_in(matches, "count") else {
@@ -157,12 +158,12 @@ fn count_in<'a>(matches: &ArgMatches<'a>) -> Result<Option<u32>, Wrong<'a>>
     };
     match read_whole(text, 1, MOST_CONNECTIONS) {
         Some(count) => Ok(Some(count as u32)),
-        None => Err(Wrong::Bad(Value::Count, text)),
+        None => Err(BadValue::Bad(Value::Count, text)),
     }
 }
 
 /// The feed and its moment.
-fn feed_task<'a>(matches: &ArgMatches<'a>) -> Result<Task<'a>, Wrong<'a>>
+fn feed_task<'a>(matches: &ArgMatches<'a>) -> Result<Task<'a>, BadValue<'a>>
     ensures { IsRead Word.Feed (subcommand_rows_of matches.now) want_of feed_task result }
 {
     let feed = feed_in(matches)?;
@@ -171,7 +172,7 @@ fn feed_task<'a>(matches: &ArgMatches<'a>) -> Result<Task<'a>, Wrong<'a>>
 }
 
 /// The table and its day.
-fn day_task<'a>(matches: &ArgMatches<'a>) -> Result<Task<'a>, Wrong<'a>>
+fn day_task<'a>(matches: &ArgMatches<'a>) -> Result<Task<'a>, BadValue<'a>>
     ensures { IsRead Word.Day (subcommand_rows_of matches.now) want_of day_task result }
 {
     let table = table_in(matches)?;
@@ -181,7 +182,7 @@ fn day_task<'a>(matches: &ArgMatches<'a>) -> Result<Task<'a>, Wrong<'a>>
 }
 
 /// The import's name and its moment.
-fn import_task<'a>(matches: &ArgMatches<'a>) -> Result<Task<'a>, Wrong<'a>>
+fn import_task<'a>(matches: &ArgMatches<'a>) -> Result<Task<'a>, BadValue<'a>>
     ensures { IsRead Word.Import (subcommand_rows_of matches.now) want_of import_task result }
 {
     let name = import_in(matches)?;
@@ -190,7 +191,7 @@ fn import_task<'a>(matches: &ArgMatches<'a>) -> Result<Task<'a>, Wrong<'a>>
 }
 
 /// The port and the number of connections.
-fn serve_task<'a>(matches: &ArgMatches<'a>) -> Result<Task<'a>, Wrong<'a>>
+fn serve_task<'a>(matches: &ArgMatches<'a>) -> Result<Task<'a>, BadValue<'a>>
     ensures { IsRead Word.Serve (subcommand_rows_of matches.now) want_of serve_task result }
 {
     let port = port_in(matches)?;
@@ -200,7 +201,7 @@ fn serve_task<'a>(matches: &ArgMatches<'a>) -> Result<Task<'a>, Wrong<'a>>
 
 /// The task of the word, by what stands behind it.
 #[tactic(auto, unfolding(crate::specs::Asked::task_of))]
-pub(crate) fn task_of<'a>(word: Word, matches: &ArgMatches<'a>) -> Result<Task<'a>, Wrong<'a>>
+pub(crate) fn task_of<'a>(word: Word, matches: &ArgMatches<'a>) -> Result<Task<'a>, BadValue<'a>>
     ensures { IsRead word (subcommand_rows_of matches.now) want_of (task_of (word_name word)) result }
 {
     match word {

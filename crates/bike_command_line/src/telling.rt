@@ -14,9 +14,9 @@ const MOST_SHOWN: usize = 60;
 
 /// An argument as it is shown: in characters that are seen, on one line, and cut where it is long.
 #[derive(Drop)]
-struct Shown<'a>(&'a str);
+struct DisplayedWord<'a>(&'a str);
 
-impl fmt::Display for Shown<'_> {
+impl fmt::Display for DisplayedWord<'_> {
     fn fmt<W: fmt::Write>(&self, f: &mut fmt::Formatter<W>) -> fmt::Result {
         if self.0.is_empty() {
             return f.write_str("(empty)");
@@ -39,9 +39,9 @@ impl fmt::Display for Shown<'_> {
 
 /// A text that stands in pieces.
 #[derive(Drop)]
-struct Joined(&'static [&'static str]);
+struct TextPieces(&'static [&'static str]);
 
-impl fmt::Display for Joined {
+impl fmt::Display for TextPieces {
     fn fmt<W: fmt::Write>(&self, f: &mut fmt::Formatter<W>) -> fmt::Result {
         for piece in self.0 {
             f.write_str(piece)?;
@@ -105,22 +105,22 @@ impl fmt::Display for Line<'_> {
             Mistake::Help { .. } => Ok(()),
             Mistake::NoText => f.write_str("bikeshare: an argument isn't UTF-8; wanted is UTF-8\n"),
             Mistake::UnknownWord { text } => {
-                let first = Shown(text);
+                let first = DisplayedWord(text);
                 writeln!(
                     f,
                     "bikeshare: {first} is no subcommand of bikeshare; wanted is {SUBCOMMANDS}"
                 )
             }
             Mistake::Unexpected { word, text } => {
-                let (extra, form) = (Shown(text), form_of(word));
+                let (extra, form) = (DisplayedWord(text), form_of(word));
                 writeln!(f, "bikeshare: {extra} is unexpected; wanted is {form}")
             }
             Mistake::NoValue { word, option } => {
-                let (name, wanted) = (Shown(option), wanted_behind(word, option));
+                let (name, wanted) = (DisplayedWord(option), wanted_behind(word, option));
                 writeln!(f, "bikeshare: {name} has no value; wanted is {wanted}")
             }
             Mistake::Repeated { option, .. } => {
-                let name = Shown(name_of(option));
+                let name = DisplayedWord(name_of(option));
                 writeln!(f, "bikeshare: {name} is given twice; wanted is one value")
             }
             Mistake::Misfit { word } => {
@@ -135,7 +135,7 @@ impl fmt::Display for Line<'_> {
                 writeln!(f, "bikeshare: {sign} is missing; wanted is {wanted}")
             }
             Mistake::BadValue { value, text, .. } => {
-                let (sign, given, wanted) = (sign_of(value), Shown(text), wanted_as(value));
+                let (sign, given, wanted) = (sign_of(value), DisplayedWord(text), wanted_as(value));
                 writeln!(f, "bikeshare: {sign} is {given}; wanted is {wanted}")
             }
         }
@@ -150,7 +150,7 @@ impl fmt::Display for Mistake<'_> {
             Some(word) => usage_of(word),
             None => usage(),
         };
-        let (line, usage) = (Line(*self), Joined(usage));
+        let (line, usage) = (Line(*self), TextPieces(usage));
         write!(f, "{line}{usage}")
     }
 }

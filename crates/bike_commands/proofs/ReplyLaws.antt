@@ -125,7 +125,8 @@ refusal_sound number refusal e = elim (eqb_tells (number_of refusal) number) [
 ]
 
 -- a look-up that finds what has the number, wherever something has it, is the definition's
-pub refusal_found : (number : ℕ) (found : Option Refusal) → IfSome found (λ refusal. number_of refusal ≡ number) → ((refusal : Refusal) → number_of refusal ≡ number → found ≡ Some refusal) → refusal_of number ≡ found
+pub refusal_found : (number : ℕ) (found : Option Refusal) → IfSome found (λ refusal. number_of refusal ≡ number) → ((refusal : Refusal) → number_of refusal ≡ number → found ≡ Some refusal)
+    → refusal_of number ≡ found
 refusal_found number (Some refusal) is only = ap refusal_of (sym is) ∙ refusal_is refusal
 refusal_found number None is only = none (refusal_of number) refl where
   none : (o : Option Refusal) → refusal_of number ≡ o → o ≡ None

@@ -5,7 +5,9 @@ use Rattle.bike_fields.specs.declared.numbers.TheConstants.{GREATEST_PRICE, LONG
 use Rattle.bike_fields.specs.declared.limits.TheConstants.{GREATEST_LATITUDE}
 use Rattle.bike_fields.specs.Vehicle.{form_text, propulsion_text}
 use Rattle.bike_fields.specs.NameKinds.{kind_text}
-use Rattle.bike_texts.specs.Fields.{Field, Number, Fixed, Id, Language, Currency, Name, Ascii, Degrees, Metres, Segments, End, Choice, Flag, Numbered, Dock, DockOrDepot, Serial, Payment, IdOrNone, side_text, AreGood, IsSpelled, IsWritten, fields_text}
+use Rattle.bike_texts.specs.Fields.{Field, Number, Fixed, Id, Language, Currency, Name, Ascii, Degrees, Metres}
+use Rattle.bike_texts.specs.Fields.{Segments, End, Choice, Flag, Numbered, Dock, DockOrDepot, Serial, Payment, IdOrNone}
+use Rattle.bike_texts.specs.Fields.{side_text, AreGood, IsSpelled, IsWritten, fields_text}
 use Rattle.bike_commands.specs.declared.command.Command.{Command}
 use Rattle.bike_commands.specs.declared.command.Command.TheVariants as command
 
@@ -48,13 +50,19 @@ fields_of (command.SetSystem s) =
     Id s.system_id ∷ Language s.language ∷ Name s.name ∷ Ascii s.opening_hours ∷ Ascii s.feed_contact_email
     ∷ Ascii s.timezone ∷ Currency s.currency ∷ Ascii s.base_url ∷ Number 0 LONGEST_TIME_TO_LIVE s.ttl ∷ []
 fields_of (command.AddPlan p) =
-    Id p.plan_id ∷ Name p.name ∷ Number 0 GREATEST_PRICE p.price ∷ Flag p.taxable ∷ Name p.description ∷ Segments p.segments ∷ []
+    Id p.plan_id ∷ Name p.name ∷ Number 0 GREATEST_PRICE p.price ∷ Flag p.taxable ∷ Name p.description
+    ∷ Segments p.segments ∷ []
 fields_of (command.AddType t) =
-    Id t.type_id ∷ Name t.name ∷ Fixed (form_text t.form) ∷ Fixed (propulsion_text t.propulsion) ∷ Metres t.propulsion t.max_range ∷ Id t.plan_id ∷ []
+    Id t.type_id ∷ Name t.name ∷ Fixed (form_text t.form) ∷ Fixed (propulsion_text t.propulsion)
+    ∷ Metres t.propulsion t.max_range ∷ Id t.plan_id ∷ []
 fields_of (command.SetPlan type_id plan) = Id type_id ∷ Id plan ∷ []
-fields_of (command.AddStation s) = Id s.station_id ∷ Name s.name ∷ Degrees GREATEST_LATITUDE s.lat ∷ Degrees GREATEST_COORDINATE s.lon ∷ Dock s.docks ∷ []
-fields_of (command.SetStation station installed renting returning) = Id station ∷ Flag installed ∷ Flag renting ∷ Flag returning ∷ []
-fields_of (command.MarkDock station dock broken) = Id station ∷ Dock dock ∷ Choice (codes "broken") (codes "working") broken ∷ []
+fields_of (command.AddStation s) =
+    Id s.station_id ∷ Name s.name ∷ Degrees GREATEST_LATITUDE s.lat ∷ Degrees GREATEST_COORDINATE s.lon ∷ Dock s.docks
+    ∷ []
+fields_of (command.SetStation station installed renting returning) =
+    Id station ∷ Flag installed ∷ Flag renting ∷ Flag returning ∷ []
+fields_of (command.MarkDock station dock broken) =
+    Id station ∷ Dock dock ∷ Choice (codes "broken") (codes "working") broken ∷ []
 fields_of (command.AddBike bike type_id) = Numbered bike ∷ Id type_id ∷ []
 fields_of (command.MarkBike bike disabled) = Numbered bike ∷ Choice (codes "disabled") (codes "fit") disabled ∷ []
 fields_of (command.RetireBike bike) = Numbered bike ∷ []
@@ -66,9 +74,11 @@ fields_of (command.Start rider station dock) = Numbered rider ∷ Id station ∷
 fields_of (command.End bike station dock) = Numbered bike ∷ Id station ∷ Dock dock ∷ []
 fields_of (command.Recover rental) = Serial rental ∷ []
 fields_of (command.Refund rental amount) = Serial rental ∷ Payment amount ∷ []
-fields_of (command.OpenOrder truck from_end to_end type_id count) = Numbered truck ∷ End from_end ∷ End to_end ∷ Id type_id ∷ Number 1 MOST_CARRIED count ∷ []
+fields_of (command.OpenOrder truck from_end to_end type_id count) =
+    Numbered truck ∷ End from_end ∷ End to_end ∷ Id type_id ∷ Number 1 MOST_CARRIED count ∷ []
 fields_of (command.Load truck order bike) = Numbered truck ∷ Serial order ∷ Numbered bike ∷ []
-fields_of (command.Unload truck order bike side dock) = Numbered truck ∷ Serial order ∷ Numbered bike ∷ Fixed (side_text side) ∷ DockOrDepot dock ∷ []
+fields_of (command.Unload truck order bike side dock) =
+    Numbered truck ∷ Serial order ∷ Numbered bike ∷ Fixed (side_text side) ∷ DockOrDepot dock ∷ []
 fields_of (command.CloseOrder order) = Serial order ∷ []
 fields_of (command.AddRegion r) = Id r.region_id ∷ Name r.name ∷ []
 fields_of (command.SetRegion station region) = Id station ∷ IdOrNone region ∷ []
@@ -78,7 +88,8 @@ fields_of (command.RemoveName kind id language) = Fixed (kind_text kind) ∷ Id 
 fields_of (command.ChangeSystem x) =
     Name x.name ∷ Ascii x.opening_hours ∷ Ascii x.feed_contact_email ∷ Ascii x.timezone ∷ Ascii x.base_url
     ∷ Number 0 LONGEST_TIME_TO_LIVE x.ttl ∷ []
-fields_of (command.MoveStation station p) = Id station ∷ Degrees GREATEST_LATITUDE p.lat ∷ Degrees GREATEST_COORDINATE p.lon ∷ []
+fields_of (command.MoveStation station p) =
+    Id station ∷ Degrees GREATEST_LATITUDE p.lat ∷ Degrees GREATEST_COORDINATE p.lon ∷ []
 fields_of (command.AddDocks station count) = Id station ∷ Dock count ∷ []
 
 -- the fields keep their bounds, as those of every command of the program do

@@ -11,7 +11,8 @@ pub use Rattle.bike_commands.specs.RequestFields.{IsRequest}
 abbrev pub line_length : ℕ
 line_length = LINE_LENGTH
 
--- The line is short and UTF-8. It is the moment in seconds, the caller, the key and a text that spells the command, with a TAB between them.
+-- The line is short and UTF-8. It is the moment in seconds, the caller,
+-- the key and a text that spells the command, with a TAB between them.
 pub record IsLine (line : List ℕ) (moment : ℕ) (q : Request) : Type 0 where
   pub short : length line ≤ line_length
   pub utf8 : IsUtf8 line

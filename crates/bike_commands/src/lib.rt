@@ -9,11 +9,6 @@ mod refusal;
 mod reply;
 mod request;
 
-pub use bike_catalogue::{Plan, Region, Settings, Station, System, VehicleType};
-pub use bike_fields::{
-    BicycleNumber, DockCount, DockNumber, Ident, Language, Name, NameKind, OrderNumber,
-    OrderQuantity, Position, RentalNumber, RiderNumber, TruckCapacity, TruckNumber,
-};
 pub use bike_texts::OrderEnd;
 pub use command::Command;
 pub use refusal::Refusal;

@@ -64,7 +64,8 @@ module _ {D : Type 0} {g : disk.Ghosts D} (image : Image) (files now : Files D) 
       }
 
   -- the engine could not go on
-  pub unopened : (told : Fault) (e : Error) (rest : Leftover D g) → told ≡ open_fault e → (IsCleanLeft rest → FailsToOpenFiles now rest e) → (IsCleanLeft rest → LeavesFiles now rest) → IsUnopened g image told
+  pub unopened : (told : Fault) (e : Error) (rest : Leftover D g) → told ≡ open_fault e → (IsCleanLeft rest → FailsToOpenFiles now rest e) → (IsCleanLeft rest → LeavesFiles now rest)
+      → IsUnopened g image told
   unopened told e rest is why keeps = record { error = e; told_of = is; cause = inr (inl (record { files = now; bytes = bytes_now; left = rest; why = why; keeps = keeps })) }
 
 -- the first bytes of a log that are known are its header
@@ -82,7 +83,8 @@ pub of_same : {X E : Type 0} (P : X → Type 0) (conn : X) (result : Result X E)
 of_same P conn result same of_conn = IfOk-weaker result _ P (λ it is. subst P (sym is) of_conn) same
 
 -- a connection that was opened, and was refused for its index or not
-pub tells_added : {D : Type 0} {g : disk.Ghosts D} (image : Image) (conn : Held (FileStore D g)) (result : Result (Held (FileStore D g)) Fault) → (HasCleanDisk (file_state conn) → IsOpened conn) → (HasCleanDisk (file_state conn) → FindsIn image (file_state conn))
+pub tells_added : {D : Type 0} {g : disk.Ghosts D} (image : Image) (conn : Held (FileStore D g)) (result : Result (Held (FileStore D g)) Fault) → (HasCleanDisk (file_state conn) → IsOpened conn)
+    → (HasCleanDisk (file_state conn) → FindsIn image (file_state conn))
     → IfErr result (λ fault. (fault ≡ Foreign) × (has_added_unique (file_state conn).now.schema ≡ true)) → TellsWhy image result
 tells_added image conn (Ok it) opened found added = tt
 tells_added image conn (Err fault) opened found added = inr (record { told_of = added.0; conn = conn; opened = opened; found = found; added = added.1 })

@@ -21,9 +21,10 @@ is_log_kept (Err (Older version)) = true
 is_log_kept (Err (Newer version)) = true
 is_log_kept _ = false
 
--- HOW IT CLOSES after a task that ended so: what is left, and what is told of the end. Where the files were settled, the database file
--- holds the last commit by itself, as it reads now and after a crash.
-abbrev pub Closes : {D : Type 0} {g : disk.Ghosts D} → Held (FileStore D g) → Result ℕ Fault → Remains D g → Result ℕ Fault → Type 0
+-- HOW IT CLOSES after a task that ended so: what is left, and what is told of the end. Where the files were settled,
+-- the database file holds the last commit by itself, as it reads now and after a crash.
+abbrev pub Closes : {D : Type 0} {g : disk.Ghosts D} → Held (FileStore D g) → Result ℕ Fault → Remains D g
+    → Result ℕ Fault → Type 0
 Closes conn end (Open c) told = (c ≡ conn) × (told ≡ end) × (is_log_kept end ≡ true)
 Closes {g = g} conn end (Settled files) told = (told ≡ end) × (AreClean g files.log files.db → IsCopied conn files)
 Closes conn end (Unsettled store) told = (told ≡ Err StoreFailed) × IsClosed conn store

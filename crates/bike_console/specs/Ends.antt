@@ -19,16 +19,18 @@ use Rattle.bike_migrate.specs.AdoptCause.{AdoptCause}
 use Rattle.bike_migrate.specs.AdoptCause.TheVariants as adopt
 use Rattle.bike_feeds.specs.declared.fault.FeedFault.{FeedFault}
 use Rattle.bike_feeds.specs.declared.fault.FeedFault.TheVariants as feed
-use Rattle.bike_days.specs.declared.fault.DayTableFault.{DayTableFault}
-use Rattle.bike_days.specs.declared.fault.DayTableFault.TheVariants as table
-use Rattle.bike_imports.specs.declared.fault.ImportFault.{ImportFault}
-use Rattle.bike_imports.specs.declared.fault.ImportFault.TheVariants as stations
-use Rattle.bike_lines.specs.declared.fault.LinesFault.{LinesFault}
-use Rattle.bike_lines.specs.declared.fault.LinesFault.TheVariants as lines
+use Rattle.bike_batch.specs.declared.day_fault.DayTableFault.{DayTableFault}
+use Rattle.bike_batch.specs.declared.day_fault.DayTableFault.TheVariants as table
+use Rattle.bike_batch.specs.declared.import_fault.ImportFault.{ImportFault}
+use Rattle.bike_batch.specs.declared.import_fault.ImportFault.TheVariants as stations
+use Rattle.bike_batch.specs.declared.line_fault.LinesFault.{LinesFault}
+use Rattle.bike_batch.specs.declared.line_fault.LinesFault.TheVariants as lines
 use Rattle.bike_console.specs.declared.end.Fault.{Fault}
-use Rattle.bike_console.specs.declared.end.Fault.TheVariants.{SystemMissing, RowRefused, RowUnreadable, BadHeader, BadDate, BadZone, DayOutOfRange}
+use Rattle.bike_console.specs.declared.end.Fault.TheVariants.{SystemMissing, RowRefused, RowUnreadable, BadHeader}
+use Rattle.bike_console.specs.declared.end.Fault.TheVariants.{BadDate, BadZone, DayOutOfRange}
 use Rattle.bike_console.specs.declared.end.Fault.TheVariants.{StoreFailed, OutOfMemory, Foreign, Unsound, Older, Newer}
-use Rattle.bike_console.specs.declared.end.Fault.TheVariants.{ReadFailed, TooManyReads, WriteFailed, NoClock, BindFailed, AcceptFailed}
+use Rattle.bike_console.specs.declared.end.Fault.TheVariants.{ReadFailed, TooManyReads, WriteFailed, NoClock}
+use Rattle.bike_console.specs.declared.end.Fault.TheVariants.{BindFailed, AcceptFailed}
 use Rattle.bike_console.specs.Pieces.{key_text}
 
 -- the word that a fault is told by: of a port, a connection, a clock and too many reads that of a read that failed
@@ -57,11 +59,13 @@ word_of AcceptFailed = codes "read failed"
 abbrev pub row_detail : ℕ → List ℕ → List ℕ
 row_detail number what = codes " " ++ decimal number ++ codes " " ++ what
 
--- what is told behind the word: a row's number and what is wrong with it, the table and the key of a bad row, or the version
+-- what is told behind the word: a row's number and what is wrong
+-- with it, the table and the key of a bad row, or the version
 abbrev pub detail_of : Fault → List ℕ
 detail_of (RowRefused number refusal) = row_detail number (refusal_name refusal)
 detail_of (RowUnreadable number) = row_detail number (codes "unreadable")
-detail_of (Unsound bad) = codes " " ++ name_at bad.earlier (row_name bad.row).0 ++ codes " " ++ key_text (row_name bad.row).1
+detail_of (Unsound bad) =
+    codes " " ++ name_at bad.earlier (row_name bad.row).0 ++ codes " " ++ key_text (row_name bad.row).1
 detail_of (Older version) = codes " " ++ decimal version
 detail_of (Newer version) = codes " " ++ decimal version
 detail_of _ = []

@@ -9,7 +9,8 @@ use Rattle.sqlite_store.specs.declared.store.FileStore.{FileStore}
 use Rattle.sqlite.specs.Held.{Held}
 use Rattle.sqlite.specs.State.{HasCleanDisk}
 use Rattle.sqlite.specs.Start.{FindsIn}
-use Rattle.sqlite.specs.Files.{file_state, image_of, IsOpened, IsCleanLeft, FailsToOpenFiles, HoldsDatabase, LeavesFiles}
+use Rattle.sqlite.specs.Files.{file_state, image_of, IsOpened, IsCleanLeft, FailsToOpenFiles, HoldsDatabase}
+use Rattle.sqlite.specs.Files.{LeavesFiles}
 use Rattle.sqlite.specs.declared.file.Leftover.{Leftover}
 use Rattle.sqlite.specs.declared.file.Leftover.TheVariants as left
 use Rattle.sqlite.specs.declared.error.Error.{Error}
@@ -24,13 +25,15 @@ use Rattle.bike_console.specs.declared.end.Fault.TheVariants.{OutOfMemory, Store
 use Rattle.bike_console.specs.Ends.{open_fault}
 use Rattle.bike_console.specs.declared.log.TheConstants.{LEAST_LOG}
 
--- memory was refused, or the file can't be opened, or is no database, or has an index on which a good request could fail
+-- memory was refused, or the file can't be opened, or is no
+-- database, or has an index on which a good request could fail
 abbrev pub IsOpeningFault : Fault → Type 0
 IsOpeningFault fault = (fault ≡ OutOfMemory) ⊎ ((fault ≡ StoreFailed) ⊎ (fault ≡ Foreign))
 
 -- no file was opened: none can be at the path, another program holds it, or memory was refused
 abbrev pub IsBarred : Error → Type 0
-IsBarred e = (e ≡ SqliteFailure code.CannotOpen) ⊎ ((e ≡ SqliteFailure code.OutOfMemory) ⊎ (e ≡ SqliteFailure code.DatabaseBusy))
+IsBarred e =
+    (e ≡ SqliteFailure code.CannotOpen) ⊎ ((e ≡ SqliteFailure code.OutOfMemory) ⊎ (e ≡ SqliteFailure code.DatabaseBusy))
 
 -- that is told, and no file was opened
 abbrev pub TellsBarred : Fault → Type 0
@@ -40,9 +43,12 @@ TellsBarred told = (e : Error) × (told ≡ open_fault e) × IsBarred e
 abbrev pub IsLoneLog : Image → Type 0
 IsLoneLog image = (length image.db ≤ 1) × (LEAST_LOG ≤ length image.log)
 
--- The engine had begun to write a header anew: it took the first byte of the magic number away before, and puts it back last.
+-- The engine had begun to write a header anew: it took the first
+-- byte of the magic number away before, and puts it back last.
 abbrev pub IsBegunAnew : List ℕ → Type 0
-IsBegunAnew head = (slice_index head 0 ≡ 0) × ((slice_index head 1 ≡ 0x7f) × ((slice_index head 2 ≡ 0x06) × (slice_index head 3 / 2 ≡ 0x82 / 2)))
+IsBegunAnew head =
+    (slice_index head 0 ≡ 0) × ((slice_index head 1 ≡ 0x7f)
+    × ((slice_index head 2 ≡ 0x06) × (slice_index head 3 / 2 ≡ 0x82 / 2)))
 
 -- a header that fails its own test, and isn't being written anew
 abbrev pub IsBroken : List ℕ → Type 0
@@ -57,8 +63,9 @@ abbrev pub IsLostLog : Image → Type 0
 IsLostLog image = IsLoneLog image ⊎ IsDamagedLog image.log
 
 module _ {D : Type 0} (g : disk.Ghosts D) (image : Image) where
-  -- Files that hold these bytes were opened, and the engine could not go on. Where nothing else wrote to them, memory was refused, the disk failed
-  -- or is full, or the bytes are neither a database nor an empty file; and what is left of them opens as they did.
+  -- Files that hold these bytes were opened, and the engine could not go on. Where nothing else wrote to them, memory
+  -- was refused, the disk failed or is full, or the bytes are neither a database nor an empty file; and what is left of
+  -- them opens as they did.
   pub record FailsOnFiles (e : Error) : Type 0 where
     pub files : Files D
     pub bytes : image_of g files ≡ image
@@ -80,7 +87,8 @@ module _ {D : Type 0} (g : disk.Ghosts D) (image : Image) where
     pub told_of : told ≡ open_fault error
     pub cause : IsBarred error ⊎ (FailsOnFiles error ⊎ FindsLostLog)
 
-  -- Files that hold these bytes were opened, and in what was found there somebody added a UNIQUE index to a table of the product's.
+  -- Files that hold these bytes were opened, and in what was found
+  -- there somebody added a UNIQUE index to a table of the product's.
   pub record HasAdded (told : Fault) : Type 0 where
     pub told_of : told ≡ Foreign
     pub conn : Held (FileStore D g)

@@ -37,13 +37,15 @@ module _ {D S : Type 0} (g : disk.Ghosts D) (s : start.Ghosts S) where
   abbrev pub AreUsable : Files Shown → Type 0
   AreUsable files = IsTrue (shown.is_usable files.log) × IsTrue (shown.is_usable files.db)
 
-  -- THE FILES ARE ONLY LOOKED AT: each holds what it held, now and after a crash, and these bytes are those that a disk without faults showed.
+  -- THE FILES ARE ONLY LOOKED AT: each holds what it held, now and after
+  -- a crash, and these bytes are those that a disk without faults showed.
   pub record AreSeen (kept : KeptFiles D) (found : Image) : Type 0 where
     pub log : HoldsOnly g s.log kept.log
     pub db : IfSome kept.db (HoldsOnly g s.db)
     pub same : IsClean g kept.log → IfSome kept.db (IsClean g) → found ≡ image_at s
 
-  -- A database is looked at: over the bytes that were found a connection was opened, and nobody added a UNIQUE index to a table of the product's.
+  -- A database is looked at: over the bytes that were found a connection was
+  -- opened, and nobody added a UNIQUE index to a table of the product's.
   pub record Sees (conn : Held (FileStore Shown shown)) (kept : KeptFiles D) : Type 0 where
     pub found : Image
     pub seen : AreSeen kept found

@@ -23,7 +23,8 @@ key_text (v ∷ w ∷ more) = value_text v ++ 47 ∷ key_text (w ∷ more)
 abbrev pub bar : ℕ → List ℕ
 bar at = if at == 0 then [] else codes "/"
 
--- A piece is written where all before it are, and a front of it, not all, where the output refuses bytes: whether all are, before and after.
+-- A piece is written where all before it are, and a front of it, not all,
+-- where the output refuses bytes: whether all are, before and after.
 abbrev pub Puts : OutputState → OutputState → List ℕ → Bool → Bool → Type 0
 Puts old new bytes true true = Takes old new bytes
 Puts old new bytes true false = Refuses old new bytes

@@ -11,13 +11,11 @@ ghost use Rattle.bike_console.specs.Ends.{adopt_fault, raise_fault, day_fault, f
 ghost use Rattle.bike_console.specs.Ends.{table_fault};
 
 use crate::pieces::{put, put_key, put_number};
+use bike_batch::{DayTableFault, ImportFault, LinesFault};
 use bike_commands::Refusal;
-use bike_days::DayTableFault;
 use bike_feeds::{DeskFault, FeedFault};
 use bike_fixed::DayFault;
-use bike_imports::ImportFault;
 use bike_json::Output;
-use bike_lines::LinesFault;
 use bike_migrate::{AdoptCause, AdoptFault, RaiseCause, RaiseFault, UnsoundRow};
 use sqlite::{Alter, Connection, ErrorCode};
 use std::alloc::AllocError;

@@ -24,7 +24,7 @@ use sqlite_disk::{Disk, Memory};
 const SHORT: usize = 65_536;
 
 /// What shows the bytes of a database's two files where it's only looked at.
-pub type Looked<D, S> = Source<ReadOnly<D, S>, Memory>;
+pub type SnapshotSource<D, S> = Source<ReadOnly<D, S>, Memory>;
 
 /// The files of a database that is only looked at, of which copies were made. While they are held, no other program
 /// opens them.
@@ -38,7 +38,7 @@ pub struct KeptFiles<D: Disk> {
 
 /// A connection to a database that is only looked at, through which what is written stands in memory, and the files
 /// behind it.
-pub type Sight<D, S> = (Connection<FileStore<Looked<D, S>>>, KeptFiles<D>);
+pub type Snapshot<D, S> = (Connection<FileStore<SnapshotSource<D, S>>>, KeptFiles<D>);
 
 /// Copies of the log, and of the database file where it is short.
 fn copies_of<D: Disk>(
@@ -75,7 +75,7 @@ fn stand_in<D: Disk, S: Start>(
     files: Files<D>,
     log: Memory,
     db: Option<Memory>,
-) -> (KeptFiles<D>, Files<Looked<D, S>>)
+) -> (KeptFiles<D>, Files<SnapshotSource<D, S>>)
     // The files hold what they held at the start, and can be used.
     requires held { HoldsOnly D.Disk S.Start.log files.log × HoldsOnly D.Disk S.Start.db files.db }
     requires usable { IsTrue (memory_is_usable log) × IsTrue (D.Disk.is_usable files.db) }
@@ -124,7 +124,7 @@ fn look_over<D: Disk + Drop, S: Start>(
     files: Files<D>,
     log: Memory,
     db: Option<Memory>,
-) -> Result<Sight<D, S>, Fault>
+) -> Result<Snapshot<D, S>, Fault>
     requires held { HoldsOnly D.Disk S.Start.log files.log × HoldsOnly D.Disk S.Start.db files.db }
     requires usable { IsTrue (memory_is_usable log) × IsTrue (D.Disk.is_usable files.db) }
     requires log { IsClean D.Disk files.log → memory_bytes log ≡ S.Start.log }
@@ -170,7 +170,7 @@ pub fn open_to_look<F: Start>(
     rt: &HostRuntime,
     path: &str,
     start: F,
-) -> Result<Sight<FileFrom<F>, F>, Fault>
+) -> Result<Snapshot<FileFrom<F>, F>, Fault>
     ensures fault { IfErr result IsOpeningFault }
     ensures seen { TellsSeen _ F.Start result }
 {

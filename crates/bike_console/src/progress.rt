@@ -85,15 +85,15 @@ impl<W: Write> Watch for Progress<W> {
 
 /// A reader whose lines are counted as they are read, where a person looks.
 #[derive(Drop)]
-pub struct Counted<R, W> {
+pub struct CountingReader<R, W> {
     reader: R,
     progress: Progress<W>,
 }
 
-impl<R: Read, W: Write> Counted<R, W> {
+impl<R: Read, W: Write> CountingReader<R, W> {
     /// The reader, of which nothing was read yet, and where it is told.
-    pub fn new(reader: R, progress: Progress<W>) -> Counted<R, W> {
-        Counted { reader, progress }
+    pub fn new(reader: R, progress: Progress<W>) -> CountingReader<R, W> {
+        CountingReader { reader, progress }
     }
 }
 
@@ -109,7 +109,7 @@ fn count_lines(bytes: &[u8]) -> u64 {
 }
 
 /// What is read is what the reader gives.
-impl<R: Read, W: Write> Read for Counted<R, W> {
+impl<R: Read, W: Write> Read for CountingReader<R, W> {
     ghost remaining = { λ counted. R.remaining counted.reader };
 
     fn read(&mut self, buf: &mut [u8]) -> io::Result<usize> {

@@ -12,15 +12,15 @@ use Rattle.bike_operator.specs.Operator.{Operator}
 use Rattle.bike_operator.specs.View.{view_of, is_in_broken_dock, is_broken_dock}
 use Rattle.bike_operator.specs.Changes.{place_of}
 use Rattle.bike_operator.specs.Sound.{IsSound}
-use Rattle.bike_accepted.specs.declared.moved.Standing.{Standing}
-use Rattle.bike_accepted.specs.declared.moved.DockAt.{DockAt}
-use Rattle.bike_accepted.specs.declared.moved.Held.{Held}
-use Rattle.bike_accepted.specs.declared.moved.Moved.TheVariants as moved
+use Rattle.bike_accepted.specs.declared.movement.BikeStatus.{BikeStatus}
+use Rattle.bike_accepted.specs.declared.movement.DockAt.{DockAt}
+use Rattle.bike_accepted.specs.declared.movement.DockOccupant.{DockOccupant}
+use Rattle.bike_accepted.specs.declared.movement.Movement.TheVariants as moved
 use Rattle.bike_accepted.specs.Found.{AreFound}
 use Rattle.bike_core.specs.Moves.{IsShown, put_from, IsHeldShown}
 use Rattle.bike_core.proofs.Moves.{same_reach, put_found, dock_shown, held_found}
 
-pub dock_mark_found : (v : View) (station : Bor (List ℕ)) (dock : ℕ) (broken : Bool) (held : Option Held) (x : StationView) (s : Operator) (now : ℕ) → IsSound s
+pub dock_mark_found : (v : View) (station : Bor (List ℕ)) (dock : ℕ) (broken : Bool) (held : Option DockOccupant) (x : StationView) (s : Operator) (now : ℕ) → IsSound s
     → v ≡ view_of s (command.MarkDock station.now dock broken) → v.station ≡ Some x → 1 ≤ dock → dock ≤ x.docks → IsHeldShown v.docked held
     → AreFound now s (record { reply = Done; moved = Some (moved.Marked (record { station = station; dock = dock; is_broken = v.is_dock_broken }) held broken); change = None; entry = None })
 dock_mark_found v station dock broken held x s now sound e station_is low high shown =
@@ -37,7 +37,7 @@ dock_mark_found v station dock broken held x s now sound e station_is low high s
       entry = tt;
     }
 
-pub bike_mark_found : (v : View) (bike : ℕ) (disabled : Bool) (state : BikeState) (b : Bike) (type_id : Bor (List ℕ)) (was : Standing) (s : Operator) (now : ℕ) → IsSound s
+pub bike_mark_found : (v : View) (bike : ℕ) (disabled : Bool) (state : BikeState) (b : Bike) (type_id : Bor (List ℕ)) (was : BikeStatus) (s : Operator) (now : ℕ) → IsSound s
     → v ≡ view_of s (command.MarkBike bike disabled) → v.bike ≡ Some b → IsShown b type_id was
     → AreFound now s (record { reply = Done; moved = Some (put_from was.place bike type_id was (record { state = state; place = was.place }) v.is_dock_broken); change = None; entry = None })
 bike_mark_found v bike disabled state b type_id was s now sound e bike_is shown =

@@ -21,9 +21,9 @@ use Rattle.bike_laws.specs.SingleSteps.Laws.{IsAway}
 use Rattle.bike_laws.proofs.SingleSteps.MapLemmas.{number_order}
 use Rattle.bike_laws.proofs.SingleSteps.CountLemmas.{found_by}
 use Rattle.bike_laws.proofs.SingleSteps.DockLaw.{dock_is}
-use Rattle.bike_accepted.specs.declared.moved.Standing.{Standing}
-use Rattle.bike_accepted.specs.declared.moved.DockAt.{DockAt}
-use Rattle.bike_accepted.specs.declared.moved.Held.{Held}
+use Rattle.bike_accepted.specs.declared.movement.BikeStatus.{BikeStatus}
+use Rattle.bike_accepted.specs.declared.movement.DockAt.{DockAt}
+use Rattle.bike_accepted.specs.declared.movement.DockOccupant.{DockOccupant}
 use Rattle.bike_accepted.specs.Effects.{bike_in, bike_put, after_moved}
 use Rattle.bike_accepted.specs.Found.{IsStationFound, IsNoOtherDock, held_bike, IsMovedFound}
 use Rattle.bike_core.specs.Moves.{IsShown, put_from, IsHeldShown}
@@ -32,7 +32,7 @@ use Rattle.bike_core.proofs.Views.{shown_bike, empty_dock}
 -- ---- a bicycle put from where it stands
 
 -- the station at which it stood reports
-pub after_put : (now : ℕ) (s : Operator) (p : NewPlace) (bike : ℕ) (type_id : Bor (List ℕ)) (was becomes : Standing) (broken : Bool)
+pub after_put : (now : ℕ) (s : Operator) (p : NewPlace) (bike : ℕ) (type_id : Bor (List ℕ)) (was becomes : BikeStatus) (broken : Bool)
     → after_moved now (put_from p bike type_id was becomes broken) s ≡ place_reported (place_of p) now (bike_put bike (bike_in type_id becomes) s)
 after_put now s (new.Dock station dock) bike type_id was becomes broken = refl
 after_put now s (new.Rental rental) bike type_id was becomes broken = refl
@@ -56,7 +56,7 @@ away_reach was becomes away = record { from_away = λ h. away; from_dock = λ at
 pub same_reach : (p : Place) → IsInReach p p
 same_reach p = record { from_away = λ h. h; from_dock = λ at h. h }
 
-module _ (s : Operator) (bike : ℕ) (b : Bike) (type_id : Bor (List ℕ)) (was becomes : Standing) (broken : Bool) (sound : AreBikesSound s) (found : map.get s.bikes bike ≡ Some b)
+module _ (s : Operator) (bike : ℕ) (b : Bike) (type_id : Bor (List ℕ)) (was becomes : BikeStatus) (broken : Bool) (sound : AreBikesSound s) (found : map.get s.bikes bike ≡ Some b)
     (shown : IsShown b type_id was) (mark : is_broken_dock s b.place ≡ broken) (reach : IsInReach (place_of was.place) (place_of becomes.place)) where
   was_there : map.get s.bikes bike ≡ Some (bike_in type_id was)
   was_there = found ∙ ap (λ (x : Bike). Some x) (sym (shown_bike b type_id was shown))
@@ -88,15 +88,17 @@ station_shown s station (Some y) x e shown = record { row = y; found = e; docks_
   docks_in None = 0
   docks_in (Some v) = v.docks
 
-pub dock_shown : (s : Operator) (station : List ℕ) (dock : ℕ) (o : Option Station) (x : StationView) → map.get s.stations station ≡ o → station_view o ≡ Some x → 1 ≤ dock → dock ≤ x.docks → HasDock s station dock
+pub dock_shown : (s : Operator) (station : List ℕ) (dock : ℕ) (o : Option Station) (x : StationView) → map.get s.stations station ≡ o → station_view o ≡ Some x → 1 ≤ dock → dock ≤ x.docks
+    → HasDock s station dock
 dock_shown s station dock None x e shown low high = absurd cc
-dock_shown s station dock (Some y) x e shown low high = record { row = y; found = e; low = low; high = (let docks : y.row.docks ≡ x.docks = docks_same y x shown in subst (λ (n : ℕ). dock ≤ n) (sym docks) high) } where
-  docks_in : Option StationView → ℕ
-  docks_in None = 0
-  docks_in (Some v) = v.docks
+dock_shown s station dock (Some y) x e shown low high =
+    record { row = y; found = e; low = low; high = (let docks : y.row.docks ≡ x.docks = docks_same y x shown in subst (λ (n : ℕ). dock ≤ n) (sym docks) high) } where
+      docks_in : Option StationView → ℕ
+      docks_in None = 0
+      docks_in (Some v) = v.docks
 
-  docks_same : (y : Station) (x : StationView) → station_view (Some y) ≡ Some x → y.row.docks ≡ x.docks
-  docks_same y x shown = ap docks_in shown
+      docks_same : (y : Station) (x : StationView) → station_view (Some y) ≡ Some x → y.row.docks ≡ x.docks
+      docks_same y x shown = ap docks_in shown
 
 -- the bicycle in a dock, as the view shows it
 pub record IsDockedRow (s : Operator) (station : List ℕ) (dock : ℕ) (d : DockedBike) : Type 0 where
@@ -140,7 +142,7 @@ docked_row s station dock d h = go (docked_at s station dock) refl h where
   go (Some b) e h = typed b e (map.get s.types b.1.type_id) h
 
 -- what a mark of the dock holds is what is in it
-pub held_found : (s : Operator) (at : DockAt) (o : Option DockedBike) (held : Option Held) → AreBikesSound s → docked_view s (docked_at s at.station.now at.dock) ≡ o → IsHeldShown o held
+pub held_found : (s : Operator) (at : DockAt) (o : Option DockedBike) (held : Option DockOccupant) → AreBikesSound s → docked_view s (docked_at s at.station.now at.dock) ≡ o → IsHeldShown o held
     → docked_at s at.station.now at.dock ≡ option_map (held_bike at) held
 held_found s at None None sound is shown = empty_dock s at.station.now at.dock sound is
 held_found s at None (Some h) sound is shown = absurd shown

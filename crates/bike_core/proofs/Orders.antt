@@ -25,10 +25,10 @@ use Rattle.bike_operator.specs.Changes.{place_of}
 use Rattle.bike_operator.specs.Sound.{HasDock, IsOrderAt, IsSound}
 use Rattle.bike_laws.specs.SingleSteps.Laws.{IsAway}
 use Rattle.bike_laws.proofs.SingleSteps.TestLemmas.{NoneHolds, none_holds, none_of, on_row, both_hold, neither, dock_of}
-use Rattle.bike_accepted.specs.declared.moved.Standing.{Standing}
-use Rattle.bike_accepted.specs.declared.moved.DockAt.{DockAt}
-use Rattle.bike_accepted.specs.declared.moved.Moved.{Moved}
-use Rattle.bike_accepted.specs.declared.moved.Moved.TheVariants as moved
+use Rattle.bike_accepted.specs.declared.movement.BikeStatus.{BikeStatus}
+use Rattle.bike_accepted.specs.declared.movement.DockAt.{DockAt}
+use Rattle.bike_accepted.specs.declared.movement.Movement.{Movement}
+use Rattle.bike_accepted.specs.declared.movement.Movement.TheVariants as moved
 use Rattle.bike_accepted.specs.declared.change.Change.{Change}
 use Rattle.bike_accepted.specs.declared.change.Change.TheVariants as change
 use Rattle.bike_accepted.specs.declared.accepted.Accepted.{Accepted}
@@ -55,8 +55,8 @@ module _ (v : View) (now truck order bike : ℕ) where
   abbrev load : Command
   load = command.Load truck order bike
 
-  module _ (b : Bike) (type_id : Bor (List ℕ)) (was : Standing) (shown : IsShown b type_id was) (passes : None ≡ first (tests v load)) (bike_is : v.bike ≡ Some b) where
-    abbrev becomes : Standing
+  module _ (b : Bike) (type_id : Bor (List ℕ)) (was : BikeStatus) (shown : IsShown b type_id was) (passes : None ≡ first (tests v load)) (bike_is : v.bike ≡ Some b) where
+    abbrev becomes : BikeStatus
     becomes = record { state = b.state; place = new.Truck truck order }
 
     abbrev loaded : Accepted
@@ -75,13 +75,18 @@ module _ (v : View) (now truck order bike : ℕ) where
       pub load_found : IsSound s → AreFound now s loaded
       load_found sound =
           let mark : is_broken_dock s b.place ≡ v.is_dock_broken = ap (is_in_broken_dock s) (sym found) ∙ ap (λ (w : View). w.is_dock_broken) (sym e) in
-          record { moved = put_found s bike b type_id was becomes v.is_dock_broken sound.bikes found shown mark (away_reach (place_of was.place) (place.Truck truck order) tt) was.place refl; change = tt; entry = tt }
+          record {
+            moved = put_found s bike b type_id was becomes v.is_dock_broken sound.bikes found shown mark (away_reach (place_of was.place) (place.Truck truck order) tt) was.place refl;
+            change = tt;
+            entry = tt;
+          }
 
 -- ---- an order that is opened
 
 pub open_order_decided : (s : Operator) (v : View) (now truck count : ℕ) (from to : Bor OrderEnd) (type_id : Bor (List ℕ)) → v ≡ view_of s (command.OpenOrder truck from.now to.now type_id.now count)
     → None ≡ first (tests v (command.OpenOrder truck from.now to.now type_id.now count))
-    → Decides s now (command.OpenOrder truck from.now to.now type_id.now count) (Ok (record { reply = Ordered (v.orders + 1); moved = None; change = Some (change.AddOrder (v.orders + 1) truck from to type_id count); entry = None }))
+    → Decides s now (command.OpenOrder truck from.now to.now type_id.now count)
+    (Ok (record { reply = Ordered (v.orders + 1); moved = None; change = Some (change.AddOrder (v.orders + 1) truck from to type_id count); entry = None }))
 open_order_decided s v now truck count from to type_id e none =
     (refused_as s v (command.OpenOrder truck from.now to.now type_id.now count) None e none, ap (λ (w : View). Ordered (w.orders + 1)) e, refl)
 
@@ -112,19 +117,21 @@ abbrev pub IsDelivery : Side → ℕ → Order → Option Change → Type 0
 IsDelivery From order o c = c ≡ None
 IsDelivery To order o c = c ≡ Some (change.SetOrder order (o.delivered + 1) o.is_open)
 
-after_delivery : (side : Side) (order : ℕ) (o : Order) (co : Option Change) (s : Operator) → item_numbered order s.orders ≡ Some o → IsDelivery side order o co → where_changed co s ≡ with_delivery order side s
+after_delivery : (side : Side) (order : ℕ) (o : Order) (co : Option Change) (s : Operator) → item_numbered order s.orders ≡ Some o → IsDelivery side order o co
+    → where_changed co s ≡ with_delivery order side s
 after_delivery From order o co s there made = rw made refl
 after_delivery To order o co s there made =
     rw made (order_as order (λ x. record x { delivered = o.delivered + 1; is_open = o.is_open }) (λ x. record x { delivered = x.delivered + 1 }) o s there refl)
 
-orders_left : (now order : ℕ) (m : Moved) (s : Operator) → item_numbered order (after_moved now m s).orders ≡ item_numbered order s.orders
+orders_left : (now order : ℕ) (m : Movement) (s : Operator) → item_numbered order (after_moved now m s).orders ≡ item_numbered order s.orders
 orders_left now order (moved.Away bike type_id was next) s = refl
 orders_left now order (moved.AtDock at bike type_id was next) s = refl
 orders_left now order (moved.AddDocks station was count) s = refl
 orders_left now order (moved.Marked at held broken) s = refl
 
 -- put at an end
-after_end_put : (e : OrderEnd) (now bike dock : ℕ) (b : Bike) (type_id : Bor (List ℕ)) (was : Standing) (m : Moved) (s : Operator) → map.get s.bikes bike ≡ Some b → IsShown b type_id was → IsPutAtEnd e bike type_id was dock m
+after_end_put : (e : OrderEnd) (now bike dock : ℕ) (b : Bike) (type_id : Bor (List ℕ)) (was : BikeStatus) (m : Movement) (s : Operator) → map.get s.bikes bike ≡ Some b → IsShown b type_id was
+    → IsPutAtEnd e bike type_id was dock m
     → after_moved now m s ≡ placed_at_end bike e dock now s
 after_end_put end.Depot now bike dock b type_id was m s found shown made = let type_is = shown.type_is in let state_is = shown.state_is in rw (made, found, type_is, state_is) refl
 after_end_put (end.Station station) now bike dock b type_id was m s found shown made =
@@ -146,7 +153,8 @@ abbrev pub TakesAt : Operator → OrderEnd → ℕ → Type 0
 TakesAt s end.Depot dock = Unit {0}
 TakesAt s (end.Station station) dock = HasDock s station dock × (is_broken s station dock ≡ false) × (docked_at s station dock ≡ None)
 
-end_found : (e : OrderEnd) (bike dock : ℕ) (b : Bike) (type_id : Bor (List ℕ)) (was : Standing) (m : Moved) (s : Operator) → map.get s.bikes bike ≡ Some b → IsShown b type_id was → IsAway b.place → TakesAt s e dock
+end_found : (e : OrderEnd) (bike dock : ℕ) (b : Bike) (type_id : Bor (List ℕ)) (was : BikeStatus) (m : Movement) (s : Operator) → map.get s.bikes bike ≡ Some b → IsShown b type_id was → IsAway b.place
+    → TakesAt s e dock
     → IsPutAtEnd e bike type_id was dock m → IsMovedFound s m
 end_found end.Depot bike dock b type_id was m s found shown away takes made =
     let from = subst IsAway (sym shown.place_is) away in
@@ -168,7 +176,8 @@ module _ (v : View) (now truck order bike : ℕ) (side : Side) (dock : ℕ) wher
   abbrev unload : Command
   unload = command.Unload truck order bike side dock
 
-  module _ (b : Bike) (o : Order) (type_id : Bor (List ℕ)) (was : Standing) (m : Moved) (co : Option Change) (shown : IsShown b type_id was) (passes : None ≡ first (tests v unload)) (bike_is : v.bike ≡ Some b)
+  module _ (b : Bike) (o : Order) (type_id : Bor (List ℕ)) (was : BikeStatus) (m : Movement) (co : Option Change) (shown : IsShown b type_id was) (passes : None ≡ first (tests v unload))
+      (bike_is : v.bike ≡ Some b)
       (order_is : v.order ≡ Some o) (put : IsPutAtEnd (end_at side o) bike type_id was dock m) (delivery : IsDelivery side order o co) where
     abbrev unloaded : Accepted
     unloaded = record { reply = Done; moved = Some m; change = co; entry = None }
@@ -190,7 +199,8 @@ module _ (v : View) (now truck order bike : ℕ) (side : Side) (dock : ℕ) wher
           )
 
       -- what is known of the end, by its tests
-      takes : IsSound s → (at : OrderEnd) → end_at side o ≡ at → has_end s at ≡ true → NoneHolds (tests (record (end_view s at dock) { truck = truck_at s truck; order = Some o; bike = map.get s.bikes bike }) unload) → TakesAt s at dock
+      takes : IsSound s → (at : OrderEnd) → end_at side o ≡ at → has_end s at ≡ true
+          → NoneHolds (tests (record (end_view s at dock) { truck = truck_at s truck; order = Some o; bike = map.get s.bikes bike }) unload) → TakesAt s at dock
       takes sound end.Depot is known tested = tt
       takes sound (end.Station station) is known tested =
           let apart = neither (dock == 0) (has_no_dock dock (station_view (map.get s.stations station)))

@@ -32,11 +32,11 @@ use Rattle.bike_operator.specs.Sound.{IsSound, IsOut, IsOpenOrClosed}
 use Rattle.bike_laws.specs.SingleSteps.Laws.{IsAway}
 use Rattle.bike_laws.proofs.SingleSteps.FoundLemmas.{ridden_in, IsRentalRow, rental_row}
 use Rattle.bike_laws.proofs.SingleSteps.TestLemmas.{NoneHolds, none_holds, none_of, same_some, on_row, holds, dock_of}
-use Rattle.bike_accepted.specs.declared.moved.Standing.{Standing}
-use Rattle.bike_accepted.specs.declared.moved.Moved.{Moved}
-use Rattle.bike_accepted.specs.declared.moved.Moved.TheVariants as moved
+use Rattle.bike_accepted.specs.declared.movement.BikeStatus.{BikeStatus}
+use Rattle.bike_accepted.specs.declared.movement.Movement.{Movement}
+use Rattle.bike_accepted.specs.declared.movement.Movement.TheVariants as moved
 use Rattle.bike_accepted.specs.declared.change.Change.TheVariants as change
-use Rattle.bike_accepted.specs.declared.accepted.Booked.{Booked}
+use Rattle.bike_accepted.specs.declared.accepted.BookedEntry.{BookedEntry}
 use Rattle.bike_accepted.specs.declared.accepted.Accepted.{Accepted}
 use Rattle.bike_accepted.specs.Effects.{bike_in, effect_of, Decides}
 use Rattle.bike_accepted.specs.Found.{IsMovedFound, IsNoOtherDock, IsAtDockFound, IsBookedFound, AreFound}
@@ -72,15 +72,17 @@ put_there : {X : Type 0} (m : FinMap nat_cmp X) (k : ℕ) (a : X) → map.get (m
 put_there m k a = map.get-insert nat_cmp_total m k a k ∙ ap (λ (e : Bool). cond e (Some a) (map.get m k)) ((eq_by_cmp_equiv nat_cmp_total).refl k)
 
 recovered_bikes : (m : FinMap nat_cmp Bike) (bike : ℕ) (b : Bike) → map.get m bike ≡ Some b
-    → key_changed (key_changed m bike (λ x. record x { place = place.Depot })) bike (λ x. record x { state = Disabled }) ≡ map.insert m bike (record { type_id = b.type_id; state = Disabled; place = place.Depot })
+    → key_changed (key_changed m bike (λ x. record x { place = place.Depot })) bike (λ x. record x { state = Disabled })
+    ≡ map.insert m bike (record { type_id = b.type_id; state = Disabled; place = place.Depot })
 recovered_bikes m bike b found =
     let one_put = ap (found_changed m bike (λ x. record x { place = place.Depot })) found in
     let put : Bike = record b { place = place.Depot } in
     ap (λ (z : FinMap nat_cmp Bike). key_changed z bike (λ x. record x { state = Disabled })) one_put
-    ∙ ap (found_changed (map.insert m bike put) bike (λ x. record x { state = Disabled })) (put_there m bike put) ∙ put_twice m bike put (record { type_id = b.type_id; state = Disabled; place = place.Depot })
+    ∙ ap (found_changed (map.insert m bike put) bike (λ x. record x { state = Disabled })) (put_there m bike put)
+    ∙ put_twice m bike put (record { type_id = b.type_id; state = Disabled; place = place.Depot })
 
 -- the fare that is booked
-pub record IsFareBooked (entries now : ℕ) (r : RentalView) (b : Booked) : Type 0 where
+pub record IsFareBooked (entries now : ℕ) (r : RentalView) (b : BookedEntry) : Type 0 where
   pub entry_is : b.entry ≡ fare_entry (entries + 1) r now
   pub balance_is : b.balance ≡ r.balance +ℤ credit kind.Fare (fare_now r now)
   pub refunded_is : b.refunded ≡ None
@@ -89,9 +91,9 @@ module _ (v : View) (now bike dock : ℕ) (station : Bor (List ℕ)) where
   abbrev end : Command
   end = command.End bike station.now dock
 
-  module _ (b : Bike) (r : RentalView) (type_id : Bor (List ℕ)) (was : Standing) (booked : Booked) (shown : IsShown b type_id was) (fare : IsFareBooked v.entries now r booked)
+  module _ (b : Bike) (r : RentalView) (type_id : Bor (List ℕ)) (was : BikeStatus) (booked : BookedEntry) (shown : IsShown b type_id was) (fare : IsFareBooked v.entries now r booked)
       (passes : None ≡ first (tests v end)) (bike_is : v.bike ≡ Some b) (rental_is : v.rental ≡ Some r) where
-    abbrev becomes : Standing
+    abbrev becomes : BikeStatus
     becomes = record { state = was.state; place = new.Dock station dock }
 
     abbrev ended : Accepted
@@ -162,10 +164,10 @@ module _ (v : View) (now rider dock : ℕ) (station plan type_id : Bor (List ℕ
   start = command.Start rider station.now dock
 
   module _ (d : DockedBike) (passes : None ≡ first (tests v start)) (docked_is : v.docked ≡ Some d) (plan_is : plan.now ≡ d.plan) (type_is : type_id.now ≡ d.type_id) where
-    abbrev stood : Standing
+    abbrev stood : BikeStatus
     stood = record { state = d.state; place = new.Dock station dock }
 
-    abbrev rides : Standing
+    abbrev rides : BikeStatus
     rides = record { state = d.state; place = new.Rental (v.rentals + 1) }
 
     abbrev started : Accepted
@@ -209,8 +211,9 @@ module _ (v : View) (now rider dock : ℕ) (station plan type_id : Bor (List ℕ
 
 -- ---- a recovery
 
-module _ (v : View) (now rental : ℕ) (r : RentalView) (booked : Booked) (fare : IsFareBooked v.entries now r booked) (passes : None ≡ first (tests v (command.Recover rental))) (rental_is : v.rental ≡ Some r)
-    (mo : Option Moved) (recovered : IsRecovered r.rental.bike v.bike mo) where
+module _ (v : View) (now rental : ℕ) (r : RentalView) (booked : BookedEntry) (fare : IsFareBooked v.entries now r booked) (passes : None ≡ first (tests v (command.Recover rental)))
+    (rental_is : v.rental ≡ Some r)
+    (mo : Option Movement) (recovered : IsRecovered r.rental.bike v.bike mo) where
   abbrev recovery : Command
   recovery = command.Recover rental
 
@@ -250,7 +253,7 @@ module _ (v : View) (now rental : ℕ) (r : RentalView) (booked : Booked) (fare 
 
     -- the bicycle is in its rental, which is open
     put_away : IsSound s → (o : Option Bike) → map.get s.bikes r.rental.bike ≡ o → IsRecovered r.rental.bike o mo → IfSome mo (IsMovedFound s)
-    put_away sound None absent m = subst (λ (z : Option Moved). IfSome z (IsMovedFound s)) (sym m) tt
+    put_away sound None absent m = subst (λ (z : Option Movement). IfSome z (IsMovedFound s)) (sym m) tt
     put_away sound (Some b) there m =
         let type_id = m.0 in
         let was = m.1 in
@@ -260,7 +263,7 @@ module _ (v : View) (now rental : ℕ) (r : RentalView) (booked : Booked) (fare 
         let out : IsOut s rental r.rental.bike = open_out s rental r.rental r.rental.closing refl not_closed (sound.rentals.rentals rental r.rental row.found).closing in
         let same = same_some out.row b (sym out.found ∙ there) in
         let in_rental : place_of was.place ≡ place.Rental rental = shown_so.place_is ∙ ap (λ (x : Bike). x.place) (sym same) ∙ out.place_is in
-        subst (λ (z : Option Moved). IfSome z (IsMovedFound s)) (sym m.3)
+        subst (λ (z : Option Movement). IfSome z (IsMovedFound s)) (sym m.3)
         (record { found = there ∙ ap (λ (x : Bike). Some x) (sym (shown_bike b type_id was shown_so)); from_away = subst IsAway (sym in_rental) tt; to_away = tt })
 
     pub recover_found : IsSound s → AreFound now s closed
@@ -279,8 +282,9 @@ module _ (v : View) (now rental : ℕ) (r : RentalView) (booked : Booked) (fare 
 
 -- ---- a refund
 
-module _ (v : View) (now rental amount : ℕ) (r : RentalView) (booked : Booked) (passes : None ≡ first (tests v (command.Refund rental amount))) (rental_is : v.rental ≡ Some r)
-    (entry_is : booked.entry ≡ refund_entry (v.entries + 1) r amount now) (balance_is : booked.balance ≡ r.balance +ℤ pos amount) (refunded_is : booked.refunded ≡ Some (r.refunded +ℤ pos amount)) where
+module _ (v : View) (now rental amount : ℕ) (r : RentalView) (booked : BookedEntry) (passes : None ≡ first (tests v (command.Refund rental amount))) (rental_is : v.rental ≡ Some r)
+    (entry_is : booked.entry ≡ refund_entry (v.entries + 1) r amount now) (balance_is : booked.balance ≡ r.balance +ℤ pos amount)
+    (refunded_is : booked.refunded ≡ Some (r.refunded +ℤ pos amount)) where
   abbrev refund : Command
   refund = command.Refund rental amount
 
@@ -315,7 +319,7 @@ module _ (v : View) (now rental amount : ℕ) (r : RentalView) (booked : Booked)
 
 -- ---- a top-up
 
-module _ (v : View) (now rider amount : ℕ) (row : RiderView) (booked : Booked) (rider_is : v.rider ≡ Some row) (room : v.is_ledger_full ≡ false)
+module _ (v : View) (now rider amount : ℕ) (row : RiderView) (booked : BookedEntry) (rider_is : v.rider ≡ Some row) (room : v.is_ledger_full ≡ false)
     (entry_is : booked.entry ≡ top_up_entry (v.entries + 1) rider amount now) (balance_is : booked.balance ≡ row.balance +ℤ pos amount) (refunded_is : booked.refunded ≡ None) where
   abbrev top_up : Command
   top_up = command.TopUp rider amount

@@ -28,7 +28,7 @@ use Rattle.bike_operator.specs.Changes.{text_in}
 use Rattle.bike_operator.specs.Sound.{AreBikesSound}
 use Rattle.bike_laws.proofs.SingleSteps.MapLemmas.{number_order}
 use Rattle.bike_laws.proofs.SingleSteps.CountLemmas.{found_by}
-use Rattle.bike_accepted.specs.declared.moved.Standing.{Standing}
+use Rattle.bike_accepted.specs.declared.movement.BikeStatus.{BikeStatus}
 use Rattle.bike_accepted.specs.declared.accepted.Accepted.{Accepted}
 use Rattle.bike_accepted.specs.Effects.{bike_in}
 use Rattle.bike_accepted.specs.Found.{FindsAt, FindsOn}
@@ -40,7 +40,7 @@ refused_as s v c o e is = ap (λ (w : View). first (tests w c)) (sym e) ∙ sym 
 
 -- ---- the bicycle
 
-pub shown_bike : (b : Bike) (type_id : Bor (List ℕ)) (was : Standing) → IsShown b type_id was → bike_in type_id was ≡ b
+pub shown_bike : (b : Bike) (type_id : Bor (List ℕ)) (was : BikeStatus) → IsShown b type_id was → bike_in type_id was ≡ b
 shown_bike b type_id was h = λ i. record { type_id = h.type_is i; state = h.state_is i; place = h.place_is i }
 
 -- where a view shows no bicycle in a dock, it is empty

@@ -7,7 +7,7 @@ ghost use Rattle.bike_commands.specs.declared.reply.Reply.TheVariants.{Balance, 
 ghost use Rattle.bike_accepted.specs.declared.change.Change.TheVariants as change;
 ghost use Rattle.bike_operator.specs.Steps.{fare_now};
 
-use bike_accepted::{Booked, Change};
+use bike_accepted::{BookedEntry, Change};
 use bike_commands::Reply;
 use bike_fares::fare;
 use bike_fields::{GREATEST_SERIAL, Ident, Payment};
@@ -38,13 +38,13 @@ pub fn next_entry(entries: u32) -> Option<EntryNumber>
 }
 
 /// An entry that is booked, with its rider's balance after it, and for a refund what is refunded then.
-pub fn booked(balance: Cents, entry: Entry, refunded: Option<Cents>) -> Booked
+pub fn booked(balance: Cents, entry: Entry, refunded: Option<Cents>) -> BookedEntry
     requires { IsBalance balance }
     ensures entry { result.entry ≡ entry }
     ensures balance { result.balance ≡ balance +ℤ credit entry.kind entry.amount }
     ensures refunded { result.refunded ≡ refunded }
 {
-    Booked {
+    BookedEntry {
         balance: balance_after(balance, &entry),
         entry,
         refunded,
@@ -52,7 +52,7 @@ pub fn booked(balance: Cents, entry: Entry, refunded: Option<Cents>) -> Booked
 }
 
 /// The fare of a rental that ends now, booked by the closing rule.
-pub fn fare_booked(entries: u32, row: &RentalView, now: Moment) -> Booked
+pub fn fare_booked(entries: u32, row: &RentalView, now: Moment) -> BookedEntry
     // The ledger has room, the rental began, and its rider has a balance.
     requires few { entries < MOST_ENTRIES }
     requires began { row.now.rental.start ≤ now }
@@ -77,7 +77,11 @@ pub fn fare_booked(entries: u32, row: &RentalView, now: Moment) -> Booked
 }
 
 /// The rental closed at a station or recovered, at the moment and the fare that are booked.
-pub fn closing<'a>(row: &RentalView, to_station: Option<&'a Ident>, booked: &Booked) -> Change<'a>
+pub fn closing<'a>(
+    row: &RentalView,
+    to_station: Option<&'a Ident>,
+    booked: &BookedEntry,
+) -> Change<'a>
     ensures { let entry = booked.now.entry in
         result ≡ change.CloseRental row.now.number to_station.entry entry.at entry.amount }
 {
@@ -90,14 +94,14 @@ pub fn closing<'a>(row: &RentalView, to_station: Option<&'a Ident>, booked: &Boo
 }
 
 /// The reply that tells the balance after an entry.
-pub fn balance_reply(booked: &Booked) -> Reply
+pub fn balance_reply(booked: &BookedEntry) -> Reply
     ensures { result ≡ Balance booked.now.balance }
 {
     Reply::Balance(booked.balance.hundredths())
 }
 
 /// The reply that tells a fare and the balance after it.
-pub fn ended_reply(booked: &Booked) -> Reply
+pub fn ended_reply(booked: &BookedEntry) -> Reply
     ensures { result ≡ Ended booked.now.entry.amount booked.now.balance }
 {
     Reply::Ended {

@@ -6,7 +6,7 @@ ghost use Rattle.bike_accepted.specs.Effects.{DecidesOn};
 ghost use Rattle.bike_accepted.specs.Found.{FindsOn};
 
 use crate::{is_depot, is_retired, put_from, standing_of};
-use bike_accepted::{Accepted, Change, Decision, Moved, Standing};
+use bike_accepted::{Accepted, BikeStatus, Change, Decision, Movement};
 use bike_commands::Refusal;
 use bike_fields::{BicycleNumber, Ident};
 use bike_operator::{BikeState, View};
@@ -60,7 +60,7 @@ pub(crate) fn decide_mark_bike<'a>(
         BikeState::Fit
     };
     let was = standing_of(row);
-    let becomes = Standing {
+    let becomes = BikeStatus {
         state,
         place: was.place,
     };
@@ -83,11 +83,11 @@ pub(crate) fn decide_retire_bike<'a>(view: &'a View, bike: BicycleNumber) -> Dec
         return Err(Refusal::NotInDepot);
     }
     let was = standing_of(row);
-    let becomes = Standing {
+    let becomes = BikeStatus {
         state: BikeState::Retired,
         place: was.place,
     };
-    Ok(Accepted::moved(Moved::Away {
+    Ok(Accepted::moved(Movement::Away {
         bike: bike.get(),
         type_id: &row.type_id,
         was,

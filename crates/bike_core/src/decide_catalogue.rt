@@ -6,7 +6,7 @@ ghost use Rattle.bike_accepted.specs.Effects.{DecidesAt, DecidesOn};
 ghost use Rattle.bike_accepted.specs.Found.{FindsAt, FindsOn};
 
 use crate::held_in;
-use bike_accepted::{Accepted, Change, Decision, DockAt, Moved};
+use bike_accepted::{Accepted, Change, Decision, DockAt, Movement};
 use bike_catalogue::{Plan, Settings, Station, System, VehicleType};
 use bike_commands::Refusal;
 use bike_fields::{DockCount, DockNumber, Ident, MOST_DOCKS, Position};
@@ -150,7 +150,7 @@ pub(crate) fn decide_add_docks<'a>(
     if was.get() + count.get() > MOST_DOCKS {
         return Err(Refusal::LimitReached);
     }
-    Ok(Accepted::moved(Moved::AddDocks {
+    Ok(Accepted::moved(Movement::AddDocks {
         station,
         was,
         count,
@@ -209,7 +209,7 @@ pub(crate) fn decide_mark_dock<'a>(
         is_broken: view.is_dock_broken,
     };
     let held = held_in(&view.docked);
-    Ok(Accepted::moved(Moved::Marked {
+    Ok(Accepted::moved(Movement::Marked {
         at,
         held,
         is_broken,

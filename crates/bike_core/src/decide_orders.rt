@@ -11,7 +11,7 @@ use crate::{
     end_at, ends_apart, is_at_end, is_loaded, is_retired, is_same_end, next_number, put_at_end,
     put_from, standing_of,
 };
-use bike_accepted::{Accepted, Change, Decision, Standing};
+use bike_accepted::{Accepted, BikeStatus, Change, Decision};
 use bike_commands::{Refusal, Reply};
 use bike_fields::{BicycleNumber, Ident, OrderNumber, OrderQuantity, TruckCapacity, TruckNumber};
 use bike_operator::{Bike, MOST_ORDERS, NewPlace, Order, View};
@@ -165,7 +165,7 @@ pub(crate) fn decide_load<'a>(
         truck: truck.get(),
         order: order.get(),
     };
-    let becomes = Standing {
+    let becomes = BikeStatus {
         state: row.state,
         place,
     };

@@ -14,7 +14,7 @@ use crate::{
     balance_reply, booked, closing, ended_reply, fare_booked, is_fit, is_too_much, next_entry,
     next_number, standing_of, sum_within,
 };
-use bike_accepted::{Accepted, Change, Decision, DockAt, Moved, Standing};
+use bike_accepted::{Accepted, BikeStatus, Change, Decision, DockAt, Movement};
 use bike_commands::{Refusal, Reply};
 use bike_fields::{BicycleNumber, DockNumber, Ident, Payment, RentalNumber, RiderNumber};
 use bike_fixed::{Cents, Moment};
@@ -89,17 +89,17 @@ pub(crate) fn decide_start<'a>(
         dock,
         is_broken: false,
     };
-    let was = Standing {
+    let was = BikeStatus {
         state: docked.state,
         place: NewPlace::Dock { station, dock },
     };
-    let becomes = Standing {
+    let becomes = BikeStatus {
         state: docked.state,
         place: NewPlace::Rental {
             rental: rental.get(),
         },
     };
-    let moved = Moved::AtDock {
+    let moved = Movement::AtDock {
         at,
         bike: bike.get(),
         type_id: &docked.type_id,
@@ -180,7 +180,7 @@ pub(crate) fn decide_end<'a>(
     let booked = fare_booked(view.entries, ending.rental, now);
     let was = standing_of(ending.bike);
     let dock = dock.get();
-    let becomes = Standing {
+    let becomes = BikeStatus {
         state: was.state,
         place: NewPlace::Dock { station, dock },
     };
@@ -189,7 +189,7 @@ pub(crate) fn decide_end<'a>(
         dock,
         is_broken: false,
     };
-    let moved = Moved::AtDock {
+    let moved = Movement::AtDock {
         at,
         bike: bike.get(),
         type_id: &ending.bike.type_id,
@@ -220,16 +220,16 @@ fn check_recover(view: &View) -> Result<&RentalView, Refusal>
 }
 
 /// A recovered bicycle, which is disabled in the depot.
-fn recovered<'a>(number: BicycleNumber, bike: &'a Option<Bike>) -> Option<Moved<'a>>
+fn recovered<'a>(number: BicycleNumber, bike: &'a Option<Bike>) -> Option<Movement<'a>>
     ensures { IsRecovered number bike.now result }
 {
     match bike {
         None => None,
-        Some(row) => Some(Moved::Away {
+        Some(row) => Some(Movement::Away {
             bike: number.get(),
             type_id: &row.type_id,
             was: standing_of(row),
-            becomes: Standing {
+            becomes: BikeStatus {
                 state: BikeState::Disabled,
                 place: NewPlace::Depot,
             },

@@ -19,7 +19,7 @@ mod decide_riders;
 mod decision;
 mod places;
 
-pub use bike_accepted::{Accepted, Change, Decision, Moved};
+pub use bike_accepted::{Accepted, Change, Decision, Movement};
 pub use bike_commands::{Command, Refusal, Reply, Request};
 pub use bike_operator::View;
 pub use booking::{

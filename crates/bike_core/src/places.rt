@@ -7,7 +7,7 @@ ghost use Rattle.bike_operator.specs.Steps.{is_same_end, is_at_end, ends_apart};
 ghost use Rattle.bike_operator.specs.Changes.{place_of};
 ghost use Rattle.bike_core.specs.Moves.{put_from, IsHeldShown, IsPutAtEnd};
 
-use bike_accepted::{DockAt, Held, Moved, Standing};
+use bike_accepted::{BikeStatus, DockAt, DockOccupant, Movement};
 use bike_fields::{Ident, OrderNumber, TruckNumber};
 use bike_operator::{Bike, BikeState, DockedBike, NewPlace, Order, Place, StationView};
 use bike_texts::{OrderEnd, Side, UnloadDock};
@@ -66,11 +66,11 @@ fn place_in<'a>(place: &'a Place) -> NewPlace<'a>
 }
 
 /// How a bicycle stands.
-pub fn standing_of<'a>(bike: &'a Bike) -> Standing<'a>
+pub fn standing_of<'a>(bike: &'a Bike) -> BikeStatus<'a>
     ensures state { result.state ≡ bike.now.state }
     ensures place { place_of result.place ≡ bike.now.place }
 {
-    Standing {
+    BikeStatus {
         state: bike.state,
         place: place_in(&bike.place),
     }
@@ -80,10 +80,10 @@ pub fn standing_of<'a>(bike: &'a Bike) -> Standing<'a>
 pub fn put_from<'a>(
     bike: u32,
     type_id: &'a Ident,
-    was: Standing<'a>,
-    becomes: Standing<'a>,
+    was: BikeStatus<'a>,
+    becomes: BikeStatus<'a>,
     is_broken: bool,
-) -> Moved<'a>
+) -> Movement<'a>
     ensures { result ≡ put_from was.entry.place bike type_id.entry was.entry becomes.entry is_broken }
 {
     match was.place {
@@ -93,7 +93,7 @@ pub fn put_from<'a>(
                 dock,
                 is_broken,
             };
-            Moved::AtDock {
+            Movement::AtDock {
                 at,
                 bike,
                 type_id,
@@ -101,7 +101,7 @@ pub fn put_from<'a>(
                 becomes,
             }
         }
-        NewPlace::Rental { .. } | NewPlace::Truck { .. } | NewPlace::Depot => Moved::Away {
+        NewPlace::Rental { .. } | NewPlace::Truck { .. } | NewPlace::Depot => Movement::Away {
             bike,
             type_id,
             was,
@@ -167,12 +167,12 @@ pub fn ends_apart(end: &OrderEnd, station: &Option<StationView>, dock: UnloadDoc
 }
 
 /// The bicycle in a dock, as a mark of the dock has it.
-pub fn held_in<'a>(docked: &'a Option<DockedBike>) -> Option<Held<'a>>
+pub fn held_in<'a>(docked: &'a Option<DockedBike>) -> Option<DockOccupant<'a>>
     ensures { IsHeldShown docked.now result }
 {
     match docked {
         None => None,
-        Some(row) => Some(Held {
+        Some(row) => Some(DockOccupant {
             bike: row.bike.get(),
             type_id: &row.type_id,
             state: row.state,
@@ -184,19 +184,19 @@ pub fn held_in<'a>(docked: &'a Option<DockedBike>) -> Option<Held<'a>>
 pub fn put_at_end<'a>(
     bike: u32,
     type_id: &'a Ident,
-    was: Standing<'a>,
+    was: BikeStatus<'a>,
     end: &'a OrderEnd,
     dock: UnloadDock,
-) -> Moved<'a>
+) -> Movement<'a>
     ensures { IsPutAtEnd end.now bike type_id.entry was.entry dock result }
 {
     let state = was.state;
     match end {
-        OrderEnd::Depot => Moved::Away {
+        OrderEnd::Depot => Movement::Away {
             bike,
             type_id,
             was,
-            becomes: Standing {
+            becomes: BikeStatus {
                 state,
                 place: NewPlace::Depot,
             },
@@ -208,12 +208,12 @@ pub fn put_at_end<'a>(
                 dock,
                 is_broken: false,
             };
-            Moved::AtDock {
+            Movement::AtDock {
                 at,
                 bike,
                 type_id,
                 was,
-                becomes: Standing {
+                becomes: BikeStatus {
                     state,
                     place: NewPlace::Dock { station, dock },
                 },

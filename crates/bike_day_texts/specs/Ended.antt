@@ -1,7 +1,7 @@
 -- A rental that ended, as a row.
 use Rattle.std.specs.Prelude.{ℕ}
-use Rattle.bike_summaries.specs.declared.rental.ClosingInfo.{ClosingInfo}
-use Rattle.bike_summaries.specs.declared.rental.RentalInfo.{RentalInfo}
+use Rattle.bike_operator.specs.declared.rental_info.ClosingInfo.{ClosingInfo}
+use Rattle.bike_operator.specs.declared.rental_info.RentalInfo.{RentalInfo}
 use Rattle.bike_day_texts.specs.Rows.{EndedRow}
 
 -- a rental of this number that was closed so

@@ -16,7 +16,8 @@ line_of = row_text default_writer
 abbrev pub columns_of : DayTable → List (List ℕ)
 columns_of Entries = codes "number" ∷ codes "kind" ∷ codes "rider" ∷ codes "rental" ∷ codes "amount" ∷ codes "at" ∷ []
 columns_of Rentals =
-    codes "number" ∷ codes "rider" ∷ codes "bike" ∷ codes "plan" ∷ codes "from" ∷ codes "start" ∷ codes "to" ∷ codes "end" ∷ codes "fare" ∷ []
+    codes "number" ∷ codes "rider" ∷ codes "bike" ∷ codes "plan" ∷ codes "from" ∷ codes "start" ∷ codes "to"
+    ∷ codes "end" ∷ codes "fare" ∷ []
 
 abbrev pub header_line : DayTable → List ℕ
 header_line table = line_of (columns_of table)
@@ -30,7 +31,9 @@ kind_name Refund = codes "refund"
 
 -- a top-up shows the rental 0
 abbrev pub entry_fields : Entry → List (List ℕ)
-entry_fields e = decimal e.number ∷ kind_name e.kind ∷ decimal e.rider ∷ decimal e.rental ∷ cents_text e.amount ∷ moment_text e.at ∷ []
+entry_fields e =
+    decimal e.number ∷ kind_name e.kind ∷ decimal e.rider ∷ decimal e.rental ∷ cents_text e.amount ∷ moment_text e.at
+    ∷ []
 
 abbrev pub entry_line : Entry → List ℕ
 entry_line e = line_of (entry_fields e)
@@ -56,7 +59,8 @@ stop_text (Some station) = station
 
 abbrev pub ended_fields : EndedRow → List (List ℕ)
 ended_fields r =
-    decimal r.number ∷ decimal r.rider ∷ decimal r.bike ∷ r.plan ∷ r.from_station ∷ moment_text r.start ∷ stop_text r.to_station
+    decimal r.number ∷ decimal r.rider ∷ decimal r.bike ∷ r.plan ∷ r.from_station ∷ moment_text r.start
+    ∷ stop_text r.to_station
     ∷ moment_text r.finish ∷ cents_text r.fare ∷ []
 
 abbrev pub ended_line : EndedRow → List ℕ

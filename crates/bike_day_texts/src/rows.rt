@@ -10,7 +10,7 @@ use crate::line::write_line;
 use crate::table::DayTable;
 use bike_fields::{Ident, RentalNumber};
 use bike_ledger::{Entry, EntryKind};
-use bike_summaries::{ClosingInfo, RentalInfo};
+use bike_operator::{ClosingInfo, RentalInfo};
 use itoa::Buffer;
 use std::alloc::Global;
 use std::io::Write;

@@ -26,7 +26,8 @@ take-next : {A : Type 0} (xs : List A) (i : ℕ) (d : A) → i < length xs → t
 take-next xs i d h = ap (λ n. take n xs) (add-one i) ∙ take-suc xs i d h
 
 -- each may be written after those before it
-pub may_at : (xs : List RowChange) (i : ℕ) (x : RowChange) (t : Tables) → MayWriteAll (writes_of xs) t → i < length xs → x ≡ get_or xs i x → MayWrite (write_of x) (tables_after_all (writes_of (take i xs)) t)
+pub may_at : (xs : List RowChange) (i : ℕ) (x : RowChange) (t : Tables) → MayWriteAll (writes_of xs) t → i < length xs → x ≡ get_or xs i x
+    → MayWrite (write_of x) (tables_after_all (writes_of (take i xs)) t)
 may_at [] i x t may low is = absurd (omega (arith, low))
 may_at (y ∷ ys) zero x t may low is = subst (λ c. MayWrite (write_of c) t) (sym is) may.0
 may_at (y ∷ ys) (suc i) x t may low is = may_at ys i x (tables_after (write_of y) t) may.1 (omega (arith, low)) is

@@ -12,7 +12,7 @@ use Rattle.sqlite.specs.State.{State, HasCleanDisk, Survives, IsUnchanged, Shows
 use Rattle.sqlite.specs.Held.{Held, state}
 use Rattle.sqlite.proofs.StateLemmas.{survives_then}
 use Rattle.sqlite.proofs.Callers.{survives_begin}
-use Rattle.bike_rows.specs.Calls.{IsQuiet}
+use Rattle.bike_sql.specs.Calls.{IsQuiet}
 use Rattle.bike_operator.specs.Operator.{Operator}
 use Rattle.bike_book.specs.declared.row_change.RowChange.{RowChange}
 use Rattle.bike_book.specs.Tables.{Meta}
@@ -99,8 +99,10 @@ abbrev pub MayPut : List RowChange → Database → Type 0
 MayPut changes db = IsOurs db × MayWriteAll (writes_of changes) (tables_of db)
 
 -- a transaction: it begins, its changes are put, it ends
-module _ {S : Type 0} (g : Ghosts S) (old last end : Held S) (changes : List RowChange) (i : ℕ) (whole : length changes ≤ i) (live : IsTrue (state g old).is_open) (may : MayPut changes (state g old).now)
-    (made : HasCleanDisk (state g last) → IsTrue (state g old).is_open → MayPut changes (state g old).now → Puts (writes_of (take i changes)) (state g (record old { in_transaction = true })) (state g last))
+module _ {S : Type 0} (g : Ghosts S) (old last end : Held S) (changes : List RowChange) (i : ℕ) (whole : length changes ≤ i) (live : IsTrue (state g old).is_open)
+    (may : MayPut changes (state g old).now)
+    (made : HasCleanDisk (state g last) → IsTrue (state g old).is_open → MayPut changes (state g old).now
+    → Puts (writes_of (take i changes)) (state g (record old { in_transaction = true })) (state g last))
     (calm : Survives (state g (record old { in_transaction = true })) (state g last) (λ _. ⊥)) where
   pub all_put : HasCleanDisk (state g last) → Puts (writes_of changes) (state g (record old { in_transaction = true })) (state g last)
   all_put clean = subst (λ cs. Puts (writes_of cs) (state g (record old { in_transaction = true })) (state g last)) (take_all i changes whole) (made clean live may)
@@ -125,7 +127,8 @@ module _ {S : Type 0} (g : Ghosts S) (old end : Held S) (changes : List RowChang
 
   pub next_kept : Settles g → (now : Database) → Makes (writes_of changes) (state g old).now now → Shows (state g old) (state g end) now now false → Keeps (state g end) next
   next_kept settles now makes shown =
-      settled_keeps g settles end next shown.is_open shown.mode (shown.committed_is ∙ sym shown.now_is) (subst (λ d. StandsFor d next) (sym shown.now_is) (next_stands now makes)) (subst HasTables (sym shown.now_is) makes.has)
+      settled_keeps g settles end next shown.is_open shown.mode (shown.committed_is ∙ sym shown.now_is) (subst (λ d. StandsFor d next) (sym shown.now_is) (next_stands now makes))
+      (subst HasTables (sym shown.now_is) makes.has)
 
   pub either_left : HasCleanDisk (state g end) → Survives (state g old) (state g end) (MayMake changes (state g old).now) → AllLeft (state g end) (TreesStandForEither s next)
   either_left clean crash db h = elim (crash.crash clean db h) [

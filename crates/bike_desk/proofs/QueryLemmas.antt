@@ -13,7 +13,7 @@ use Rattle.bike_booking.specs.Figures.{figures_of}
 use Rattle.bike_desk.specs.declared.fault.DeskFault.{DeskFault}
 use Rattle.bike_desk.specs.declared.fault.DeskFault.TheVariants.{NoMemory, StoreFailed, Stopped}
 use Rattle.sqlite.specs.State.{HasCleanDisk}
-use Rattle.bike_desk.specs.declared.remembered.Remembered.{Remembered}
+use Rattle.bike_desk.specs.declared.remembered.DeskMemory.{DeskMemory}
 use Rattle.bike_desk.specs.Desk.{DeskValue, desk_state, IsAt, IsRemembered}
 use Rattle.bike_desk.specs.Newest.{knows_newest}
 use Rattle.bike_desk.specs.declared.newest.Newest.{Newest}
@@ -57,21 +57,22 @@ module _ {S : Type 0} (g : Ghosts S) (desk : DeskValue S) {A : Type 0} (says : O
   }
 
 -- one read
-module _ {S : Type 0} (g : Ghosts S) (conn next : Held S) (stopped : Bool) (newest : Newest) (figures : Option Figures) {A : Type 0} (says : Operator → A → Type 0) (going : (stopped || conn.in_transaction) ≡ false) where
+module _ {S : Type 0} (g : Ghosts S) (conn next : Held S) (stopped : Bool) (newest : Newest) (figures : Option Figures) {A : Type 0} (says : Operator → A → Type 0)
+    (going : (stopped || conn.in_transaction) ≡ false) where
   abbrev pub before : DeskValue S
   before = record { conn = conn; is_stopped = stopped || conn.in_transaction; remembered = record { newest_tells = knows_newest newest; figures = figures } }
 
   abbrev pub after : DeskValue S
   after = record { conn = next; is_stopped = stopped || next.in_transaction; remembered = record { newest_tells = knows_newest newest; figures = figures } }
 
-  abbrev pub remembered_before : Remembered
+  abbrev pub remembered_before : DeskMemory
   remembered_before = record { newest_tells = knows_newest newest; figures = figures }
 
   -- what the desk becomes where it remembers this from then on
-  abbrev pub after_learning : Remembered → DeskValue S
+  abbrev pub after_learning : DeskMemory → DeskValue S
   after_learning later = record { conn = next; is_stopped = stopped || next.in_transaction; remembered = later }
 
-  learnt : (later : Remembered) (x : A) → Answers g conn next {E = StatementFault} (Ok x) (λ s m y. IsRemembered s remembered_before → IsRemembered s later × says s y)
+  learnt : (later : DeskMemory) (x : A) → Answers g conn next {E = StatementFault} (Ok x) (λ s m y. IsRemembered s remembered_before → IsRemembered s later × says s y)
       → Queries g before (after_learning later) (Ok x) says
   learnt later x reads = record {
     clean = reads.quiet.survives.clean;
@@ -93,11 +94,13 @@ module _ {S : Type 0} (g : Ghosts S) (conn next : Held S) (stopped : Bool) (newe
     stays = λ is_stopped. absurd (let e : true ≡ false = sym is_stopped ∙ going in cc);
   }
 
-  pub learns : (later : Remembered) (x : A) (old : DeskValue S) → before ≡ old → Answers g conn next {E = StatementFault} (Ok x) (λ s m y. IsRemembered s remembered_before → IsRemembered s later × says s y)
+  pub learns : (later : DeskMemory) (x : A) (old : DeskValue S) → before ≡ old
+      → Answers g conn next {E = StatementFault} (Ok x) (λ s m y. IsRemembered s remembered_before → IsRemembered s later × says s y)
       → Queries g old (after_learning later) (Ok x) says
   learns later x old is reads = subst (λ (d : DeskValue S). Queries g d (after_learning later) (Ok x) says) is (learnt later x reads)
 
-  pub failed : {X : Type 0} (tells : Operator → Listed → X → Type 0) (e : StatementFault) → Answers g conn next {A = X} (Err e) tells → Queries g before (record after { is_stopped = true }) (Err StoreFailed) says
+  pub failed : {X : Type 0} (tells : Operator → Listed → X → Type 0) (e : StatementFault) → Answers g conn next {A = X} (Err e) tells
+      → Queries g before (record after { is_stopped = true }) (Err StoreFailed) says
   failed tells e reads = record {
     clean = reads.quiet.survives.clean;
     ok = λ clean s at. tt;
@@ -111,15 +114,18 @@ module _ {S : Type 0} (g : Ghosts S) (conn next : Held S) (stopped : Bool) (newe
   }
 
   -- what was read is so where what is known of newest rentals is
-  pub queries_knowing : (read : Result A StatementFault) (new : DeskValue S) (result : Result A DeskFault) → Answers g conn next read (λ s m x. (IsTrue (knows_newest newest) → NewestTells s) → says s x) → TellsOf read after new result
+  pub queries_knowing : (read : Result A StatementFault) (new : DeskValue S) (result : Result A DeskFault)
+      → Answers g conn next read (λ s m x. (IsTrue (knows_newest newest) → NewestTells s) → says s x) → TellsOf read after new result
       → Queries g before new result says
   queries_knowing (Ok x) new result reads tells =
       subst (λ (d : DeskValue S). Queries g before d result says) (sym tells.1)
       (subst (λ (r : Result A DeskFault). Queries g before after r says) (sym tells.0) (learnt remembered_before x (reads_weaker reads (λ db y is s h known. (known, is s h known.newest)))))
   queries_knowing (Err e) new result reads tells =
-      subst (λ (d : DeskValue S). Queries g before d result says) (sym tells.1) (subst (λ (r : Result A DeskFault). Queries g before (record after { is_stopped = true }) r says) (sym tells.0) (failed _ e reads))
+      subst (λ (d : DeskValue S). Queries g before d result says) (sym tells.1)
+      (subst (λ (r : Result A DeskFault). Queries g before (record after { is_stopped = true }) r says) (sym tells.0) (failed _ e reads))
 
-  pub queries : (read : Result A StatementFault) (new : DeskValue S) (result : Result A DeskFault) → Answers g conn next read (λ s m. says s) → TellsOf read after new result → Queries g before new result says
+  pub queries : (read : Result A StatementFault) (new : DeskValue S) (result : Result A DeskFault) → Answers g conn next read (λ s m. says s) → TellsOf read after new result
+      → Queries g before new result says
   queries read new result reads tells = queries_knowing read new result (reads_weaker reads (λ db y is s h known. is s h)) tells
 
 -- what is remembered is told, and nothing is read

@@ -16,12 +16,12 @@ use Rattle.bike_booking.specs.Figures.{figures_of}
 use Rattle.bike_schema.specs.declared.fault.StatementFault.{StatementFault}
 use Rattle.bike_schema.specs.Answers.{Answers}
 use Rattle.bike_schema.specs.Stands.{Keeps}
-use Rattle.bike_views.specs.declared.figures.Known.{Known}
+use Rattle.bike_views.specs.declared.figures.KnownFigures.{KnownFigures}
 use Rattle.bike_views.specs.declared.view_and_docks.ViewAndDocks.{ViewAndDocks}
 use Rattle.bike_views.specs.Known.{IsKnown}
 use Rattle.bike_views.specs.Open.{AnswersOpen}
 use Rattle.bike_views.specs.ViewAndDocks.{IsFoundFor}
-use Rattle.bike_desk.specs.declared.remembered.Remembered.{Remembered}
+use Rattle.bike_desk.specs.declared.remembered.DeskMemory.{DeskMemory}
 use Rattle.bike_desk.specs.Desk.{AreFigures, IsRemembered}
 use Rattle.bike_desk.specs.Serving.{IsReadFor, IsFoundIn}
 use Rattle.bike_desk.proofs.KeepLemmas.{kept_ours, kept_stores, still}
@@ -30,12 +30,13 @@ use Rattle.bike_desk.proofs.KeepLemmas.{kept_ours, kept_stores, still}
 pub asked_command : {p q : Request} → p ≡ q → p.command ≡ q.command
 asked_command same = ap (λ (r : Request). r.command) same
 
-module _ {S : Type 0} (g : Ghosts S) (old mid new : Held S) (s : Operator) (moment now : ℕ) (q : Request) (r : Remembered) (figures : Figures) (x : ViewAndDocks) where
-  abbrev known : Known
+module _ {S : Type 0} (g : Ghosts S) (old mid new : Held S) (s : Operator) (moment now : ℕ) (q : Request) (r : DeskMemory) (figures : Figures) (x : ViewAndDocks) where
+  abbrev known : KnownFigures
   known = record { figures = figures; newest_tells = r.newest_tells }
 
   -- after both reads the connection keeps the operator, whose figures and view of the request's command they are
-  pub both_read : (command : Command) → command ≡ q.command → Keeps (state g old) s → HasCleanDisk (state g new) → AnswersOpen g old mid {E = StatementFault} (Ok figures) (λ s m x. AreFigures r.figures s → x ≡ figures_of s)
+  pub both_read : (command : Command) → command ≡ q.command → Keeps (state g old) s → HasCleanDisk (state g new)
+      → AnswersOpen g old mid {E = StatementFault} (Ok figures) (λ s m x. AreFigures r.figures s → x ≡ figures_of s)
       → Answers g mid new {E = StatementFault} (Ok x) (λ s m x. IsKnown s known → IsFoundFor s m command x)
       → IsRemembered s r → moment ≤ last_moment → now ≡ max moment figures.now → map.get s.kept (key_in q) ≡ None → Keeps (state g new) s × IsReadFor (state g new).now s moment now q figures x
   both_read command is keeps clean one seen remembers in_time later anew =

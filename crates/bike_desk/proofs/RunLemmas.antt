@@ -29,7 +29,8 @@ replies-next s xs i c low is = ap (replies s) (take-item xs i c low is) ∙ repl
 module _ {S : Type 0} (g : Ghosts S) (now : DeskValue S) (s : Operator) (calls : List Call) where
   -- whatever ended the run, a crash leaves a front
   pub front_of : (told : List Reply) (end : Option DeskFault) → Ran g now s calls told end → AllLeft (desk_state g now) (IsAfterFront s calls (length told))
-  front_of told None r db h = (length told, omega arith, omega arith, r.within, subst (λ xs. TreesStandFor (after s xs) db) (sym (take_all (length told) calls (omega (arith, r.ends.0)))) (r.ends.1.keeps.left db h))
+  front_of told None r db h =
+      (length told, omega arith, omega arith, r.within, subst (λ xs. TreesStandFor (after s xs) db) (sym (take_all (length told) calls (omega (arith, r.ends.0)))) (r.ends.1.keeps.left db h))
   front_of told (Some NoMemory) r db h = (length told, omega arith, omega arith, r.within, r.ends.1.keeps.left db h)
   front_of told (Some StoreFailed) r db h = elim (r.ends.2 db h) [
     | inl before ↦ (length told, omega arith, omega arith, r.within, before)
@@ -43,5 +44,6 @@ module _ {S : Type 0} (g : Ghosts S) (now : DeskValue S) (s : Operator) (calls :
       → (fault ≡ StoreFailed → AllLeft (desk_state g now) (TreesStandForEither (after s (take k calls)) (stepped (after s (take k calls)) c)))
       → (fault ≡ Stopped → IsTrue before.is_stopped) → EndsAt g now s calls k (Some fault)
   fault_ends k c before NoMemory low is at same stops failed stopped = (inr low, subst (λ (d : DeskValue S). IsAt g d (after s (take k calls))) (sym (same refl)) at)
-  fault_ends k c before StoreFailed low is at same stops failed stopped = (low, stops refl, λ db h. subst (λ o. TreesStandForEither (after s (take k calls)) o db) (sym (after-next s calls k c low is)) (failed refl db h))
+  fault_ends k c before StoreFailed low is at same stops failed stopped =
+      (low, stops refl, λ db h. subst (λ o. TreesStandForEither (after s (take k calls)) o db) (sym (after-next s calls k c low is)) (failed refl db h))
   fault_ends k c before Stopped low is at same stops failed stopped = both_ways before.is_stopped at.goes_on (stopped refl)

@@ -46,8 +46,11 @@ module _ (s : Operator) (t : ℕ) (q : Request) where
       → (cond (bytes_eq (string_bytes row.command) text) row.reply (Refused refusal.KeyReused) ≡ (step s t q).0) × (s ≡ (step s t q).1)
   step_kept None row text found same is = absurd same
   step_kept (Some k) row text found same is =
-      let is_step = ap (outcome_with_kept s t q) found in
-      (ap₂ (λ c r. cond (bytes_eq c text) r (Refused refusal.KeyReused)) same.0 same.1 ∙ ap (λ x. cond (bytes_eq (text_of k.command) x) k.reply (Refused refusal.KeyReused)) is ∙ sym (ap (λ (p : Reply × Operator). p.0) is_step), sym (ap (λ (p : Reply × Operator). p.1) is_step))
+      let is_step = ap (outcome_with_kept s t q) found in (
+        ap₂ (λ c r. cond (bytes_eq c text) r (Refused refusal.KeyReused)) same.0 same.1 ∙ ap (λ x. cond (bytes_eq (text_of k.command) x) k.reply (Refused refusal.KeyReused)) is
+            ∙ sym (ap (λ (p : Reply × Operator). p.0) is_step),
+        sym (ap (λ (p : Reply × Operator). p.1) is_step),
+      )
 
   pub none_kept : (o : Option Kept) → map.get s.kept (key_in q) ≡ o → KeepsSame o None → map.get s.kept (key_in q) ≡ None
   none_kept None found same = found
@@ -60,7 +63,8 @@ module _ (s : Operator) (t : ℕ) (q : Request) where
 
     -- an acceptance
     pub step_accepted : refusal_of s q.command ≡ None → step s t q ≡ (reply_of s now q.command, after_acceptance s now q)
-    step_accepted free = ap (outcome_with_kept s t q) anew ∙ ap (outcome s (max t s.now) q) free ∙ ap (λ (n : ℕ). let p : Reply × Operator = (reply_of s n q.command, after_acceptance s n q) in p) (sym later)
+    step_accepted free =
+        ap (outcome_with_kept s t q) anew ∙ ap (outcome s (max t s.now) q) free ∙ ap (λ (n : ℕ). let p : Reply × Operator = (reply_of s n q.command, after_acceptance s n q) in p) (sym later)
 
     -- the operator after it is sound
     pub accepted_sound : t ≤ last_moment → IsRequest q → IsSound s → refusal_of s q.command ≡ None → IsSound (after_acceptance s now q)
@@ -73,7 +77,8 @@ acceptance_moves s t q anew free same =
     let none : map.get (step s t q).1.kept (key_in q) ≡ None = ap (λ (o : Operator). map.get o.kept (key_in q)) same ∙ anew in cc
 
 -- what is booked leads on, from the same rows after a read
-pub booked_next : (old new : State) (s : Operator) (now : ℕ) (q : Request) (h : Stores old.now s) (rows : List RowChange) → new.now ≡ old.now → Keeps new s → IsSound (after_acceptance s now q) → MayWriteAll (writes_of rows) (tables_for s h.listed) → Books rows s h.listed now q → IsNextBy new rows s (after_acceptance s now q)
+pub booked_next : (old new : State) (s : Operator) (now : ℕ) (q : Request) (h : Stores old.now s) (rows : List RowChange) → new.now ≡ old.now → Keeps new s → IsSound (after_acceptance s now q)
+    → MayWriteAll (writes_of rows) (tables_for s h.listed) → Books rows s h.listed now q → IsNextBy new rows s (after_acceptance s now q)
 booked_next old new s now q h rows same keeps sound may books =
     let tables = ap tables_of same ∙ h.tables in
     let again : Stores new.now s = record { has = keeps.tables; sound = h.sound; listed = h.listed; listing = h.listing; tables = tables } in
@@ -101,7 +106,8 @@ later_read db s t now q figures x a take sound it good decides after =
     after (subst (λ (f : Figures). IfSome a.entry (λ _. AreBounded f.sums)) (sym it.figures_are) (take s now q a sound decides sound_after))
 
 -- the operator accepts a request by the decision on what was read for it
-pub accepts_read : (db : Database) (s : Operator) (t now : ℕ) (q : Request) (figures : Figures) (x : ViewAndDocks) (a : Accepted) (later : Figures) (texts : KeptTexts) → IsSound s → IsReadFor db s t now q figures x → IsRequest q
+pub accepts_read : (db : Database) (s : Operator) (t now : ℕ) (q : Request) (figures : Figures) (x : ViewAndDocks) (a : Accepted) (later : Figures) (texts : KeptTexts) → IsSound s
+    → IsReadFor db s t now q figures x → IsRequest q
     → Decides s now q.command (Ok a) → AreFound now s a → later ≡ figures_after figures now a → AreTexts s now q texts → Accepts s now q a later.sums texts
 accepts_read db s t now q figures x a later texts sound it good decides found after told = record {
   anew = it.anew;
@@ -113,6 +119,7 @@ accepts_read db s t now q figures x a later texts sound it good decides found af
 }
 
 -- and the figures after it are the operator's
-pub figures_read : (s : Operator) (now : ℕ) (q : Request) (a : Accepted) {figures later : Figures} → FiguresFollow → figures ≡ figures_of s → Decides s now q.command (Ok a) → AreFound now s a → later ≡ figures_after figures now a
+pub figures_read : (s : Operator) (now : ℕ) (q : Request) (a : Accepted) {figures later : Figures} → FiguresFollow → figures ≡ figures_of s → Decides s now q.command (Ok a) → AreFound now s a
+    → later ≡ figures_after figures now a
     → later ≡ figures_of (after_acceptance s now q)
 figures_read s now q a follow are decides found after = after ∙ ap (λ (f : Figures). figures_after f now a) are ∙ follow s now q a decides found

@@ -10,32 +10,40 @@ use Rattle.bike_booking.specs.declared.figures.Figures.{Figures}
 use Rattle.bike_booking.specs.Figures.{figures_of}
 use Rattle.bike_schema.specs.Stands.{Keeps, TreesStandFor}
 use Rattle.bike_office_reads.specs.Newest.{NewestTells}
-use Rattle.bike_desk.specs.declared.remembered.Remembered.{Remembered}
+use Rattle.bike_desk.specs.declared.remembered.DeskMemory.{DeskMemory}
 
 -- a connection, whether the desk serves no more, and what it remembers of its operator
 pub record DeskValue (S : Type 0) : Type 0 where
   pub conn : Held S
   pub is_stopped : Bool
-  pub remembered : Remembered
+  pub remembered : DeskMemory
 
 -- nothing was found yet
-abbrev pub nothing_remembered : Remembered
+abbrev pub nothing_remembered : DeskMemory
 nothing_remembered = record { newest_tells = false; figures = None }
 
 abbrev figures_code : Coded Figures
 figures_code =
-    code_by ((ℕ × (ℤ × ℤ)) × (ℕ × (ℕ × ℕ))) (coded× (coded× coded_ℕ (coded× coded_ℤ coded_ℤ)) (coded× coded_ℕ (coded× coded_ℕ coded_ℕ)))
+    code_by ((ℕ × (ℤ × ℤ)) × (ℕ × (ℕ × ℕ))) (coded× (coded× coded_ℕ (coded× coded_ℤ coded_ℤ))
+    (coded× coded_ℕ (coded× coded_ℕ coded_ℕ)))
     (λ f. ((f.now, (f.sums.cash, f.sums.revenue)), (f.rentals, (f.orders, f.entries))))
-    (λ p. record { now = p.0.0; sums = record { cash = p.0.1.0; revenue = p.0.1.1 }; rentals = p.1.0; orders = p.1.1.0; entries = p.1.1.1 }) (λ _. refl)
+    (λ p. record {
+      now = p.0.0;
+      sums = record { cash = p.0.1.0; revenue = p.0.1.1 };
+      rentals = p.1.0;
+      orders = p.1.1.0;
+      entries = p.1.1.1;
+    }) (λ _. refl)
 
-abbrev remembered_code : Coded Remembered
+abbrev remembered_code : Coded DeskMemory
 remembered_code =
     code_by (Bool × Option Figures) (coded× coded_bool (coded_option figures_code)) (λ r. (r.newest_tells, r.figures))
     (λ p. record { newest_tells = p.0; figures = p.1 }) (λ _. refl)
 
 abbrev pub desk_code : {S : Type 0} → Coded S → Coded (DeskValue S)
 desk_code {S} store =
-    code_by ((Held S × Bool) × Remembered) (coded× (coded× (held_code store) coded_bool) remembered_code) (λ d. ((d.conn, d.is_stopped), d.remembered))
+    code_by ((Held S × Bool) × DeskMemory) (coded× (coded× (held_code store) coded_bool) remembered_code)
+    (λ d. ((d.conn, d.is_stopped), d.remembered))
     (λ p. record { conn = p.0.0; is_stopped = p.0.1; remembered = p.1 }) (λ _. refl)
 
 -- a desk over the connection, as it begins
@@ -55,11 +63,12 @@ abbrev pub AreFigures : Option Figures → Operator → Type 0
 AreFigures figures s = IfSome figures (λ f. f ≡ figures_of s)
 
 -- What is remembered is so of the operator.
-pub record IsRemembered (s : Operator) (r : Remembered) : Type 0 where
+pub record IsRemembered (s : Operator) (r : DeskMemory) : Type 0 where
   pub newest : IsTrue r.newest_tells → NewestTells s
   pub figures : AreFigures r.figures s
 
--- The desk goes on; its tables and all that a crash may leave stand for the operator. What it remembers is so of that operator.
+-- The desk goes on; its tables and all that a crash may leave stand
+-- for the operator. What it remembers is so of that operator.
 pub record IsAt {S : Type 0} (g : Ghosts S) (d : DeskValue S) (s : Operator) : Type 0 where
   pub goes_on : d.is_stopped ≡ false
   pub keeps : Keeps (state g d.conn) s

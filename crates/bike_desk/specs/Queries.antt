@@ -11,13 +11,15 @@ use Rattle.bike_desk.specs.declared.fault.DeskFault.TheVariants.{NoMemory, Store
 use Rattle.bike_desk.specs.Desk.{DeskValue, desk_state, IsAt, KeepsWhereGoing}
 
 -- A QUERY: its answer is so of the operator, and nothing that is kept changes.
-pub record Queries {S : Type 0} (g : Ghosts S) (old new : DeskValue S) {A : Type 0} (result : Result A DeskFault) (says : Operator → A → Type 0) : Type 0 where
+pub record Queries {S : Type 0} (g : Ghosts S) (old new : DeskValue S) {A : Type 0} (result : Result A DeskFault)
+    (says : Operator → A → Type 0) : Type 0 where
   pub clean : doubt (desk_state g old).is_clean ≤ doubt (desk_state g new).is_clean
   pub ok : HasCleanDisk (desk_state g new) → (s : Operator) → IsAt g old s → IfOk result (λ x. says s x × IsAt g new s)
   pub rests : KeepsWhereGoing g old new
   pub goes_on : OnOk result (new.is_stopped ≡ false)
   -- whatever is answered, a crash may leave no more than before
-  pub left : HasCleanDisk (desk_state g new) → (s : Operator) → IsAt g old s → AllLeft (desk_state g new) (desk_state g old).may_leave
+  pub left : HasCleanDisk (desk_state g new) → (s : Operator) → IsAt g old s
+      → AllLeft (desk_state g new) (desk_state g old).may_leave
   pub no_memory : result ≡ Err NoMemory → new ≡ old
   pub stops : result ≡ Err StoreFailed → IsTrue new.is_stopped
   pub stopped : result ≡ Err Stopped → IsTrue old.is_stopped

@@ -39,7 +39,8 @@ pub record IsAsked (asked : RequestTexts) : Type 0 where
   pub caller : asked.caller.now ≡ caller_text asked.request.now.caller
   pub text : asked.text.now ≡ text_of asked.request.now.command
 
--- The connection keeps the operator, and the row changes lead from its tables to those of the next one, which is sound; each may be written after those before it.
+-- The connection keeps the operator, and the row changes lead from its tables to
+-- those of the next one, which is sound; each may be written after those before it.
 pub record IsNextBy (c : State) (changes : List RowChange) (s next : Operator) : Type 0 where
   pub keeps : Keeps c s
   pub stores : Stores c.now s
@@ -52,8 +53,10 @@ pub record IsNextBy (c : State) (changes : List RowChange) (s next : Operator) :
 abbrev pub IsFoundIn : Database → Operator → Command → ViewAndDocks → Type 0
 IsFoundIn db s c x = (h : Stores db s) → IsFoundFor s h.listed c x
 
--- What was read for a request that comes at a moment: its key isn't kept, the figures and the view are the operator's, and `now` is the later of both moments.
-pub record IsReadFor (db : Database) (s : Operator) (moment now : ℕ) (q : Request) (figures : Figures) (x : ViewAndDocks) : Type 0 where
+-- What was read for a request that comes at a moment: its key isn't kept, the
+-- figures and the view are the operator's, and `now` is the later of both moments.
+pub record IsReadFor (db : Database) (s : Operator) (moment now : ℕ) (q : Request) (figures : Figures)
+    (x : ViewAndDocks) : Type 0 where
   pub in_time : moment ≤ last_moment
   pub later : now ≡ max moment s.now
   pub anew : map.get s.kept (key_in q) ≡ None
@@ -61,8 +64,10 @@ pub record IsReadFor (db : Database) (s : Operator) (moment now : ℕ) (q : Requ
   pub view_is : x.view ≡ view_of s q.command
   pub found_for : IsFoundIn db s q.command x
 
--- The operator, which keeps nothing under its key, accepts the request so, and then is sound; the records before are its own, the sums those with its entry, and the texts those of both.
-pub record Accepts (s : Operator) (now : ℕ) (q : Request) (a : Accepted) (sums : Sums) (texts : KeptTexts) : Type 0 where
+-- The operator, which keeps nothing under its key, accepts the request so, and then is sound;
+-- the records before are its own, the sums those with its entry, and the texts those of both.
+pub record Accepts (s : Operator) (now : ℕ) (q : Request) (a : Accepted) (sums : Sums)
+    (texts : KeptTexts) : Type 0 where
   pub anew : map.get s.kept (key_in q) ≡ None
   pub decides : Decides s now q.command (Ok a)
   pub found : AreFound now s a

@@ -9,8 +9,8 @@ use crate::fault::DeskFault;
 use bike_fields::RentalNumber;
 use bike_fixed::Moment;
 use bike_ledger::Entry;
+use bike_operator::RentalInfo;
 use bike_queries::{find_ended_after, find_entry_after};
-use bike_summaries::RentalInfo;
 use sqlite::Alter;
 use std::alloc::Global;
 

@@ -9,7 +9,7 @@ ghost use Rattle.bike_desk.specs.Runs.{LeavesEither};
 
 use crate::fault::DeskFault;
 use crate::newest::{Newest, know_newest};
-use crate::remembered::Remembered;
+use crate::remembered::DeskMemory;
 use crate::serve::serve;
 use bike_booking::Figures;
 use bike_commands::{Reply, Request};
@@ -121,7 +121,7 @@ impl<S: Alter> Desk<S> {
             return Err(DeskFault::StoreFailed);
         };
         self.newest = newest;
-        let remembered = Remembered {
+        let remembered = DeskMemory {
             newest_tells: newest.tells(),
             figures: self.figures,
         };

@@ -15,13 +15,12 @@ use bike_catalogue::{MoreName, System};
 use bike_fields::{BicycleNumber, Ident, NameKind, OrderNumber, RentalNumber, RiderNumber};
 use bike_fixed::{Cents, Moment};
 use bike_office_reads::{find_names, newest_tells};
-use bike_operator::{Bike, MOST_TYPES, Order, Place};
+use bike_operator::{Bike, Counts, MOST_TYPES, Order, Place, RentalInfo};
 use bike_queries::{
     RiderInfo, find_balance, find_bike, find_order, find_place, find_rental_info, find_rider_info,
     find_station_counts, find_system, find_type_ids,
 };
 use bike_schema::StatementFault;
-use bike_summaries::{Counts, RentalInfo};
 use bike_views::find_figures;
 use sqlite::Alter;
 use std::alloc::Global;

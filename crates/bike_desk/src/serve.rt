@@ -12,7 +12,7 @@ ghost use Rattle.bike_desk.specs.Desk.{IsRemembered};
 ghost use Rattle.bike_desk.specs.Kept.{CrashLeavesEither, ForEachAccepted, ForEachKept, ForEachRead, IsAnew, StaysWith};
 ghost use Rattle.bike_desk.specs.Serving.{IsAsked, Serves};
 
-use crate::remembered::Remembered;
+use crate::remembered::DeskMemory;
 use crate::transaction::make_all;
 use bike_accepted::Accepted;
 use bike_booking::{Figures, KeptTexts, Sums, books_accepted, rows_of};
@@ -22,7 +22,7 @@ use bike_fixed::Moment;
 use bike_office_reads::{KeptRow, find_kept};
 use bike_operator::is_bounded;
 use bike_schema::StatementFault;
-use bike_views::{Known, ViewAndDocks, find_stored, find_view, know_figures};
+use bike_views::{KnownFigures, ViewAndDocks, find_stored, find_view, know_figures};
 use sqlite::{Alter, Connection};
 use std::alloc::Global;
 
@@ -145,7 +145,7 @@ fn serve_anew<'a, S: Alter>(
     conn: &mut Connection<S>,
     moment: Moment,
     asked: RequestTexts<'a>,
-    remembered: &Remembered,
+    remembered: &DeskMemory,
 ) -> Result<Outcome, StatementFault>
     requires outside { conn.old.in_transaction ≡ false }
     requires asked { IsAsked asked }
@@ -164,7 +164,7 @@ fn serve_anew<'a, S: Alter>(
         → OnErr result (CrashLeavesEither (state S.Store conn.new) s (step s moment asked.entry.request.now).1)) }
 {
     let figures = know_figures(conn, &remembered.figures)?;
-    let known = Known {
+    let known = KnownFigures {
         figures,
         newest_tells: remembered.newest_tells,
     };
@@ -181,7 +181,7 @@ pub(crate) fn serve<S: Alter>(
     moment: Moment,
     request: &Request,
     text: &str,
-    remembered: &Remembered,
+    remembered: &DeskMemory,
 ) -> Result<Outcome, StatementFault>
     requires outside { conn.old.in_transaction ≡ false }
     requires text { text.now ≡ text_of request.now.command }

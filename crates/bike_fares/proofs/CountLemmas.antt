@@ -89,7 +89,8 @@ and_none true = refl
 and_none false = refl
 
 -- the same below a segment's end
-pub count-suc_before : (start interval n : ℕ) (end : Option ℕ) → count_below start interval (minutes_before end (suc n)) ≡ count_below start interval (minutes_before end n) + one_if (is_due start interval n && is_before_end end n)
+pub count-suc_before : (start interval n : ℕ) (end : Option ℕ) → count_below start interval (minutes_before end (suc n))
+    ≡ count_below start interval (minutes_before end n) + one_if (is_due start interval n && is_before_end end n)
 count-suc_before start interval n None =
     count-suc start interval n ∙ ap (λ (b : Bool). count_below start interval n + one_if b) (sym (and-true (is_due start interval n)))
 count-suc_before start interval n (Some end) = elim (cases_lt n end) [

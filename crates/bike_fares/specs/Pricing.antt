@@ -1,5 +1,6 @@
 -- What a rental costs, in the words of GBFS's `per_min_pricing`.
-use Rattle.std.specs.Prelude.{◌≡◌, ℕ, ℤ, zero, suc, ◌+◌, ◌-◌, ◌*◌, ◌%◌, ◌<◌, ◌+ℤ◌, pos, min, List, [], ◌∷◌, Bool, true, ◌&&◌, ◌||◌, nat_le, nat_lt, ◌==◌, if◌then◌else◌, ◌⊎◌, Option, Some, None}
+use Rattle.std.specs.Prelude.{◌≡◌, ℕ, ℤ, zero, suc, ◌+◌, ◌-◌, ◌*◌, ◌%◌, ◌<◌, ◌+ℤ◌, pos, min, List, [], ◌∷◌, Bool, true}
+use Rattle.std.specs.Prelude.{◌&&◌, ◌||◌, nat_le, nat_lt, ◌==◌, if◌then◌else◌, ◌⊎◌, Option, Some, None}
 use Rattle.std.specs.Int.{int_max}
 use Rattle.bike_fixed.specs.declared.cents.TheConstants.{GREATEST_FARE}
 use Rattle.bike_fields.specs.Values.{SegmentRow, IsSegment}
@@ -13,7 +14,8 @@ elapsed_seconds start end = min (end - start) LONGEST
 
 -- a segment charges at its start, and again after each interval; with the interval 0 just once
 abbrev pub is_due : ℕ → ℕ → ℕ → Bool
-is_due start interval minute = nat_le start minute && (minute == start || (nat_lt 0 interval && (minute - start) % interval == 0))
+is_due start interval minute =
+    nat_le start minute && (minute == start || (nat_lt 0 interval && (minute - start) % interval == 0))
 
 -- nothing is charged from a segment's end on; a segment without an end goes on
 abbrev pub is_before_end : Option ℕ → ℕ → Bool

@@ -5,11 +5,12 @@ use Rattle.bike_fields.specs.declared.vehicle.Propulsion.{Propulsion}
 use Rattle.bike_fields.specs.declared.vehicle.Propulsion.TheVariants.{Human, ElectricAssist}
 use Rattle.bike_fields.specs.Vehicle.{form_text, propulsion_text}
 use Rattle.bike_fields.specs.Values.{SegmentRow}
-use Rattle.bike_catalogue.specs.Rows.{PlanRow, TypeRow, StationRow, RegionRow, MoreNameRow, more_name_of_fields, SystemRow}
+use Rattle.bike_catalogue.specs.Rows.{PlanRow, TypeRow, StationRow, RegionRow, MoreNameRow, more_name_of_fields}
+use Rattle.bike_catalogue.specs.Rows.{SystemRow}
 use Rattle.bike_json.specs.Tree.{Tree, object, array, text, whole, cents, micro, flag, Members, no_members, member}
 use Rattle.bike_json.specs.Rows.{items}
 use Rattle.bike_feed_texts.specs.declared.feed.Feed.{Feed}
-use Rattle.bike_summaries.specs.declared.station.TypeCount.{TypeCount}
+use Rattle.bike_operator.specs.declared.station_info.TypeCount.{TypeCount}
 use Rattle.bike_feed_texts.specs.Feeds.{feed_name, feed_url}
 
 -- names with their values
@@ -150,4 +151,5 @@ plan_tree x p names descriptions = object_of (
 -- ---- system_regions
 
 abbrev pub region_tree : SystemRow → RegionRow → List MoreNameRow → Tree
-region_tree x r names = object_of ((codes "region_id", text r.region_id) ∷ (codes "name", localized_text x r.name names) ∷ [])
+region_tree x r names =
+    object_of ((codes "region_id", text r.region_id) ∷ (codes "name", localized_text x r.name names) ∷ [])

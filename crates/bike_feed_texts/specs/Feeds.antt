@@ -2,7 +2,9 @@
 use Rattle.std.specs.Prelude.{ℕ, List, [], ◌∷◌, ◌++◌, if◌then◌else◌, Option, Some, None, codes}
 use Rattle.std.specs.Str.{bytes_eq}
 use Rattle.bike_feed_texts.specs.declared.feed.Feed.{Feed}
-use Rattle.bike_feed_texts.specs.declared.feed.Feed.TheVariants.{Gbfs, SystemInformation, VehicleTypes, StationInformation, StationStatus, SystemPricingPlans, SystemRegions}
+use Rattle.bike_feed_texts.specs.declared.feed.Feed.TheVariants.{Gbfs, SystemInformation, VehicleTypes}
+use Rattle.bike_feed_texts.specs.declared.feed.Feed.TheVariants.{StationInformation, StationStatus, SystemPricingPlans}
+use Rattle.bike_feed_texts.specs.declared.feed.Feed.TheVariants.{SystemRegions}
 
 abbrev pub feed_name : Feed → List ℕ
 feed_name Gbfs = codes "gbfs"
@@ -26,7 +28,8 @@ feed_of text =
 
 -- the feeds that `gbfs` lists: all but itself
 abbrev pub listed_feeds : List Feed
-listed_feeds = SystemInformation ∷ VehicleTypes ∷ StationInformation ∷ StationStatus ∷ SystemPricingPlans ∷ SystemRegions ∷ []
+listed_feeds =
+    SystemInformation ∷ VehicleTypes ∷ StationInformation ∷ StationStatus ∷ SystemPricingPlans ∷ SystemRegions ∷ []
 
 -- where a feed is found
 abbrev pub feed_url : List ℕ → Feed → List ℕ

@@ -10,16 +10,21 @@ use Rattle.bike_operator.specs.Operator.{Operator, Station, text_cmp}
 use Rattle.bike_operator.specs.Counts.{available, available_of, disabled_bikes, docks_available, docks_broken}
 use Rattle.bike_operator.specs.Names.{part_at, further_names}
 use Rattle.bike_feed_texts.specs.declared.feed.Feed.{Feed}
-use Rattle.bike_feed_texts.specs.declared.feed.Feed.TheVariants.{Gbfs, SystemInformation, VehicleTypes, StationInformation, StationStatus, SystemPricingPlans, SystemRegions}
-use Rattle.bike_summaries.specs.declared.station.TypeCount.{TypeCount}
+use Rattle.bike_feed_texts.specs.declared.feed.Feed.TheVariants.{Gbfs, SystemInformation, VehicleTypes}
+use Rattle.bike_feed_texts.specs.declared.feed.Feed.TheVariants.{StationInformation, StationStatus, SystemPricingPlans}
+use Rattle.bike_feed_texts.specs.declared.feed.Feed.TheVariants.{SystemRegions}
+use Rattle.bike_operator.specs.declared.station_info.TypeCount.{TypeCount}
 use Rattle.bike_feed_texts.specs.Feeds.{listed_feeds}
-use Rattle.bike_feed_texts.specs.Elements.{NamedTree, object_of, moment_tree, localized_text, link_tree, type_tree, station_tree, CountsRow, ReportRow, status_tree, plan_tree, region_tree}
+use Rattle.bike_feed_texts.specs.Elements.{NamedTree, object_of, moment_tree, localized_text, link_tree, type_tree}
+use Rattle.bike_feed_texts.specs.Elements.{station_tree, CountsRow, ReportRow, status_tree, plan_tree, region_tree}
 
 -- ---- what a feed says of itself
 
 -- when it was asked for, how many seconds it stays fresh, and the version of GBFS
 abbrev pub head_members : SystemRow → ℕ → List NamedTree
-head_members x seconds = (codes "last_updated", moment_tree seconds) ∷ (codes "ttl", whole (pos x.ttl)) ∷ (codes "version", text (codes "3.0")) ∷ []
+head_members x seconds =
+    (codes "last_updated", moment_tree seconds) ∷ (codes "ttl", whole (pos x.ttl))
+    ∷ (codes "version", text (codes "3.0")) ∷ []
 
 abbrev pub feed_frame : SystemRow → ℕ → Tree → Tree
 feed_frame x seconds tree = object_of (head_members x seconds ++ (codes "data", tree) ∷ [])
@@ -28,7 +33,8 @@ feed_frame x seconds tree = object_of (head_members x seconds ++ (codes "data", 
 abbrev pub listing : List ℕ → Items → Tree
 listing name list = object_of ((name, array list) ∷ [])
 
--- ---- what it says of the operator; types, stations, plans and regions stand in byte order of their identifiers, as in the maps
+-- ---- what it says of the operator; types, stations, plans and
+-- regions stand in byte order of their identifiers, as in the maps
 
 -- the further names by their languages alone
 abbrev pub names_by_language : Operator → FinMap text_cmp (List ℕ)
@@ -61,7 +67,8 @@ abbrev pub type_element : Operator → SystemRow → TypeRow → Tree
 type_element s x t = type_tree x t (further_names s named.Type t.type_id)
 
 abbrev pub station_element : Operator → SystemRow → Station → Tree
-station_element s x station = station_tree x station.row station.region (further_names s named.Station station.row.station_id)
+station_element s x station =
+    station_tree x station.row station.region (further_names s named.Station station.row.station_id)
 
 abbrev pub plan_element : Operator → SystemRow → PlanRow → Tree
 plan_element s x p = plan_tree x p (further_names s named.Plan p.plan_id) (further_names s named.Description p.plan_id)
@@ -71,7 +78,9 @@ region_element s x r = region_tree x r (further_names s named.Region r.region_id
 
 -- the count rule, for every type of the operator
 abbrev pub counts_by_type : Operator → List ℕ → List TypeCount
-counts_by_type s station = map (λ (t : TypeRow). record { type_id = t.type_id; count = available_of s station t.type_id }) (finmap.values s.types)
+counts_by_type s station =
+    map (λ (t : TypeRow). record { type_id = t.type_id; count = available_of s station t.type_id })
+    (finmap.values s.types)
 
 abbrev pub counts_of : Operator → Station → CountsRow
 counts_of s x = record {
@@ -97,7 +106,9 @@ feed_data s x Gbfs = listing (codes "feeds") (items (link_tree x) listed_feeds)
 feed_data s x SystemInformation = information_tree s x
 feed_data s x VehicleTypes = listing (codes "vehicle_types") (items (type_element s x) (finmap.values s.types))
 feed_data s x StationInformation = listing (codes "stations") (items (station_element s x) (finmap.values s.stations))
-feed_data s x StationStatus = listing (codes "stations") (items (λ station. status_tree (report_of station) (counts_of s station)) (finmap.values s.stations))
+feed_data s x StationStatus =
+    listing (codes "stations") (items (λ station. status_tree (report_of station) (counts_of s station))
+    (finmap.values s.stations))
 feed_data s x SystemPricingPlans = listing (codes "plans") (items (plan_element s x) (finmap.values s.plans))
 feed_data s x SystemRegions = listing (codes "regions") (items (region_element s x) (finmap.values s.regions))
 

@@ -7,8 +7,8 @@ use Rattle.bike_json.specs.Tree.{Tree, Members, comma, text_of, members_text}
 use Rattle.bike_json.specs.State.{Place, Wrote, has_more}
 use Rattle.bike_json.specs.declared.level.Level.{Level}
 use Rattle.bike_json.specs.declared.level.Level.TheVariants.{Done, FilledObject}
-use Rattle.bike_summaries.specs.declared.station.Counts.{Counts}
-use Rattle.bike_summaries.specs.declared.station.StationInfo.{StationInfo}
+use Rattle.bike_operator.specs.declared.station_info.Counts.{Counts}
+use Rattle.bike_operator.specs.declared.station_info.StationInfo.{StationInfo}
 use Rattle.bike_feed_texts.specs.Elements.{members, CountsRow, ReportRow}
 use Rattle.bike_feed_texts.specs.Trees.{head_members, system_members, contact_members}
 
@@ -26,7 +26,8 @@ pub record WroteMembers (from to : Place) (old new : OutputState) (all : Members
 
 -- a feed up to its data
 abbrev pub head_text : SystemRow → ℕ → List ℕ
-head_text x seconds = 123 ∷ (members_text false (members (head_members x seconds)) ++ 44 ∷ (string_text (codes "data") ++ 58 ∷ []))
+head_text x seconds =
+    123 ∷ (members_text false (members (head_members x seconds)) ++ 44 ∷ (string_text (codes "data") ++ 58 ∷ []))
 
 -- a feed up to the first element of its list, and behind the last
 abbrev pub list_head_text : SystemRow → ℕ → List ℕ → List ℕ
@@ -38,7 +39,8 @@ list_end_text = 93 ∷ 125 ∷ 125 ∷ []
 -- `system_information` up to the first of its languages, and behind the last
 abbrev pub information_head_text : SystemRow → ℕ → List ℕ
 information_head_text x seconds =
-    head_text x seconds ++ 123 ∷ (members_text false (members (system_members x)) ++ 44 ∷ (string_text (codes "languages") ++ 58 ∷ 91 ∷ []))
+    head_text x seconds ++ 123 ∷ (members_text false (members (system_members x))
+    ++ 44 ∷ (string_text (codes "languages") ++ 58 ∷ 91 ∷ []))
 
 abbrev pub information_end_text : SystemRow → List MoreNameRow → List ℕ
 information_end_text x names = 93 ∷ (members_text true (members (contact_members x names)) ++ 125 ∷ 125 ∷ [])

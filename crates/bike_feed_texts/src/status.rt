@@ -9,8 +9,8 @@ ghost use Rattle.bike_feed_texts.specs.Writing.{WroteMember, WroteMembers, Wrote
 
 use crate::members::{flag_member, moment_member, text_member, whole_member};
 use bike_json::{JsonState, Level, MemberName, Output, member};
+use bike_operator::{Counts, StationInfo, TypeCount};
 use bike_stream::WriteFault;
-use bike_summaries::{Counts, StationInfo, TypeCount};
 
 fn write_type_count<W: Output>(json: &mut JsonState, out: &mut W, count: &TypeCount)
     requires value { IsTrue (takes_value json.old.top) }

@@ -10,7 +10,7 @@ use Rattle.bike_json.specs.Outputs.{OutputState}
 use Rattle.bike_json.specs.State.{Place, IsAt as IsIn, after_value}
 use Rattle.bike_operator.specs.Operator.{Operator, Station}
 use Rattle.bike_operator.specs.Sound.{IsSound}
-use Rattle.bike_summaries.specs.declared.station.TypeCount.{TypeCount}
+use Rattle.bike_operator.specs.declared.station_info.TypeCount.{TypeCount}
 use Rattle.bike_fields.specs.declared.name_kind.NameKind.TheVariants as named
 use Rattle.bike_operator.specs.Names.{further_names}
 use Rattle.bike_feed_texts.specs.Elements.{station_tree, status_tree}
@@ -19,7 +19,7 @@ use Rattle.bike_feed_texts.specs.Writing.{WroteValue, counts_row}
 use Rattle.bike_queries.specs.After.{station_of}
 use Rattle.bike_queries.specs.Pages.{IsNamedStation, IsStatusOf}
 use Rattle.bike_queries.proofs.CountLemmas.{all_types}
-use Rattle.bike_summaries.specs.declared.station.Counts.{Counts}
+use Rattle.bike_operator.specs.declared.station_info.Counts.{Counts}
 use Rattle.bike_queries.specs.declared.stations.NamedStation.{NamedStation}
 use Rattle.bike_queries.specs.declared.status.StationStatus.{StationStatus}
 use Rattle.bike_queries.specs.StationCounts.{AreCountsOf, type_count}

@@ -1,5 +1,6 @@
 -- A list that is read from the desk one element after another, and written as it is read.
-use Rattle.std.proofs.Common.{◌≡◌, ◌≢◌, ◌≤◌, ◌<◌, ◌⊎◌, ℕ, List, [], ◌∷◌, ◌++◌, map, find, length, Bool, true, false, not, IsTrue, Option, Some, None, Result, Ok, Err, inl, inr, refl, sym, ap, ◌∙◌, T, subst, arith, append_assoc, append-nil, length-append}
+use Rattle.std.proofs.Common.{◌≡◌, ◌≢◌, ◌≤◌, ◌<◌, ◌⊎◌, ℕ, List, [], ◌∷◌, ◌++◌, map, find, length, Bool, true, false, not, IsTrue, Option, Some, None, Result, Ok, Err, inl, inr, refl, sym, ap, ◌∙◌, T}
+use Rattle.std.proofs.Common.{subst, arith, append_assoc, append-nil, length-append}
 use Rattle.std.specs.Prelude.{slice_get}
 use Rattle.std.specs.Result.{IsErrAnd}
 use Rattle.std.specs.Ordering.{is_lt}

@@ -6,7 +6,8 @@ use Rattle.bike_json.specs.Tree.{Items, text_of}
 use Rattle.bike_json.specs.Rows.{items}
 use Rattle.bike_operator.specs.Operator.{Operator}
 use Rattle.bike_feed_texts.specs.Elements.{status_tree}
-use Rattle.bike_feed_texts.specs.Trees.{feed_frame, listing, report_of, counts_of, type_element, station_element, plan_element, region_element}
+use Rattle.bike_feed_texts.specs.Trees.{feed_frame, listing, report_of, counts_of, type_element, station_element}
+use Rattle.bike_feed_texts.specs.Trees.{plan_element, region_element}
 use Rattle.bike_feeds.specs.declared.listing.Listing.{Listing}
 use Rattle.bike_feeds.specs.declared.listing.Listing.TheVariants.{Types, Stations, Statuses, Plans, Regions}
 

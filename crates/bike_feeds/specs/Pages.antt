@@ -9,8 +9,10 @@ use Rattle.bike_queries.specs.Pages.{entries_after}
 abbrev pub AreAhead : {X : Type 0} → (List ℕ × Station → X → Type 0) → Operator → Option (List ℕ) → List X → Type 0
 AreAhead IsOf s after xs = AllZip IsOf (take (length xs) (entries_after after s.stations)) xs
 
--- THE NEXT: it is of the first station after the identifier, and what is left are those after that; or there is no station
-abbrev pub TakesNext : {X : Type 0} → (List ℕ × Station → X → Type 0) → Operator → Option (List ℕ) → Option X → List X → Type 0
+-- THE NEXT: it is of the first station after the identifier,
+-- and what is left are those after that; or there is no station
+abbrev pub TakesNext : {X : Type 0} → (List ℕ × Station → X → Type 0) → Operator → Option (List ℕ) → Option X → List X
+    → Type 0
 TakesNext IsOf s after None left = first_after after s.stations ≡ None
 TakesNext IsOf s after (Some x) left =
     (e : List ℕ × Station) × (first_after after s.stations ≡ Some e) × IsOf e x × AreAhead IsOf s (Some e.0) left

@@ -25,14 +25,16 @@ IsPublished s feed moment old new = (x : SystemRow) × (s.system ≡ Some x) × 
 
 -- A front of it, and not all; nothing where the operator has no system.
 abbrev pub IsBegun : Operator → Feed → ℕ → Option (List ℕ) → Option (List ℕ) → Type 0
-IsBegun s feed moment old new = MatchOption s.system (Keeps old new) (λ x. AppendsFront old new (feed_text s x feed moment))
+IsBegun s feed moment old new =
+    MatchOption s.system (Keeps old new) (λ x. AppendsFront old new (feed_text s x feed moment))
 
 -- No want of memory is told: a desk takes none of its own while it answers what a feed asks.
 abbrev pub WantsNoMemory : {A : Type 0} → Result A FeedFault → Type 0
 WantsNoMemory result = result ≢ Err (Desk NoMemory)
 
 -- WHAT THE DESK IS AFTER A FEED, as the end tells; the faults of a desk are told as its own calls tell them
-pub record LeavesDesk {S : Type 0} (g : Ghosts S) (old new : DeskValue S) {A : Type 0} (result : Result A FeedFault) : Type 0 where
+pub record LeavesDesk {S : Type 0} (g : Ghosts S) (old new : DeskValue S) {A : Type 0}
+    (result : Result A FeedFault) : Type 0 where
   pub clean : doubt (desk_state g old).is_clean ≤ doubt (desk_state g new).is_clean
   pub same : OfOperator g old new (λ s. OnOk result (IsAt g new s))
   pub missing : OfOperator g old new (λ s. result ≡ Err SystemMissing → (s.system ≡ None) × IsAt g new s)

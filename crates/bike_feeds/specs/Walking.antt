@@ -29,7 +29,8 @@ abbrev pub MayEnd : OutputState → ℕ → List ℕ → Type 0
 MayEnd output count bytes = IsTrue output.may_refuse ⊎ (greatest_count ≤ count + length bytes)
 
 -- THE ELEMENTS OF A LIST were written as items, or at a fault a front of their text
-pub record WritesItems {S : Type 0} (g : Ghosts S) (old new : DeskValue S) (from to : Place) (before after : OutputState) {A : Type 0} (result : Result A FeedFault)
+pub record WritesItems {S : Type 0} (g : Ghosts S) (old new : DeskValue S) (from to : Place)
+    (before after : OutputState) {A : Type 0} (result : Result A FeedFault)
     (them : Operator → Items) : Type 0 where
   pub desk : LeavesDesk g old new result
   pub takes_none : WantsNoMemory result
@@ -41,7 +42,8 @@ pub record WritesItems {S : Type 0} (g : Ghosts S) (old new : DeskValue S) (from
   pub round : to.round ≡ from.round
 
 -- A WHOLE TEXT was written, or at a fault a front of it and not all
-pub record WritesText {S : Type 0} (g : Ghosts S) (old new : DeskValue S) (before after : OutputState) {A : Type 0} (result : Result A FeedFault)
+pub record WritesText {S : Type 0} (g : Ghosts S) (old new : DeskValue S) (before after : OutputState) {A : Type 0}
+    (result : Result A FeedFault)
     (text : Operator → List ℕ) : Type 0 where
   pub desk : LeavesDesk g old new result
   pub takes_none : WantsNoMemory result

@@ -17,6 +17,5 @@ mod names;
 mod pages;
 
 pub use bike_desk::{Desk, DeskFault};
-pub use bike_feed_texts::Feed;
 pub use fault::FeedFault;
 pub use feed::write_feed;

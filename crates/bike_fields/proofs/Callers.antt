@@ -1,5 +1,6 @@
 -- A caller is read exactly from its own text.
-use Rattle.std.proofs.Common.{◌≡◌, ℕ, suc, ◌+◌, ◌<◌, ◌≤◌, List, [], ◌∷◌, ◌++◌, length, take, drop, Bool, true, false, cond, ltb, not, eqb, Option, Some, None, refl, sym, ap, ◌∙◌, subst, add-one, arith, lit<, decimal}
+use Rattle.std.proofs.Common.{◌≡◌, ℕ, suc, ◌+◌, ◌<◌, ◌≤◌, List, [], ◌∷◌, ◌++◌, length, take, drop, Bool, true, false, cond, ltb, not, eqb, Option, Some, None, refl, sym, ap, ◌∙◌, subst, add-one}
+use Rattle.std.proofs.Common.{arith, lit<, decimal}
 use Rattle.std.specs.Prelude.{codes}
 use Rattle.std.specs.List.{list_all, position_or_len, before_first, after_first, slice_split, join_with_byte, onto_first}
 use Rattle.std.specs.Str.{bytes_eq}
@@ -39,7 +40,8 @@ some_onto x (p ∷ ps) = omega arith
 
 some_parts : (text : List ℕ) → 1 ≤ length (slice_split is_colon text)
 some_parts [] = omega arith
-some_parts (x ∷ xs) = elim (is_colon x) as (λ b. 1 ≤ length (cond b ([] ∷ slice_split is_colon xs) (onto_first x (slice_split is_colon xs)))) [ true ↦ omega arith | false ↦ some_onto x (slice_split is_colon xs) ]
+some_parts (x ∷ xs) =
+    elim (is_colon x) as (λ b. 1 ≤ length (cond b ([] ∷ slice_split is_colon xs) (onto_first x (slice_split is_colon xs)))) [ true ↦ omega arith | false ↦ some_onto x (slice_split is_colon xs) ]
 
 cut_at_colon : (text : List ℕ) → position_or_len is_colon text < length text → text ≡ before_first is_colon text ++ 58 ∷ after_first is_colon text
 cut_at_colon text lt =
@@ -97,15 +99,21 @@ pub pick : {A : Type 0} (b : Bool) (x y : Option A) (a : A) (P : Type 0) → con
 pick true x y a P e f g = f refl e
 pick false x y a P e f g = g e
 
-named_number : (kind name : List ℕ) (word : List ℕ) (make : ℕ → Caller) (c : Caller) → ((n : ℕ) → caller_text (make n) ≡ word ++ 58 ∷ decimal n) → ((n : ℕ) → 1 ≤ n → n ≤ GREATEST_NUMBER → IsCaller (make n))
+named_number : (kind name : List ℕ) (word : List ℕ) (make : ℕ → Caller) (c : Caller) → ((n : ℕ) → caller_text (make n) ≡ word ++ 58 ∷ decimal n)
+    → ((n : ℕ) → 1 ≤ n → n ≤ GREATEST_NUMBER → IsCaller (make n))
     → bytes_eq kind word ≡ true → (number_of 1 GREATEST_NUMBER name >>= λ n. Some (make n)) ≡ Some c → IsOf (kind ++ 58 ∷ name) c
 named_number kind name word make c spelled good is e =
     option_and_then_some (λ n. Some (make n)) (number_of 1 GREATEST_NUMBER name) c e (λ n r s.
     let h = number_sound 1 GREATEST_NUMBER name n r in
     let k : kind ≡ word = (bytes_eq-Decides kind word).0 is in
-    subst (λ (c : Caller). IsOf (kind ++ 58 ∷ name) c) (same_Some _ c s) (good n h.low_le h.le_high, ap (λ (k : List ℕ). k ++ 58 ∷ name) k ∙ ap (λ (t : List ℕ). word ++ 58 ∷ t) h.spelled ∙ sym (spelled n)))
+    subst (λ (c : Caller). IsOf (kind ++ 58 ∷ name) c) (same_Some _ c s) (
+      good n h.low_le h.le_high,
+      ap (λ (k : List ℕ). k ++ 58 ∷ name) k ∙ ap (λ (t : List ℕ). word ++ 58 ∷ t) h.spelled
+          ∙ sym (spelled n),
+    ))
 
-named_ident : (kind name : List ℕ) (word : List ℕ) (make : List ℕ → Caller) (c : Caller) → ((i : List ℕ) → caller_text (make i) ≡ word ++ 58 ∷ i) → ((i : List ℕ) → is_ident i ≡ true → IsCaller (make i))
+named_ident : (kind name : List ℕ) (word : List ℕ) (make : List ℕ → Caller) (c : Caller) → ((i : List ℕ) → caller_text (make i) ≡ word ++ 58 ∷ i)
+    → ((i : List ℕ) → is_ident i ≡ true → IsCaller (make i))
     → bytes_eq kind word ≡ true → (ident_of name >>= λ i. Some (make i)) ≡ Some c → IsOf (kind ++ 58 ∷ name) c
 named_ident kind name word make c spelled good is e =
     option_and_then_some (λ i. Some (make i)) (ident_of name) c e (λ i r s.

@@ -26,7 +26,8 @@ pub propulsion_sound : (text : List ℕ) (propulsion : Propulsion) → propulsio
 unfolding propulsion_of
 propulsion_sound text propulsion e =
     pick (bytes_eq text (codes "human")) _ _ propulsion _ e (λ is e. (bytes_eq-Decides text (codes "human")).0 is ∙ ap propulsion_text (same_Some Human propulsion e)) (λ e.
-    pick (bytes_eq text (codes "electric_assist")) _ _ propulsion _ e (λ is e. (bytes_eq-Decides text (codes "electric_assist")).0 is ∙ ap propulsion_text (same_Some ElectricAssist propulsion e)) (λ e. absurd cc))
+    pick (bytes_eq text (codes "electric_assist")) _ _ propulsion _ e (λ is e. (bytes_eq-Decides text (codes "electric_assist")).0 is ∙ ap propulsion_text (same_Some ElectricAssist propulsion e))
+    (λ e. absurd cc))
 
 pub propulsion_full : (propulsion : Propulsion) → propulsion_of (propulsion_text propulsion) ≡ Some propulsion
 unfolding propulsion_of

@@ -2,7 +2,9 @@
 use Rattle.std.specs.Prelude.{ℕ, List, length, Bool, not, ◌&&◌, ◌||◌, nat_le, ◌==◌, if◌then◌else◌, Option, Some, None}
 use Rattle.std.specs.List.{list_all}
 use Rattle.std.specs.Str.{is_utf8}
-use Rattle.bike_fields.specs.declared.text_lengths.TheConstants.{LONGEST_IDENT, LONGEST_KEY, SHORTEST_LANGUAGE, LONGEST_LANGUAGE, CURRENCY_LENGTH, LONGEST_ASCII, LONGEST_NAME}
+use Rattle.bike_fields.specs.declared.text_lengths.TheConstants.{LONGEST_IDENT, LONGEST_KEY, SHORTEST_LANGUAGE}
+use Rattle.bike_fields.specs.declared.text_lengths.TheConstants.{LONGEST_LANGUAGE, CURRENCY_LENGTH, LONGEST_ASCII}
+use Rattle.bike_fields.specs.declared.text_lengths.TheConstants.{LONGEST_NAME}
 
 abbrev pub is_lower : ℕ → Bool
 is_lower b = nat_le 97 b && nat_le b 122

@@ -6,8 +6,11 @@ use Rattle.bike_fields.specs.declared.fault.Bound.TheVariants.{Length, Charset}
 use Rattle.bike_fields.specs.declared.fault.Field.{Field}
 use Rattle.bike_fields.specs.declared.fault.FieldFault.{FieldFault}
 use Rattle.bike_fields.specs.declared.fault.FieldFault.TheVariants.{Broken, NoMemory}
-use Rattle.bike_fields.specs.declared.text_lengths.TheConstants.{LONGEST_IDENT, LONGEST_KEY, SHORTEST_LANGUAGE, LONGEST_LANGUAGE, CURRENCY_LENGTH, LONGEST_ASCII, LONGEST_NAME}
-use Rattle.bike_fields.specs.Bytes.{has_length, is_ident_byte, is_key_byte, is_language_byte, is_upper, is_printable, is_name_byte}
+use Rattle.bike_fields.specs.declared.text_lengths.TheConstants.{LONGEST_IDENT, LONGEST_KEY, SHORTEST_LANGUAGE}
+use Rattle.bike_fields.specs.declared.text_lengths.TheConstants.{LONGEST_LANGUAGE, CURRENCY_LENGTH, LONGEST_ASCII}
+use Rattle.bike_fields.specs.declared.text_lengths.TheConstants.{LONGEST_NAME}
+use Rattle.bike_fields.specs.Bytes.{has_length, is_ident_byte, is_key_byte, is_language_byte, is_upper, is_printable}
+use Rattle.bike_fields.specs.Bytes.{is_name_byte}
 
 -- the bound that a text breaks: its length's comes before its bytes'
 abbrev pub text_fault : ℕ → ℕ → (ℕ → Bool) → List ℕ → Option Bound
@@ -38,8 +41,8 @@ Tests view value fault (Ok x) = (view x ≡ value) × (fault ≡ None)
 Tests view value fault (Err NoMemory) = ⊥
 Tests view value fault (Err (Broken field bound)) = fault ≡ Some (field, bound)
 
--- A constructor answers the value of the fields where they keep their bounds, else the first fault. A want of memory stands only in the
--- place of the value.
+-- A constructor answers the value of the fields where they keep their bounds, else the first fault. A want of memory
+-- stands only in the place of the value.
 abbrev pub Makes : {X : Type 0} → X → Option (Field × Bound) → Result X FieldFault → Type 0
 Makes value fault (Ok x) = (x ≡ value) × (fault ≡ None)
 Makes value fault (Err NoMemory) = fault ≡ None

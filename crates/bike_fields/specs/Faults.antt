@@ -1,5 +1,6 @@
 -- The first bad field of a record, and the first bound that it breaks.
-use Rattle.std.specs.Prelude.{◌≤◌, ℕ, ℤ, pos, neg_ℤ, List, [], ◌∷◌, nat_le, nat_lt, int_le, ◌&&◌, if◌then◌else◌, Option, Some, None, Result, Ok, Err}
+use Rattle.std.specs.Prelude.{◌≤◌, ℕ, ℤ, pos, neg_ℤ, List, [], ◌∷◌, nat_le, nat_lt, int_le, ◌&&◌, if◌then◌else◌, Option}
+use Rattle.std.specs.Prelude.{Some, None, Result, Ok, Err}
 use Rattle.bike_fields.specs.declared.fault.Bound.{Bound}
 use Rattle.bike_fields.specs.declared.fault.Bound.TheVariants.{Range, Order}
 use Rattle.bike_fields.specs.declared.fault.Field.{Field}
@@ -38,7 +39,8 @@ IsCoordinateBound greatest = greatest ≤ GREATEST_COORDINATE
 
 abbrev pub end_fault : ℕ → Option ℕ → Option Bound
 end_fault start None = None
-end_fault start (Some end) = if nat_le end LAST_MINUTE then (if nat_lt start end then None else Some Order) else Some Range
+end_fault start (Some end) =
+    if nat_le end LAST_MINUTE then (if nat_lt start end then None else Some Order) else Some Range
 
 unfoldable pub segment_fault : SegmentRow → Option (Field × Bound)
 segment_fault s = first_fault (

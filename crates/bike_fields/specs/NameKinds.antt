@@ -2,7 +2,8 @@
 use Rattle.std.specs.Prelude.{ℕ, List, if◌then◌else◌, Option, Some, None, codes}
 use Rattle.std.specs.Str.{bytes_eq}
 use Rattle.bike_fields.specs.declared.name_kind.NameKind.{NameKind}
-use Rattle.bike_fields.specs.declared.name_kind.NameKind.TheVariants.{System, Station, «Type», Plan, Description, Region}
+use Rattle.bike_fields.specs.declared.name_kind.NameKind.TheVariants.{System, Station, «Type», Plan, Description}
+use Rattle.bike_fields.specs.declared.name_kind.NameKind.TheVariants.{Region}
 
 abbrev pub kind_text : NameKind → List ℕ
 kind_text System = codes "system"

@@ -7,7 +7,8 @@ abbrev pub Gives : {A B : Type 0} → (A → B) → Option A → Option B → Ty
 Gives view (Some x) read = read ≡ Some (view x)
 Gives view None read = read ≡ None
 
--- The outcome is what reading gives. Memory is asked for only where reading gives a value, so where it gives nothing there is no error.
+-- The outcome is what reading gives. Memory is asked for only where
+-- reading gives a value, so where it gives nothing there is no error.
 abbrev pub IsReadAs : {A : Type 0} → Option A → Result (Option A) AllocError → Type 0
 IsReadAs read (Ok outcome) = outcome ≡ read
 IsReadAs read (Err refused) = IsSome read

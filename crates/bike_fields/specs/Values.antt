@@ -1,5 +1,6 @@
 -- What the records of the catalogue are made of, as contracts see it.
-use Rattle.std.specs.Prelude.{◌≡◌, ℕ, ℤ, pos, neg_ℤ, ◌≤◌, ◌<◌, ◌≤ℤ◌, Bool, true, Option, None, Some, nat_lt, nat_le, int_le, ◌==◌, ◌&&◌, if◌then◌else◌}
+use Rattle.std.specs.Prelude.{◌≡◌, ℕ, ℤ, pos, neg_ℤ, ◌≤◌, ◌<◌, ◌≤ℤ◌, Bool, true, Option, None, Some, nat_lt, nat_le}
+use Rattle.std.specs.Prelude.{int_le, ◌==◌, ◌&&◌, if◌then◌else◌}
 use Rattle.bike_fields.specs.declared.vehicle.Propulsion.{Propulsion}
 use Rattle.bike_fields.specs.declared.vehicle.Propulsion.TheVariants.{Human, ElectricAssist}
 use Rattle.bike_fields.specs.declared.numbers.TheConstants.{LAST_MINUTE, GREATEST_RANGE}

@@ -1,5 +1,6 @@
 -- The arithmetic of a midnight's instant, and the years that have bounds.
-use Rattle.std.proofs.Common.{◌≡◌, ℕ, ℤ, pos, ◌*ℤ◌, ◌+ℤ◌, ◌-ℤ◌, ◌<ℤ◌, ◌≤ℤ◌, ◌*◌, ◌/◌, ◌≤◌, arith, lit≤, refl, sym, ap, ◌∙◌, true, false, Result, Ok, Err, Option, Some, None, IsOk, IsSome, ◌↔◌, inl, leb}
+use Rattle.std.proofs.Common.{◌≡◌, ℕ, ℤ, pos, ◌*ℤ◌, ◌+ℤ◌, ◌-ℤ◌, ◌<ℤ◌, ◌≤ℤ◌, ◌*◌, ◌/◌, ◌≤◌, arith, lit≤, refl, sym, ap, ◌∙◌, true, false, Result, Ok, Err, Option, Some, None, IsOk, IsSome, ◌↔◌, inl}
+use Rattle.std.proofs.Common.{leb}
 use Rattle.std.proofs.lemmas.Bool.Decides.{nat_tests}
 use Rattle.std.specs.Prelude.{unsigned_abs, negsuc, int_lt, if◌then◌else◌}
 use Rattle.std.specs.Result.{result_ok, is_ok}
@@ -37,12 +38,14 @@ whole_seconds e o n k i j = omega (arith, signed_arith)
 few_seconds : (e o n : ℤ) (k : ℕ) → n ≡ (e *ℤ pos 86_400_000_000_000 +ℤ pos 0) -ℤ (o *ℤ pos 1_000_000_000) → IsCovered e → IsOffsetSeconds o → n ≡ pos k → k / 1_000_000_000 ≤ last_moment
 few_seconds e o n k i h f j = omega (arith, signed_arith)
 
-midnight_instant : (date : Date) (dt : DateTime) (o : Offset) → dt.date ≡ date → time_nanos dt.time ≡ 0 → instant_of dt o ≡ (epoch_day date *ℤ pos 86_400_000_000_000 +ℤ pos 0) -ℤ (o.seconds *ℤ pos 1_000_000_000)
+midnight_instant : (date : Date) (dt : DateTime) (o : Offset) → dt.date ≡ date → time_nanos dt.time ≡ 0
+    → instant_of dt o ≡ (epoch_day date *ℤ pos 86_400_000_000_000 +ℤ pos 0) -ℤ (o.seconds *ℤ pos 1_000_000_000)
 midnight_instant date dt o d z =
     let c : civil_nanos dt ≡ epoch_day date *ℤ pos 86_400_000_000_000 +ℤ pos 0 = civil_nanos-parts dt ∙ (ap (λ x. epoch_day x *ℤ pos 86_400_000_000_000 +ℤ pos (time_nanos dt.time)) d ∙ ap (λ n. epoch_day date *ℤ pos 86_400_000_000_000 +ℤ pos n) z) in
     ap (λ x. x -ℤ (o.seconds *ℤ pos 1_000_000_000)) c
 
-module _ (tz : TimeZone) (date : Date) (dt adt : DateTime) (amb : AmbiguousOffset) (r : Result Timestamp Error) (d : dt.date ≡ date) (z : time_nanos dt.time ≡ 0) (a : adt ≡ dt) (m : amb ≡ ambiguous_at tz dt) (at : IsInstantAt adt (compatible_offset amb) r) where
+module _ (tz : TimeZone) (date : Date) (dt adt : DateTime) (amb : AmbiguousOffset) (r : Result Timestamp Error) (d : dt.date ≡ date) (z : time_nanos dt.time ≡ 0) (a : adt ≡ dt)
+    (m : amb ≡ ambiguous_at tz dt) (at : IsInstantAt adt (compatible_offset amb) r) where
   chosen : IsInstantAt dt (midnight_offset (ambiguous_at tz dt)) r
   chosen = rw (a, m, same_offset (ambiguous_at tz dt)) at at
 

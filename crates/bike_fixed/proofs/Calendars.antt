@@ -60,7 +60,8 @@ year_found (suc most) year (suc count) day few lt =
     let ih = year_found most (year + 1) count day (omega arith) (rw same lt) in
     rw (t, rest) (ih ∙ rw same refl)
 
-month_found : (most year month count day : ℕ) → count ≤ most → day < days_in_month (pos year) (month + count) → month_and_day most year month (days_of_run year month count + day) ≡ (month + count, day)
+month_found : (most year month count day : ℕ) → count ≤ most → day < days_in_month (pos year) (month + count)
+    → month_and_day most year month (days_of_run year month count + day) ≡ (month + count, day)
 unfolding month_and_day days_of_run
 month_found zero year month zero day few lt = let a : 0 + day ≡ day = omega arith in let b : month + 0 ≡ month = omega arith in rw (a, b) refl
 month_found zero year month (suc count) day few lt = absurd (omega arith)

@@ -1,5 +1,6 @@
 -- A coordinate is read exactly where it is spelled.
-use Rattle.std.proofs.Common.{◌≡◌, ◌≢◌, ℕ, ℤ, suc, ◌+◌, ◌-◌, ◌*◌, ◌^◌, ◌<◌, ◌≤◌, List, [], ◌∷◌, ◌++◌, length, take, drop, Bool, true, false, cond, eqb, leb, ltb, ◌&&◌, Option, Some, None, Result, Ok, refl, sym, ap, ◌∙◌, subst, add-one, arith, rules, inl, inr, ◌⊎◌}
+use Rattle.std.proofs.Common.{◌≡◌, ◌≢◌, ℕ, ℤ, suc, ◌+◌, ◌-◌, ◌*◌, ◌^◌, ◌<◌, ◌≤◌, List, [], ◌∷◌, ◌++◌, length, take, drop, Bool, true, false, cond, eqb, leb, ltb, ◌&&◌, Option, Some, None, Result, Ok}
+use Rattle.std.proofs.Common.{refl, sym, ap, ◌∙◌, subst, add-one, arith, rules, inl, inr, ◌⊎◌}
 use Rattle.std.specs.List.{list_all, onto_first, position_or_len, before_first, after_first, slice_split, join_with_byte}
 use Rattle.std.specs.Char.{is_ascii_digit}
 use Rattle.std.specs.Str.Parse.{digits_value, ParsesUnsigned}
@@ -80,7 +81,8 @@ some_onto x (p ∷ ps) = omega arith
 
 some_parts : (text : List ℕ) → 1 ≤ length (slice_split is_point text)
 some_parts [] = omega arith
-some_parts (x ∷ xs) = elim (is_point x) as (λ b. 1 ≤ length (cond b ([] ∷ slice_split is_point xs) (onto_first x (slice_split is_point xs)))) [ true ↦ omega arith | false ↦ some_onto x (slice_split is_point xs) ]
+some_parts (x ∷ xs) =
+    elim (is_point x) as (λ b. 1 ≤ length (cond b ([] ∷ slice_split is_point xs) (onto_first x (slice_split is_point xs)))) [ true ↦ omega arith | false ↦ some_onto x (slice_split is_point xs) ]
 
 cut_at_point : (text : List ℕ) → position_or_len is_point text < length text → text ≡ before_first is_point text ++ 46 ∷ after_first is_point text
 cut_at_point text lt =
@@ -275,7 +277,10 @@ micro_full text z c h = go c.minus refl where
   go : (b : Bool) → c.minus ≡ b → micro_of text ≡ Some z
   go true i =
       let t : text ≡ 45 ∷ (c.whole ++ fraction c.part) = c.spelled ∙ ap (λ b. minus_text b ++ (c.whole ++ fraction c.part)) i in
-      ap micro_of t ∙ within_full true (c.whole ++ fraction c.part) (digits_value 10 c.whole * 1000000 + digits_value 10 c.part * 10 ^ (6 - length c.part)) z (size_full c.whole c.part few c.part_digits c.few_part) (c.value ∙ ap (λ b. with_sign b (digits_value 10 c.whole * 1000000 + digits_value 10 c.part * 10 ^ (6 - length c.part))) i) h
+      ap micro_of t ∙ within_full true (c.whole ++ fraction c.part) (digits_value 10 c.whole * 1000000 + digits_value 10 c.part * 10 ^ (6 - length c.part)) z
+      (size_full c.whole c.part few c.part_digits c.few_part) (c.value ∙ ap (λ b. with_sign b (digits_value 10 c.whole * 1000000 + digits_value 10 c.part * 10 ^ (6 - length c.part))) i) h
   go false i =
       let t : text ≡ c.whole ++ fraction c.part = c.spelled ∙ ap (λ b. minus_text b ++ (c.whole ++ fraction c.part)) i in
-      ap micro_of t ∙ no_minus_first c.whole (fraction c.part) c.some_whole c.whole_digits ∙ within_full false (c.whole ++ fraction c.part) (digits_value 10 c.whole * 1000000 + digits_value 10 c.part * 10 ^ (6 - length c.part)) z (size_full c.whole c.part few c.part_digits c.few_part) (c.value ∙ ap (λ b. with_sign b (digits_value 10 c.whole * 1000000 + digits_value 10 c.part * 10 ^ (6 - length c.part))) i) h
+      ap micro_of t ∙ no_minus_first c.whole (fraction c.part) c.some_whole c.whole_digits
+      ∙ within_full false (c.whole ++ fraction c.part) (digits_value 10 c.whole * 1000000 + digits_value 10 c.part * 10 ^ (6 - length c.part)) z
+      (size_full c.whole c.part few c.part_digits c.few_part) (c.value ∙ ap (λ b. with_sign b (digits_value 10 c.whole * 1000000 + digits_value 10 c.part * 10 ^ (6 - length c.part))) i) h

@@ -1,5 +1,6 @@
 -- Reading a number is exact: what is read is spelled by the text, and what the text spells is read.
-use Rattle.std.proofs.Common.{◌≡◌, ℕ, ◌<◌, ◌^◌, List, [], ◌∷◌, length, ℤ, pos, negsuc, neg_ℤ, suc, ◌≤ℤ◌, eqb, inl, inr, rules, FitsSigned, Bool, true, false, ◌&&◌, to_z, of_z, Option, Some, None, Result, Ok, refl, ap, ◌∙◌, subst, arith, leb, decimal}
+use Rattle.std.proofs.Common.{◌≡◌, ℕ, ◌<◌, ◌^◌, List, [], ◌∷◌, length, ℤ, pos, negsuc, neg_ℤ, suc, ◌≤ℤ◌, eqb, inl, inr, rules, FitsSigned, Bool, true, false, ◌&&◌, to_z, of_z, Option, Some, None}
+use Rattle.std.proofs.Common.{Result, Ok, refl, ap, ◌∙◌, subst, arith, leb, decimal}
 use Rattle.std.specs.Prelude.{int_le, int_lt}
 use Rattle.std.specs.Char.{is_ascii_digit}
 use Rattle.std.specs.List.{list_all}
@@ -116,7 +117,8 @@ between_fits (negsuc a) (negsuc b) (pos n) l h x y = record { sfits = omega (ari
 between_fits (negsuc a) (negsuc b) (negsuc n) l h x y = record { sfits = omega (arith, ints, l.sfits, h.sfits) }
 
 -- what `parse` reads is the only number that the text can spell
-pub signed_parsed : {E : Type 0} (low high : ℤ) (text : List ℕ) (r : Result ℤ E) (z : ℤ) → FitsSigned w64 low → FitsSigned w64 high → ParsesSigned w64 10 text r → IsSignedNumber low high text z → r ≡ Ok z
+pub signed_parsed : {E : Type 0} (low high : ℤ) (text : List ℕ) (r : Result ℤ E) (z : ℤ) → FitsSigned w64 low → FitsSigned w64 high → ParsesSigned w64 10 text r → IsSignedNumber low high text z
+    → r ≡ Ok z
 signed_parsed low high text r z l h parsed i =
     let fits = between_fits low high z l h i.low_le i.le_high in
     parse-signed_decimal w64 z text r fits fits.sfits i.spelled parsed

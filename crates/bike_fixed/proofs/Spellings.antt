@@ -18,10 +18,28 @@ digit_is : (d : ℕ) → d < 10 → digit_value (48 + d) ≡ d
 digit_is d h = grind (arith, nat_tests)
 
 six_are_digits : (r : ℕ) → list_all is_ascii_digit (six_digits r) ≡ true
-six_are_digits r = rw (is_digit (r / 100000 % 10) (omega arith), is_digit (r / 10000 % 10) (omega arith), is_digit (r / 1000 % 10) (omega arith), is_digit (r / 100 % 10) (omega arith), is_digit (r / 10 % 10) (omega arith), is_digit (r / 1 % 10) (omega arith)) refl
+six_are_digits r =
+    rw (
+      is_digit (r / 100000 % 10) (omega arith),
+      is_digit (r / 10000 % 10) (omega arith),
+      is_digit (r / 1000 % 10) (omega arith),
+      is_digit (r / 100 % 10) (omega arith),
+      is_digit (r / 10 % 10)
+          (omega arith),
+      is_digit (r / 1 % 10) (omega arith),
+    ) refl
 
 six_value : (r : ℕ) → r < 1000000 → digits_value 10 (six_digits r) ≡ r
-six_value r h = rw (digit_is (r / 100000 % 10) (omega arith), digit_is (r / 10000 % 10) (omega arith), digit_is (r / 1000 % 10) (omega arith), digit_is (r / 100 % 10) (omega arith), digit_is (r / 10 % 10) (omega arith), digit_is (r / 1 % 10) (omega arith)) (omega arith)
+six_value r h =
+    rw (
+      digit_is (r / 100000 % 10) (omega arith),
+      digit_is (r / 10000 % 10) (omega arith),
+      digit_is (r / 1000 % 10) (omega arith),
+      digit_is (r / 100 % 10) (omega arith),
+      digit_is (r / 10 % 10)
+          (omega arith),
+      digit_is (r / 1 % 10) (omega arith),
+    ) (omega arith)
 
 small_size : (z : ℤ) → IsMicro z → unsigned_abs z ≤ 180000000
 small_size z h = omega (arith, ints, h.0, h.1)

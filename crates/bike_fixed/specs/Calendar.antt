@@ -9,7 +9,8 @@ year_and_day (suc count) year day =
     if nat_lt day (days_in_year (pos year)) then (year, day)
     else year_and_day count (year + 1) (day - days_in_year (pos year))
 
--- the month, and the place in it from 0, of the day that many days after the first of the month; at most `count` months on
+-- the month, and the place in it from 0, of the day that many
+-- days after the first of the month; at most `count` months on
 unfoldable pub month_and_day : ℕ → ℕ → ℕ → ℕ → ℕ × ℕ
 month_and_day zero year month day = (month, day)
 month_and_day (suc count) year month day =

@@ -1,5 +1,7 @@
 -- How coordinates are spelled, and read.
-use Rattle.std.specs.Prelude.{◌≡◌, ℕ, ℤ, ◌+◌, ◌-◌, ◌*◌, ◌^◌, ◌≤◌, List, [], ◌∷◌, ◌++◌, length, Bool, true, false, ◌&&◌, nat_le, nat_lt, ◌==◌, if◌then◌else◌, Option, Some, None, option_and_then, pos, neg_ℤ, ◌≤ℤ◌, int_le}
+use Rattle.std.specs.Prelude.{◌≡◌, ℕ, ℤ, ◌+◌, ◌-◌, ◌*◌, ◌^◌, ◌≤◌, List, [], ◌∷◌, ◌++◌, length, Bool, true, false, ◌&&◌}
+use Rattle.std.specs.Prelude.{nat_le, nat_lt, ◌==◌, if◌then◌else◌, Option, Some, None, option_and_then, pos, neg_ℤ}
+use Rattle.std.specs.Prelude.{◌≤ℤ◌, int_le}
 use Rattle.std.specs.List.{list_all, position_or_len, before_first, after_first}
 use Rattle.std.specs.Char.{is_ascii_digit}
 use Rattle.std.specs.Str.Parse.{digits_value}
@@ -11,7 +13,8 @@ IsMicro z = (neg_ℤ (pos GREATEST_COORDINATE) ≤ℤ z) × (z ≤ℤ pos GREATE
 
 -- so many microdegrees, where they are from -180 to 180 degrees
 abbrev pub micro_within : ℤ → Option ℤ
-micro_within z = if int_le (neg_ℤ (pos GREATEST_COORDINATE)) z && int_le z (pos GREATEST_COORDINATE) then Some z else None
+micro_within z =
+    if int_le (neg_ℤ (pos GREATEST_COORDINATE)) z && int_le z (pos GREATEST_COORDINATE) then Some z else None
 
 -- a minus sign, if the coordinate has one
 abbrev pub minus_text : Bool → List ℕ
@@ -56,7 +59,8 @@ is_point b = b == 46
 unfoldable pub size_of : List ℕ → Option ℕ
 size_of text =
     if nat_lt (position_or_len is_point text) (length text)
-    then (digits_of 3 (before_first is_point text) >>= λ n. digits_of 6 (after_first is_point text) >>= λ m. Some (n * 1000000 + m * 10 ^ (6 - length (after_first is_point text))))
+    then (digits_of 3 (before_first is_point text) >>= λ n. digits_of 6 (after_first is_point text) >>= λ m. Some
+    (n * 1000000 + m * 10 ^ (6 - length (after_first is_point text))))
     else (digits_of 3 text >>= λ n. Some (n * 1000000))
 
 -- the same behind a sign, where they are at most 180 degrees

@@ -1,5 +1,6 @@
 -- When a local date begins, and which dates and zones have bounds.
-use Rattle.std.specs.Prelude.{◌≡◌, ℕ, ℤ, pos, ◌+ℤ◌, ◌*ℤ◌, ◌<ℤ◌, ◌≤ℤ◌, ◌+◌, ◌-◌, ◌*◌, ◌&&◌, ◌==◌, ◌⊎◌, nat_le, Bool, if◌then◌else◌, List, [], ◌∷◌, Option, None, Some}
+use Rattle.std.specs.Prelude.{◌≡◌, ℕ, ℤ, pos, ◌+ℤ◌, ◌*ℤ◌, ◌<ℤ◌, ◌≤ℤ◌, ◌+◌, ◌-◌, ◌*◌, ◌&&◌, ◌==◌, ◌⊎◌, nat_le, Bool}
+use Rattle.std.specs.Prelude.{if◌then◌else◌, List, [], ◌∷◌, Option, None, Some}
 use Rattle.jiff.specs.Words.{IsBetween, epoch_day, time_nanos, instant_of, ambiguous_at, IsDate, IsYmd, read_whole}
 use Rattle.jiff.specs.Placed.{IsPosixZone}
 use Rattle.jiff.specs.Types.{Date, DateTime, Offset, AmbiguousOffset, Unambiguous, Gap, Fold, TimeZone}
@@ -31,7 +32,8 @@ pair_value high low = (high - 48) * 10 + (low - 48)
 -- year, month and day of a text YYYY-MM-DD
 abbrev pub date_parts : List ℕ → Option (ℕ × ℕ × ℕ)
 date_parts (a ∷ b ∷ c ∷ d ∷ p ∷ e ∷ f ∷ q ∷ g ∷ h ∷ []) =
-    if is_digit a && is_digit b && is_digit c && is_digit d && (p == 45) && is_digit e && is_digit f && (q == 45) && is_digit g && is_digit h
+    if is_digit a && is_digit b && is_digit c && is_digit d && (p == 45) && is_digit e && is_digit f && (q == 45)
+    && is_digit g && is_digit h
     then Some (pair_value a b * 100 + pair_value c d, pair_value e f, pair_value g h) else None
 date_parts text = None
 
@@ -72,7 +74,8 @@ BeginsBefore1970 zone day = (nanos : ℤ) × BeginsAt zone day nanos × (nanos <
 
 -- the year is before 1970 or is 9999, or a bound is before moment 0
 abbrev pub IsOutside : TimeZone → Date → Type 0
-IsOutside rule date = IsOutOfYears date ⊎ (BeginsBefore1970 rule (epoch_day date) ⊎ BeginsBefore1970 rule (epoch_day date +ℤ pos 1))
+IsOutside rule date =
+    IsOutOfYears date ⊎ (BeginsBefore1970 rule (epoch_day date) ⊎ BeginsBefore1970 rule (epoch_day date +ℤ pos 1))
 
 -- Date and zone are good, and the day isn't covered.
 pub record IsOutOfRange (text zone : List ℕ) : Type 0 where

@@ -1,5 +1,6 @@
 -- How money, coordinates and moments are printed.
-use Rattle.std.specs.Prelude.{ℕ, ℤ, ◌+◌, ◌/◌, ◌%◌, pos, List, [], ◌∷◌, ◌++◌, decimal, unsigned_abs, int_lt, if◌then◌else◌}
+use Rattle.std.specs.Prelude.{ℕ, ℤ, ◌+◌, ◌/◌, ◌%◌, pos, List, [], ◌∷◌, ◌++◌, decimal, unsigned_abs, int_lt}
+use Rattle.std.specs.Prelude.{if◌then◌else◌}
 use Rattle.bike_fixed.specs.Calendar.{civil_date}
 
 -- the decimal digit of n at the place of a power of ten
@@ -13,7 +14,8 @@ abbrev pub four_digits : ℕ → List ℕ
 four_digits n = digit_at 1000 n ∷ digit_at 100 n ∷ digit_at 10 n ∷ digit_at 1 n ∷ []
 
 abbrev pub six_digits : ℕ → List ℕ
-six_digits n = digit_at 100000 n ∷ digit_at 10000 n ∷ digit_at 1000 n ∷ digit_at 100 n ∷ digit_at 10 n ∷ digit_at 1 n ∷ []
+six_digits n =
+    digit_at 100000 n ∷ digit_at 10000 n ∷ digit_at 1000 n ∷ digit_at 100 n ∷ digit_at 10 n ∷ digit_at 1 n ∷ []
 
 -- a minus sign below zero
 abbrev pub sign_text : ℤ → List ℕ

@@ -1,5 +1,6 @@
 -- Whole numbers and their decimal texts.
-use Rattle.std.specs.Prelude.{◌≡◌, ℕ, ℤ, pos, neg_ℤ, ◌≤◌, ◌≤ℤ◌, int_le, List, [], ◌∷◌, Option, Some, None, nat_le, ◌==◌, ◌&&◌, if◌then◌else◌, decimal}
+use Rattle.std.specs.Prelude.{◌≡◌, ℕ, ℤ, pos, neg_ℤ, ◌≤◌, ◌≤ℤ◌, int_le, List, [], ◌∷◌, Option, Some, None, nat_le, ◌==◌}
+use Rattle.std.specs.Prelude.{◌&&◌, if◌then◌else◌, decimal}
 use Rattle.std.specs.Fmt.{signed_decimal}
 use Rattle.std.specs.Str.{bytes_eq}
 use Rattle.std.specs.Str.Parse.{digits_value}

@@ -16,7 +16,8 @@ broken_counts s station dock low broken zero high = absurd (omega (arith, low, h
 broken_counts s station dock low broken (suc d) high =
     go (broken_counts s station dock low broken d) (count_last (λ n. is_broken s station n) (docks_up_to d) (suc d)) (eqb_tells dock (suc d))
   where
-    go : (dock ≤ d → 1 ≤ docks_broken s station d) → count (λ n. is_broken s station n) (docks_up_to d ++ suc d ∷ []) ≡ count (λ n. is_broken s station n) (docks_up_to d) + one (is_broken s station (suc d))
+    go : (dock ≤ d → 1 ≤ docks_broken s station d) → count (λ n. is_broken s station n) (docks_up_to d ++ suc d ∷ [])
+        ≡ count (λ n. is_broken s station n) (docks_up_to d) + one (is_broken s station (suc d))
         → ((dock == suc d) ≡ true) × (dock ≡ suc d) ⊎ ((dock == suc d) ≡ false) × (dock ≡ suc d → ⊥) → 1 ≤ count (λ n. is_broken s station n) (docks_up_to d ++ suc d ∷ [])
     go less last (inl same) = let here : one (is_broken s station (suc d)) ≡ 1 = ap (λ n. one (is_broken s station n)) (sym same.1) ∙ ap one broken in omega (arith, last, here)
     go less last (inr other) = let rest = less (let apart = other.1 in omega (arith, apart, high)) in omega (arith, last, rest)
@@ -24,7 +25,8 @@ broken_counts s station dock low broken (suc d) high =
 pub none_broken : (numbers : Option DockNumbers) → has_broken numbers ≡ false → NoDockIsBroken numbers
 none_broken numbers none s station sound read dock = go (is_broken s station dock) refl where
   -- by its numbers the station that has it has a broken dock
-  counted : (row : Station) (o : Option Station) → o ≡ Some row → (n : Option DockNumbers) → n ≡ option_map (dock_numbers_of s station) o → has_broken n ≡ false → docks_broken s station row.row.docks ≡ 0
+  counted : (row : Station) (o : Option Station) → o ≡ Some row → (n : Option DockNumbers) → n ≡ option_map (dock_numbers_of s station) o → has_broken n ≡ false
+      → docks_broken s station row.row.docks ≡ 0
   counted row None there n is works = absurd cc
   counted row (Some x) there None is works = absurd cc
   counted row (Some x) there (Some n) is works =

@@ -20,7 +20,8 @@ holds_state (Int n) state is = by (int_eq n (pos 0)) (int_eq n (pos 1)) (int_eq 
     named_as : (named : BikeState) → int_eq n (state_number named) ≡ true → state ≡ named → Int n ≡ Int (state_number state)
     named_as named same is = ap Int ((Decides-int_eq n (state_number named)).0 same) ∙ ap (λ z. Int (state_number z)) (sym is)
 
-    by : (a b c : Bool) → int_eq n (pos 0) ≡ a → int_eq n (pos 1) ≡ b → int_eq n (pos 2) ≡ c → Ok state ≡ read_or_failed (if a then Some Fit else (if b then Some Disabled else (if c then Some Retired else None))) → Int n ≡ Int (state_number state)
+    by : (a b c : Bool) → int_eq n (pos 0) ≡ a → int_eq n (pos 1) ≡ b → int_eq n (pos 2) ≡ c
+        → Ok state ≡ read_or_failed (if a then Some Fit else (if b then Some Disabled else (if c then Some Retired else None))) → Int n ≡ Int (state_number state)
     by true b c fit disabled retired is = named_as Fit fit (cc)
     by false true c fit disabled retired is = named_as Disabled disabled (cc)
     by false false true fit disabled retired is = named_as Retired retired (cc)

@@ -32,7 +32,8 @@ use Rattle.bike_fleet_reads.specs.Fleet.{dock_numbers_of, dock_numbers_at, IsMar
 use Rattle.bike_fleet_reads.specs.Holds.{HoldsAny, HoldsStation, HoldsDockNumbers, HoldsMark, HoldsCounts, HoldsPlan, HoldsTruck, HoldsBike, HoldsPlace, HoldsNumbered, HoldsOrder}
 
 -- What a row holds is what the record shows of which the row is.
-held_found : {Y Z : Type 0} (row_of : Y → Row) (view : Y → Z) (Holds : Row → Z → Type 0) (o : Option Y) (row : Option Row) (x : Option Z) → ((y : Y) (z : Z) → o ≡ Some y → Holds (row_of y) z → z ≡ view y) → row ≡ option_map row_of o → HoldsAny Holds row x → x ≡ option_map view o
+held_found : {Y Z : Type 0} (row_of : Y → Row) (view : Y → Z) (Holds : Row → Z → Type 0) (o : Option Y) (row : Option Row) (x : Option Z)
+    → ((y : Y) (z : Z) → o ≡ Some y → Holds (row_of y) z → z ≡ view y) → row ≡ option_map row_of o → HoldsAny Holds row x → x ≡ option_map view o
 held_found {Y} {Z} row_of view Holds o row x only is held = by o x refl (subst (λ r. HoldsAny Holds r x) is held)
   where
     by : (p : Option Y) (x : Option Z) → o ≡ p → HoldsAny Holds (option_map row_of p) x → x ≡ option_map view p
@@ -138,29 +139,35 @@ module _ (s : Operator) (m : Listed) (sound : IsSound s) (listing : IsListing s 
           let broken : z.broken ≡ docks_broken s id y.row.docks = cc in
           λ i. record { free = free i; broken = broken i }
 
-  pub mark_found : (station : List ℕ) (dock : ℕ) (row : Option Row) (x : Option Bool) → row ≡ row_under s m Docks (Text station ∷ number_value dock ∷ []) → HoldsAny HoldsMark row x → IsMark s m station dock x
+  pub mark_found : (station : List ℕ) (dock : ℕ) (row : Option Row) (x : Option Bool) → row ≡ row_under s m Docks (Text station ∷ number_value dock ∷ []) → HoldsAny HoldsMark row x
+      → IsMark s m station dock x
   mark_found station dock row x is held =
       let listed = found_listed s m sound listing in
       let read = held_found _ (λ u. is_broken s station dock) HoldsMark (fin.get m.docks (dock_key station dock)) row x (λ y z found h. same_truth z (is_broken s station dock) (cc)) (is ∙ listed.docks station dock) held in
       subst (IsMark s m station dock) (sym read) (by (fin.get m.docks (dock_key station dock)) (listed.works station dock))
     where
-      by : (o : Option (Unit {0})) → (o ≡ None → is_broken s station dock ≡ false) → (is_some (option_map (λ (u : Unit {0}). is_broken s station dock) o) ≡ is_some o) × (unwrap_or (option_map (λ (u : Unit {0}). is_broken s station dock) o) false ≡ is_broken s station dock)
+      by : (o : Option (Unit {0})) → (o ≡ None → is_broken s station dock ≡ false)
+          → (is_some (option_map (λ (u : Unit {0}). is_broken s station dock) o) ≡ is_some o) × (unwrap_or (option_map (λ (u : Unit {0}). is_broken s station dock) o) false ≡ is_broken s station dock)
       by None works = (refl, sym (works refl))
       by (Some u) works = (refl, refl)
 
-  pub counts_found : (station type_id : List ℕ) (row : Option Row) (x : Option TypeCounts) → row ≡ row_under s m Counts (Text station ∷ Text type_id ∷ []) → HoldsAny HoldsCounts row x → AreCounts s m station type_id x
+  pub counts_found : (station type_id : List ℕ) (row : Option Row) (x : Option TypeCounts) → row ≡ row_under s m Counts (Text station ∷ Text type_id ∷ []) → HoldsAny HoldsCounts row x
+      → AreCounts s m station type_id x
   counts_found station type_id row x is held =
       let listed = found_listed s m sound listing in
       let read = held_found _ (λ u. type_counts_of s station type_id) HoldsCounts (fin.get m.counts (key_of station type_id)) row x (λ y z found h. same z h) (is ∙ listed.counts station type_id) held in
       subst (AreCounts s m station type_id) (sym read) (by (fin.get m.counts (key_of station type_id)) (listed.none station type_id))
     where
-      same : (z : TypeCounts) → HoldsCounts (count_row station type_id (type_counts_of s station type_id).available (type_counts_of s station type_id).disabled) z → z ≡ type_counts_of s station type_id
+      same : (z : TypeCounts) → HoldsCounts (count_row station type_id (type_counts_of s station type_id).available (type_counts_of s station type_id).disabled) z
+          → z ≡ type_counts_of s station type_id
       same z h =
           let available : z.available ≡ (type_counts_of s station type_id).available = cc in
           let disabled : z.disabled ≡ (type_counts_of s station type_id).disabled = cc in
           λ i. record { available = available i; disabled = disabled i }
 
-      by : (o : Option (Unit {0})) → (o ≡ None → ((type_counts_of s station type_id).available ≡ 0) × ((type_counts_of s station type_id).disabled ≡ 0)) → (is_some (option_map (λ (u : Unit {0}). type_counts_of s station type_id) o) ≡ is_some o) × (unwrap_or (option_map (λ (u : Unit {0}). type_counts_of s station type_id) o) no_counts ≡ type_counts_of s station type_id)
+      by : (o : Option (Unit {0})) → (o ≡ None → ((type_counts_of s station type_id).available ≡ 0) × ((type_counts_of s station type_id).disabled ≡ 0))
+          → (is_some (option_map (λ (u : Unit {0}). type_counts_of s station type_id) o) ≡ is_some o)
+          × (unwrap_or (option_map (λ (u : Unit {0}). type_counts_of s station type_id) o) no_counts ≡ type_counts_of s station type_id)
       by None none = let zero = none refl in (refl, λ i. record { available = (sym zero.0) i; disabled = (sym zero.1) i })
       by (Some u) none = (refl, refl)
 
@@ -169,7 +176,8 @@ module _ (s : Operator) (m : Listed) (sound : IsSound s) (listing : IsListing s 
 
   pub truck_found : (truck : ℕ) (row : Option Row) (x : Option TruckView) → row ≡ row_under s m Trucks (number_value truck ∷ []) → HoldsAny HoldsTruck row x → x ≡ truck_at s truck
   truck_found truck row x is held =
-      held_found (λ t. truck_row truck t.capacity) truck_shown HoldsTruck (fin.get s.trucks truck) row x (λ t z found h. let same : z.capacity ≡ t.capacity = cc in ap (λ n. record { capacity = n }) same) (is ∙ (found_by_key s m sound listing).trucks truck) held
+      held_found (λ t. truck_row truck t.capacity) truck_shown HoldsTruck (fin.get s.trucks truck) row x
+      (λ t z found h. let same : z.capacity ≡ t.capacity = cc in ap (λ n. record { capacity = n }) same) (is ∙ (found_by_key s m sound listing).trucks truck) held
       ∙ viewed (fin.get s.trucks truck)
     where
       viewed : (o : Option Truck) → option_map truck_shown o ≡ truck_view o
@@ -178,16 +186,19 @@ module _ (s : Operator) (m : Listed) (sound : IsSound s) (listing : IsListing s 
 
   pub bike_found : (bike : ℕ) (row : Option Row) (x : Option Bike) → row ≡ row_under s m Bikes (number_value bike ∷ []) → HoldsAny HoldsBike row x → x ≡ fin.get s.bikes bike
   bike_found bike row x is held =
-      held_found (bike_row bike) (λ b. b) HoldsBike (fin.get s.bikes bike) row x (λ y z found h. same_bike bike y z h) (is ∙ (found_by_key s m sound listing).bikes bike) held ∙ itself (fin.get s.bikes bike)
+      held_found (bike_row bike) (λ b. b) HoldsBike (fin.get s.bikes bike) row x (λ y z found h. same_bike bike y z h) (is ∙ (found_by_key s m sound listing).bikes bike) held
+      ∙ itself (fin.get s.bikes bike)
     where
       itself : (o : Option Bike) → option_map (λ b. b) o ≡ o
       itself None = refl
       itself (Some b) = refl
 
-  pub docked_found : (station : List ℕ) (dock : ℕ) (row : Option Row) (x : Option NumberedBike) → row ≡ slice_get (rows_by s m Bikes (3 ∷ 4 ∷ []) (Text station ∷ number_value dock ∷ [])) 0 → HoldsAny HoldsNumbered row x
+  pub docked_found : (station : List ℕ) (dock : ℕ) (row : Option Row) (x : Option NumberedBike) → row ≡ slice_get (rows_by s m Bikes (3 ∷ 4 ∷ []) (Text station ∷ number_value dock ∷ [])) 0
+      → HoldsAny HoldsNumbered row x
       → option_map numbered_pair x ≡ docked_at s station dock
   docked_found station dock row x is held =
-      ap (option_map numbered_pair) (held_found stored_bike numbered_shown HoldsNumbered (docked_at s station dock) row x (λ y z found h. same y z h) (is ∙ (found_by_columns s m sound listing).docked station dock) held) ∙ paired (docked_at s station dock)
+      ap (option_map numbered_pair) (held_found stored_bike numbered_shown HoldsNumbered (docked_at s station dock) row x (λ y z found h. same y z h)
+      (is ∙ (found_by_columns s m sound listing).docked station dock) held) ∙ paired (docked_at s station dock)
     where
       same : (y : ℕ × Bike) (z : NumberedBike) → HoldsNumbered (stored_bike y) z → z ≡ numbered_shown y
       same y z h =

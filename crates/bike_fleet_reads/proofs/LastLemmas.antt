@@ -6,7 +6,7 @@ use Rattle.std.specs.Ordering.{nat_cmp}
 use Rattle.std.specs.FinMap as fin
 use Rattle.std.specs.FinMap.Entries.{is_sorted, below_all}
 use Rattle.sqlite_rules.specs.Lists.{Has}
-use Rattle.bike_rows.specs.View.{last_of}
+use Rattle.bike_sql.specs.View.{last_of}
 use Rattle.bike_operator.specs.declared.records.Bike.{Bike}
 use Rattle.bike_book.specs.Tables.{Bikes}
 use Rattle.bike_book.specs.Stored.{stored_bike}

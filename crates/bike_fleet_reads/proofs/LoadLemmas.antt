@@ -10,8 +10,8 @@ use Rattle.std.proofs.lemmas.List.Sums.{sum_by-cons}
 use Rattle.sqlite_value.specs.Order.{Row, column, row_cmp, value_cmp}
 use Rattle.sqlite_value.proofs.OrderLemmas.{value_cmp-Null, then-Equal}
 use Rattle.sqlite_rules.specs.Lists.{Has}
-use Rattle.bike_rows.proofs.PageLaw.{filter_filter}
-use Rattle.bike_rows.proofs.RangeLaw.{filter_has_same}
+use Rattle.bike_sql.proofs.PageLaw.{filter_filter}
+use Rattle.bike_sql.proofs.RangeLaw.{filter_has_same}
 use Rattle.bike_operator.specs.declared.records.Place.{Place}
 use Rattle.bike_operator.specs.declared.records.Place.TheVariants as place
 use Rattle.bike_operator.specs.declared.records.Bike.{Bike}
@@ -52,11 +52,13 @@ on_truck truck bike b (place.Truck on for) = ap is_eq (then-Equal (value_cmp (nu
 on_truck truck bike b place.Depot = rw (value_cmp-Null (number_value truck)) refl
 
 -- the rows that pass are those of the bicycles that pass
-rows_passing : (pass : Row → Bool) (test : ℕ × Bike → Bool) → ((e : ℕ × Bike) → pass (stored_bike e) ≡ test e) → (es : List (ℕ × Bike)) → filter pass (map stored_bike es) ≡ map stored_bike (filter test es)
+rows_passing : (pass : Row → Bool) (test : ℕ × Bike → Bool) → ((e : ℕ × Bike) → pass (stored_bike e) ≡ test e) → (es : List (ℕ × Bike))
+    → filter pass (map stored_bike es) ≡ map stored_bike (filter test es)
 rows_passing pass test same [] = refl
 rows_passing pass test same (e ∷ es) = rw (same e) (go (test e) (rows_passing pass test same es))
   where
-    go : (b : Bool) → filter pass (map stored_bike es) ≡ map stored_bike (filter test es) → cond b (stored_bike e ∷ filter pass (map stored_bike es)) (filter pass (map stored_bike es)) ≡ map stored_bike (cond b (e ∷ filter test es) (filter test es))
+    go : (b : Bool) → filter pass (map stored_bike es) ≡ map stored_bike (filter test es)
+        → cond b (stored_bike e ∷ filter pass (map stored_bike es)) (filter pass (map stored_bike es)) ≡ map stored_bike (cond b (e ∷ filter test es) (filter test es))
     go true rest = ap (λ (rows : List Row). stored_bike e ∷ rows) rest
     go false rest = rest
 
@@ -71,7 +73,8 @@ orders_counted order (e ∷ es) =
 
 module _ (s : Operator) (sound : IsSound s) (order : ℕ) where
   -- an order that has a bicycle on a truck is there, and the truck is its own
-  carried : (bike : ℕ) (type_id : List ℕ) (p : Place) → IsPlace s bike type_id p → is_for_order order p ≡ true → (row : Order) × (item_numbered order s.orders ≡ Some row) × (is_on_truck row.truck p ≡ true)
+  carried : (bike : ℕ) (type_id : List ℕ) (p : Place) → IsPlace s bike type_id p → is_for_order order p ≡ true
+      → (row : Order) × (item_numbered order s.orders ≡ Some row) × (is_on_truck row.truck p ≡ true)
   carried bike type_id (place.Dock at dock) it for_it = absurd (cc)
   carried bike type_id (place.Rental rental) it for_it = absurd (cc)
   carried bike type_id (place.Truck truck for) it for_it =
@@ -82,9 +85,11 @@ module _ (s : Operator) (sound : IsSound s) (order : ℕ) where
   carried_by e has for_it = carried e.0 e.1.type_id e.1.place (sound.bikes.bikes e.0 e.1 (has_get number_order.total s.bikes e has)).placed for_it
 
   -- Of the orders that the rows of the order's truck hold, so many are the order.
-  pub load_counted : (m : Listed) (row : Order) → item_numbered order s.orders ≡ Some row → count_by (is_for order) (map order_column (rows_by s m Bikes (6 ∷ []) (number_value row.truck ∷ []))) ≡ order_load s order
+  pub load_counted : (m : Listed) (row : Order) → item_numbered order s.orders ≡ Some row
+      → count_by (is_for order) (map order_column (rows_by s m Bikes (6 ∷ []) (number_value row.truck ∷ []))) ≡ order_load s order
   load_counted m row found =
-      ap (λ (rows : List Row). count_by (is_for order) (map order_column rows)) (rows_passing _ (λ e. is_on_truck row.truck e.1.place) (λ e. on_truck row.truck e.0 e.1 e.1.place) (fin.entries s.bikes))
+      ap (λ (rows : List Row). count_by (is_for order) (map order_column rows))
+      (rows_passing _ (λ e. is_on_truck row.truck e.1.place) (λ e. on_truck row.truck e.0 e.1 e.1.place) (fin.entries s.bikes))
       ∙ orders_counted order (filter (λ e. is_on_truck row.truck e.1.place) (fin.entries s.bikes))
       ∙ ap length (sym (filter_filter (λ e. is_for_order order e.1.place) (λ e. is_on_truck row.truck e.1.place) (fin.entries s.bikes)))
       ∙ ap length (filter_has_same _ (λ e. is_for_order order e.1.place) (fin.entries s.bikes) (λ e has. by e has (is_for_order order e.1.place) refl))
@@ -93,7 +98,8 @@ module _ (s : Operator) (sound : IsSound s) (order : ℕ) where
       and_false true = refl
       and_false false = refl
 
-      by : (e : ℕ × Bike) → Has (fin.entries s.bikes) e → (b : Bool) → is_for_order order e.1.place ≡ b → (is_on_truck row.truck e.1.place && is_for_order order e.1.place) ≡ is_for_order order e.1.place
+      by : (e : ℕ × Bike) → Has (fin.entries s.bikes) e → (b : Bool) → is_for_order order e.1.place ≡ b
+          → (is_on_truck row.truck e.1.place && is_for_order order e.1.place) ≡ is_for_order order e.1.place
       by e has false is = ap (λ b. is_on_truck row.truck e.1.place && b) is ∙ and_false (is_on_truck row.truck e.1.place) ∙ sym is
       by e has true is =
           let it = carried_by e has is in

@@ -6,12 +6,12 @@ use Rattle.sqlite_sql.specs.Aggregate.{count}
 use Rattle.sqlite_sql.specs.Term.{Term, col}
 use Rattle.sqlite_tied.specs.Compute.{everything}
 use Rattle.sqlite.specs.Effect.{Database}
-use Rattle.bike_rows.specs.View.{row_with, rows_where, last_of}
-use Rattle.bike_rows.proofs.PageLaw.{map_same_list}
-use Rattle.bike_rows.specs.Answer.{HasOneAnswer}
-use Rattle.bike_rows.proofs.ListLemmas.{filter_all}
-use Rattle.bike_rows.proofs.SelectLaws.{first_with, last_row, rows_with_null, every_column}
-use Rattle.bike_rows.proofs.WalkLaw.{Finds}
+use Rattle.bike_sql.specs.View.{row_with, rows_where, last_of}
+use Rattle.bike_sql.proofs.PageLaw.{map_same_list}
+use Rattle.bike_sql.specs.Answer.{HasOneAnswer}
+use Rattle.bike_sql.proofs.RowListLemmas.{filter_all}
+use Rattle.bike_sql.proofs.SelectLaws.{first_with, last_row, rows_with_null, every_column}
+use Rattle.bike_sql.proofs.WalkLaw.{Finds}
 use Rattle.bike_book.specs.Tables.{Types, Regions, Stations, Docks, Bikes, Trucks, Orders, Counts}
 use Rattle.bike_book.specs.Rows.{number_value}
 use Rattle.bike_schema.specs.Layouts.{layout_of}
@@ -30,11 +30,13 @@ pub finds_station : (station : List ℕ) → FindsIn (codes "SELECT * FROM stati
 unfolding everything
 finds_station station = keyed_in Stations (λ s. (λ tree. refl, refl)) refl
 
-pub finds_dock : (station : List ℕ) (dock : ℕ) → FindsIn (codes "SELECT * FROM docks WHERE station_id = ?1 AND dock = ?2") (Text station ∷ number_value dock ∷ []) (λ t. row_with 2 (Text station ∷ number_value dock ∷ []) t.docks)
+pub finds_dock : (station : List ℕ) (dock : ℕ) → FindsIn (codes "SELECT * FROM docks WHERE station_id = ?1 AND dock = ?2") (Text station ∷ number_value dock ∷ [])
+    (λ t. row_with 2 (Text station ∷ number_value dock ∷ []) t.docks)
 unfolding everything
 finds_dock station dock = keyed_in Docks (λ s. (λ tree. refl, refl)) refl
 
-pub finds_counts : (station type_id : List ℕ) → FindsIn (codes "SELECT * FROM counts WHERE station_id = ?1 AND type_id = ?2") (Text station ∷ Text type_id ∷ []) (λ t. row_with 2 (Text station ∷ Text type_id ∷ []) t.counts)
+pub finds_counts : (station type_id : List ℕ) → FindsIn (codes "SELECT * FROM counts WHERE station_id = ?1 AND type_id = ?2") (Text station ∷ Text type_id ∷ [])
+    (λ t. row_with 2 (Text station ∷ Text type_id ∷ []) t.counts)
 unfolding everything
 finds_counts station type_id = keyed_in Counts (λ s. (λ tree. refl, refl)) refl
 
@@ -86,12 +88,14 @@ lists_trucks = lists_within Trucks 0 (number_value 0) (Blob []) refl refl (λ r.
 abbrev in_dock : List ℕ → ℕ → List Row → List Row
 in_dock station dock = rows_where (3 ∷ 4 ∷ []) (Text station ∷ number_value dock ∷ [])
 
-pub finds_docked : (station : List ℕ) (dock : ℕ) → FindsIn (codes "SELECT * FROM bikes WHERE station_id = ?1 AND dock = ?2 ORDER BY bike LIMIT 1") (Text station ∷ number_value dock ∷ []) (λ t. slice_get (in_dock station dock t.bikes) 0)
+pub finds_docked : (station : List ℕ) (dock : ℕ) → FindsIn (codes "SELECT * FROM bikes WHERE station_id = ?1 AND dock = ?2 ORDER BY bike LIMIT 1") (Text station ∷ number_value dock ∷ [])
+    (λ t. slice_get (in_dock station dock t.bikes) 0)
 unfolding everything
 finds_docked station dock =
     let shown = λ (db : Database) (rows : List Row). Finds db (codes "SELECT * FROM bikes WHERE station_id = ?1 AND dock = ?2 ORDER BY bike LIMIT 1") (Text station ∷ number_value dock ∷ []) (slice_get rows 0) in
     in_table Bikes (λ rows. slice_get (in_dock station dock rows) 0)
-    (λ db has. subst (shown db) (map_same_list _) (first_with (table_key Bikes) (has Bikes) (every_column (layout_of Bikes)) (λ row. row) (λ r. refl) 0 (3 ∷ 4 ∷ []) (λ tree. refl, refl) refl (λ r. refl)))
+    (λ db has. subst (shown db) (map_same_list _) (first_with (table_key Bikes) (has Bikes) (every_column (layout_of Bikes)) (λ row. row) (λ r. refl) 0 (3 ∷ 4 ∷ []) (λ tree. refl, refl) refl
+    (λ r. refl)))
 
 pub finds_last_order : FindsIn (codes "SELECT * FROM orders ORDER BY ord DESC LIMIT 1") [] (λ t. slice_get (last_of t.orders) 0)
 unfolding everything

@@ -41,7 +41,8 @@ station_row_at s station = record { station = station_at s station; numbers = do
 -- A dock's mark: there where the dock has a row, and whether it is broken. A dock with no row works.
 abbrev pub IsMark : Operator → Listed → List ℕ → ℕ → Option Bool → Type 0
 IsMark s m station dock mark =
-    (is_some mark ≡ map.contains_key m.docks (dock_key station dock)) × (unwrap_or mark false ≡ is_broken s station dock)
+    (is_some mark ≡ map.contains_key m.docks (dock_key station dock))
+    × (unwrap_or mark false ≡ is_broken s station dock)
 
 -- a station's bicycles of a type, those that can be rented and those that can't
 abbrev pub type_counts_of : Operator → List ℕ → List ℕ → TypeCounts

@@ -11,8 +11,8 @@ ghost use Rattle.bike_fleet_reads.specs.Holds.{HoldsAny, HoldsCounts};
 use crate::columns::{dock_total_at, no_docks};
 use bike_book::columns::counts;
 use bike_fields::{DockTotal, Ident};
-use bike_rows::lookup::first_row;
 use bike_schema::StatementFault;
+use bike_sql::lookup::first_row;
 use sqlite::{Alter, Connection, Row, params};
 
 /// A station's bicycles of one type.

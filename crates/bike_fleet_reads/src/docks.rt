@@ -11,8 +11,8 @@ ghost use Rattle.bike_fleet_reads.specs.Holds.{HoldsAny, HoldsMark};
 
 use bike_book::columns::docks;
 use bike_fields::Ident;
-use bike_rows::lookup::first_row;
 use bike_schema::{StatementFault, flag_at};
+use bike_sql::lookup::first_row;
 use sqlite::{Alter, Connection, Row, params};
 
 /// The dock's row.

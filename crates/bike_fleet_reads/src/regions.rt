@@ -12,8 +12,8 @@ ghost use Rattle.bike_schema.specs.Within.{rows_from};
 
 use bike_fields::Ident;
 use bike_operator::MOST_REGIONS;
-use bike_rows::lookup::first_row;
 use bike_schema::{ABOVE_TEXTS, StatementFault, are_at_least};
+use bike_sql::lookup::first_row;
 use sqlite::{Alter, Connection, Row, params};
 
 /// The regions whose identifiers lie between two values, both among them, in byte order.

@@ -16,8 +16,8 @@ use crate::columns::{dock_total_at, is_full, no_docks};
 use bike_book::columns::stations;
 use bike_fields::{DockTotal, Ident};
 use bike_operator::{MOST_STATIONS, StationView};
-use bike_rows::lookup::first_row;
 use bike_schema::{StatementFault, flag_at, number_at};
+use bike_sql::lookup::first_row;
 use sqlite::{Alter, Connection, Row, params};
 
 /// The numbers of a station's docks.

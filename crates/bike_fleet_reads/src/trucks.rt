@@ -12,8 +12,8 @@ ghost use Rattle.bike_fleet_reads.specs.Holds.{HoldsAny, HoldsTruck};
 use bike_book::columns::trucks;
 use bike_fields::TruckNumber;
 use bike_operator::{MOST_TRUCKS, TruckView};
-use bike_rows::lookup::first_row;
 use bike_schema::{ABOVE_TEXTS, StatementFault, are_at_least, number_at};
+use bike_sql::lookup::first_row;
 use sqlite::{Alter, Connection, Row, params};
 
 /// The trucks whose numbers lie between two values, both among them, in the order of their numbers.

@@ -14,8 +14,8 @@ ghost use Rattle.bike_fleet_reads.specs.Holds.{HoldsAny, HoldsPlan};
 use bike_book::columns::types;
 use bike_fields::Ident;
 use bike_operator::MOST_TYPES;
-use bike_rows::lookup::first_row;
 use bike_schema::{ABOVE_TEXTS, StatementFault, are_at_least, ident_at};
+use bike_sql::lookup::first_row;
 use sqlite::{Alter, Connection, Row, params};
 use std::alloc::Global;
 

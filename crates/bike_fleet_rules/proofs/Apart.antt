@@ -12,11 +12,11 @@ use Rattle.sqlite_value.proofs.OrderLemmas.{then-Equal}
 use Rattle.bike_book.proofs.Keys.{value_cmp-number_value}
 use Rattle.std.specs.Cmp.{nat_cmp_is}
 use Rattle.sqlite_rules.specs.Lists.{Has}
-use Rattle.bike_rows.specs.View.{by_key}
-use Rattle.bike_rows.proofs.OrderLemmas.{Rises, all_has, all_from}
-use Rattle.bike_rows.proofs.TreeLemmas.{by_key_total}
-use Rattle.bike_rows.proofs.ListLemmas.{map_has}
-use Rattle.bike_rows.proofs.SortLemmas.{AreApartAll}
+use Rattle.bike_sql.specs.View.{by_key}
+use Rattle.bike_sql.proofs.OrderLemmas.{Rises, all_has, all_from}
+use Rattle.bike_sql.proofs.TreeLemmas.{by_key_total}
+use Rattle.bike_sql.proofs.RowListLemmas.{map_has}
+use Rattle.bike_sql.proofs.SortLemmas.{AreApartAll}
 use Rattle.bike_judges.specs.Lines.{line, head}
 
 -- rows begin with a key of one column
@@ -36,7 +36,8 @@ module _ {X : Type 0} (eq : X → X → Bool) where
 
 module _ (keys : ℕ) (f : Row → Row) where
   -- lines of rows in their order
-  distinct_lines : (rows : List Row) → Rises (by_key_total 1) rows → BeginWithOne rows → ((r s : Row) → value_cmp (column r 0) (column s 0) ≡ Less → is_eq (by_key keys (f r) (f s)) ≡ false) → IsDistinct (eq_by_cmp (by_key keys)) (map f rows)
+  distinct_lines : (rows : List Row) → Rises (by_key_total 1) rows → BeginWithOne rows → ((r s : Row) → value_cmp (column r 0) (column s 0) ≡ Less → is_eq (by_key keys (f r) (f s)) ≡ false)
+      → IsDistinct (eq_by_cmp (by_key keys)) (map f rows)
   unfolding IsDistinct
   distinct_lines [] up one apart = tt
   distinct_lines (r ∷ rows) up one apart = (all_from (λ y. eq_by_cmp (by_key keys) (f r) y ≡ false) (map f rows) each, distinct_lines rows up.1 (λ s h. one s (inr h)) apart) where
@@ -45,7 +46,8 @@ module _ (keys : ℕ) (f : Row → Row) where
         let it = map_has f rows y h in
         let low : by_key 1 r it.0 ≡ Less = all_has (λ s. by_key 1 r s ≡ Less) rows it.0 up.0 it.1 in
         let cmp : value_cmp (column r 0) (column it.0 0) ≡ Less =
-        sym (then-Equal (value_cmp (column r 0) (column it.0 0))) ∙ sym (ap (λ (a : Row). row_cmp a (column it.0 0 ∷ [])) (one r (inl refl)) ∙ refl) ∙ sym (ap (row_cmp (take 1 r)) (one it.0 (inr it.1))) ∙ low in
+        sym (then-Equal (value_cmp (column r 0) (column it.0 0))) ∙ sym (ap (λ (a : Row). row_cmp a (column it.0 0 ∷ [])) (one r (inl refl)) ∙ refl)
+        ∙ sym (ap (row_cmp (take 1 r)) (one it.0 (inr it.1))) ∙ low in
         ap (λ (z : Row). eq_by_cmp (by_key keys) (f r) z) it.2 ∙ apart r it.0 cmp
 
 -- ---- heads and items

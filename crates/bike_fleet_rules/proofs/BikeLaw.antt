@@ -9,7 +9,7 @@ use Rattle.std.proofs.lemmas.Slice.Eq.{bytes_eq-Decides}
 use Rattle.std.specs.FinMap as fin
 use Rattle.sqlite_value.specs.Order.{Row, column}
 use Rattle.sqlite_rules.specs.Lists.{Has}
-use Rattle.bike_rows.specs.View.{partner}
+use Rattle.bike_sql.specs.View.{partner}
 use Rattle.bike_catalogue.specs.Rows.{TypeRow}
 use Rattle.bike_operator.specs.declared.limits.TheConstants.{MOST_BIKES}
 use Rattle.bike_operator.specs.declared.records.Place.{Place}
@@ -35,7 +35,8 @@ use Rattle.bike_readings.specs.ReadOff.{rental_at, order_at, operator_of}
 use Rattle.bike_readings.specs.Rules.{AreInOrder}
 use Rattle.bike_readings.specs.Demands.{IsInRental, IsForOrder, IsGoodPlace}
 use Rattle.bike_judges.specs.Lines.{or_nulls, with_one, with_two}
-use Rattle.bike_fleet_rules.specs.Tests.{has_dock, is_dock_there, is_where_retired, is_bike_named, bike_names, is_ridden, is_carried, is_used, is_bike_used, bike_uses, is_truck_there, is_bike_borne, bike_trucks}
+use Rattle.bike_fleet_rules.specs.Tests.{has_dock, is_dock_there, is_where_retired, is_bike_named, bike_names, is_ridden, is_carried, is_used, is_bike_used, bike_uses, is_truck_there, is_bike_borne}
+use Rattle.bike_fleet_rules.specs.Tests.{bike_trucks}
 use Rattle.bike_fleet_rules.proofs.Parts.{AreWide, own_part, last_part, or_nulls_wide, first_of_line, second_of_line}
 use Rattle.bike_fleet_rules.proofs.Lookups.{partner_read, partner_wide, or_nulls_read, type_partner, station_partner, truck_partner, rental_partner, order_partner}
 use Rattle.bike_fleet_rules.proofs.OfRows.{both_true, first_true, second_true}
@@ -150,7 +151,8 @@ module _ (t : Tables) (up : AreInOrder t) (wide : AreWide t) where
       let own : x.1.bike ≡ bike = ap (λ (r : Rental). r.bike) same ∙ it.bike_is in
       both_true (is_open x.1) (x.1.bike == bike) (ap is_open same ∙ it.not_closed) (grind (arith, nat_tests, own))
 
-  carried : (o : Option (ℕ × Order)) (type_id : List ℕ) (truck order : ℕ) → option_map (λ e. e.1) o ≡ order_at t order → is_carried type_id truck o ≡ true → fin.contains_key s.trucks truck ≡ true → IsForOrder t s type_id truck order
+  carried : (o : Option (ℕ × Order)) (type_id : List ℕ) (truck order : ℕ) → option_map (λ e. e.1) o ≡ order_at t order → is_carried type_id truck o ≡ true → fin.contains_key s.trucks truck ≡ true
+      → IsForOrder t s type_id truck order
   carried None type_id truck order is own there = absurd cc
   carried (Some x) type_id truck order is own there =
       let later = second_true x.1.is_open ((x.1.truck == truck) && bytes_eq x.1.type_id type_id) own in

@@ -82,7 +82,11 @@ module _ (t : Tables) (up : AreInOrder t) (wide : AreWide t) where
       (record { named = demanded t Bikes names_test key it.0.0.0 row is; used = demanded t Bikes uses_test key it.0.0.1 row is; borne = demanded t Bikes trucks_test key it.0.1 row is }, it.1 row is)))
       (λ key good.
       let each = of_good_key t Bikes IsGoodLine says (λ k. tt) key good in (
-        ((demands_of t Bikes names_test key (λ row is. (each row is).0.named), demands_of t Bikes uses_test key (λ row is. (each row is).0.used)), demands_of t Bikes trucks_test key (λ row is. (each row is).0.borne)),
+        (
+          (demands_of t Bikes names_test key (λ row is. (each row is).0.named), demands_of t Bikes uses_test key (λ row is. (each row is).0.used)),
+          demands_of t Bikes trucks_test key
+              (λ row is. (each row is).0.borne),
+        ),
         λ row is. (each row is).1,
       ))
       (least_key (least_key (least_key a b) c) (option_map number_row n)) four

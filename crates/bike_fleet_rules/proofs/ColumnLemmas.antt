@@ -1,5 +1,6 @@
 -- Columns of lines, as they are read.
-use Rattle.std.proofs.Common.{◌≡◌, ℕ, ℤ, [], ◌∷◌, ◌+◌, ◌-◌, ◌≤◌, ◌<◌, List, Bool, true, false, cond, leb, eqb, length, length-drop, length-take, min, Option, Some, None, Result, Ok, Err, refl, sym, ap, ◌∙◌, subst, arith}
+use Rattle.std.proofs.Common.{◌≡◌, ℕ, ℤ, [], ◌∷◌, ◌+◌, ◌-◌, ◌≤◌, ◌<◌, List, Bool, true, false, cond, leb, eqb, length, length-drop, length-take, min, Option, Some, None, Result, Ok, Err, refl, sym}
+use Rattle.std.proofs.Common.{ap, ◌∙◌, subst, arith}
 use Rattle.std.specs.Prelude.{drop}
 use Rattle.std.specs.Str.{IsUtf8, is_utf8}
 use Rattle.std.proofs.lemmas.Str.{is_utf8-from_IsUtf8, IsUtf8-from_is_utf8}
@@ -42,7 +43,8 @@ counted_part first line = go (leb (first + 8) (length line)) refl ∙ sym (count
   at : (k : ℕ) → k < 8 → column line (first + k) ≡ column (part first 8 line) k
   at k low = sym (part_column first 8 k line low)
 
-  go : (b : Bool) → leb (first + 8) (length line) ≡ b → cond b (spelled_by (column line first) (column line (first + 1)) (column line (first + 2)) (place_at (first + 3) line)) None ≡ misplaced_bike (part first 8 line)
+  go : (b : Bool) → leb (first + 8) (length line) ≡ b → cond b (spelled_by (column line first) (column line (first + 1)) (column line (first + 2)) (place_at (first + 3) line)) None
+      ≡ misplaced_bike (part first 8 line)
   go true e =
       let fits : first + 8 ≤ length line = grind (arith, nat_tests, e) in
       let width : eqb (length (part first 8 line)) 8 ≡ true = let is : length (part first 8 line) ≡ 8 = omega (arith, long, fits) in grind (arith, nat_tests, is) in

@@ -12,11 +12,11 @@ use Rattle.sqlite_value.specs.declared.value.Value.TheVariants.{Int}
 use Rattle.sqlite_value.specs.Order.{Row, column, row_cmp, value_cmp}
 use Rattle.sqlite_value.proofs.OrderLemmas.{row_cmp_total, then-Equal}
 use Rattle.sqlite_rules.specs.Lists.{Has}
-use Rattle.bike_rows.specs.View.{by_key}
-use Rattle.bike_rows.proofs.OrderLemmas.{Rises, rises, order_has, has_order}
-use Rattle.bike_rows.proofs.TreeLemmas.{by_key_total}
-use Rattle.bike_rows.proofs.ListLemmas.{has_map, map_has}
-use Rattle.bike_rows.proofs.LineLemmas.{has_append}
+use Rattle.bike_sql.specs.View.{by_key}
+use Rattle.bike_sql.proofs.OrderLemmas.{Rises, rises, order_has, has_order}
+use Rattle.bike_sql.proofs.TreeLemmas.{by_key_total}
+use Rattle.bike_sql.proofs.RowListLemmas.{has_map, map_has}
+use Rattle.bike_sql.proofs.LineLemmas.{has_append}
 use Rattle.bike_operator.specs.declared.records.Place.{Place}
 use Rattle.bike_operator.specs.declared.records.Place.TheVariants as place
 use Rattle.bike_operator.specs.declared.records.Bike.{Bike}
@@ -49,7 +49,8 @@ pub record IsDockedRow (row : Row) (d : Docked) : Type 0 where
   pub place_is : bike.place ≡ place.Dock d.station d.dock
 
 docked_place : (n : ℕ) (p : Place) (d : Docked) → docked_at n p ≡ Some d → (d.bike ≡ n) × (p ≡ place.Dock d.station d.dock)
-docked_place n (place.Dock station dock) d e = let same : record { bike = n; station = station; dock = dock } ≡ d = cc in (ap (λ (x : Docked). x.bike) (sym same), ap (λ (x : Docked). place.Dock x.station x.dock) same)
+docked_place n (place.Dock station dock) d e =
+    let same : record { bike = n; station = station; dock = dock } ≡ d = cc in (ap (λ (x : Docked). x.bike) (sym same), ap (λ (x : Docked). place.Dock x.station x.dock) same)
 docked_place n (place.Rental rental) d e = absurd cc
 docked_place n (place.Truck truck order) d e = absurd cc
 docked_place n place.Depot d e = absurd cc
@@ -189,7 +190,8 @@ module _ (t : Tables) (up : AreInOrder t) (wide : AreWide t) where
       → AllByRecursion (λ e. dock_cmp d e ≡ Less) (filter_map docked_in xs)
   below x d [] there is sub low = tt
   below x d (y ∷ xs) there is sub low = go (docked_in y) refl (below x d xs there is (λ z h. sub z (inr h)) low.1) where
-    go : (o : Option Docked) → docked_in y ≡ o → AllByRecursion (λ e. dock_cmp d e ≡ Less) (filter_map docked_in xs) → AllByRecursion (λ e. dock_cmp d e ≡ Less) (cons_option o (filter_map docked_in xs))
+    go : (o : Option Docked) → docked_in y ≡ o → AllByRecursion (λ e. dock_cmp d e ≡ Less) (filter_map docked_in xs)
+        → AllByRecursion (λ e. dock_cmp d e ≡ Less) (cons_option o (filter_map docked_in xs))
     go None e rest = rest
     go (Some c) e rest = (sym (keys_cmp d c) ∙ ap₂ row_cmp (sym (begins_so x d there is)) (sym (begins_so y c (sub y (inl refl)) e)) ∙ low.0, rest)
 

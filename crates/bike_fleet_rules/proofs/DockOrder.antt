@@ -16,7 +16,7 @@ use Rattle.sqlite_value.specs.Order.{Row, row_cmp, value_cmp}
 use Rattle.sqlite_value.proofs.OrderLemmas.{value_cmp-Text, then-Equal}
 use Rattle.sqlite_rules.specs.Lists.{Has}
 use Rattle.sqlite_trees.specs.Tree.{IsAscending}
-use Rattle.bike_rows.proofs.OrderLemmas.{all_has}
+use Rattle.bike_sql.proofs.OrderLemmas.{all_has}
 use Rattle.bike_operator.specs.Operator.{text_cmp}
 use Rattle.bike_laws.proofs.SingleSteps.MapLemmas.{text_order, number_order}
 use Rattle.bike_book.specs.Rows.{number_value}

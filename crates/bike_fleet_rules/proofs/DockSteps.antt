@@ -15,7 +15,8 @@ pass_none : (last : Option Docked) (found : Option ℕ) (line : Row) (left : Lis
 unfolding dock_pass
 pass_none last found line left is = ap (λ (o : Option Docked). shared_pass last found (cons_option o (filter_map docked_in left))) is
 
-pass_some : (last : Option Docked) (found : Option ℕ) (line : Row) (left : List Row) (d : Docked) → docked_in line ≡ Some d → dock_pass last found (line ∷ left) ≡ dock_pass (Some d) (found_with last found d) left
+pass_some : (last : Option Docked) (found : Option ℕ) (line : Row) (left : List Row) (d : Docked) → docked_in line ≡ Some d
+    → dock_pass last found (line ∷ left) ≡ dock_pass (Some d) (found_with last found d) left
 unfolding dock_pass shared_pass
 pass_some last found line left d is = ap (λ (o : Option Docked). shared_pass last found (cons_option o (filter_map docked_in left))) is
 
@@ -54,7 +55,8 @@ abbrev Comes : Option Row → Option ℕ → List Row → Option Row → Type 0
 Comes last found lines verdict = option_map number_row (dock_pass (option_and_then docked_in last) found lines) ≡ verdict
 
 -- a line of no bicycle in a dock
-pub step_none : (last : Option Row) (found : Option ℕ) (line : Row) (left : List Row) (verdict : Option Row) → None ≡ option_map (λ (d : Docked). d.bike) (docked_in line) → Comes last found (line ∷ left) verdict
+pub step_none : (last : Option Row) (found : Option ℕ) (line : Row) (left : List Row) (verdict : Option Row) → None ≡ option_map (λ (d : Docked). d.bike) (docked_in line)
+    → Comes last found (line ∷ left) verdict
     → Comes last found left verdict
 step_none last found line left verdict none comes = go (docked_in line) refl none where
   go : (o : Option Docked) → docked_in line ≡ o → None ≡ option_map (λ (d : Docked). d.bike) o → Comes last found left verdict
@@ -62,8 +64,10 @@ step_none last found line left verdict none comes = go (docked_in line) refl non
   go (Some d) e is = absurd cc
 
 -- a line of a bicycle in a dock
-pub step_some : (last : Option Row) (found next : Option ℕ) (line : Row) (left : List Row) (verdict : Option Row) (bike : ℕ) (shared : Bool) → Some bike ≡ option_map (λ (d : Docked). d.bike) (docked_in line)
-    → shared ≡ shared_by (option_and_then docked_in last) (docked_in line) → next ≡ cond shared (lesser_number found bike) found → Comes last found (line ∷ left) verdict → Comes (Some line) next left verdict
+pub step_some : (last : Option Row) (found next : Option ℕ) (line : Row) (left : List Row) (verdict : Option Row) (bike : ℕ) (shared : Bool)
+    → Some bike ≡ option_map (λ (d : Docked). d.bike) (docked_in line)
+    → shared ≡ shared_by (option_and_then docked_in last) (docked_in line) → next ≡ cond shared (lesser_number found bike) found → Comes last found (line ∷ left) verdict
+    → Comes (Some line) next left verdict
 step_some last found next line left verdict bike shared some shares now comes = go (docked_in line) refl some shares where
   go : (o : Option Docked) → docked_in line ≡ o → Some bike ≡ option_map (λ (d : Docked). d.bike) o → shared ≡ shared_by (option_and_then docked_in last) o → Comes (Some line) next left verdict
   go None e is s = absurd cc

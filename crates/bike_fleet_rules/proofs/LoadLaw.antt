@@ -35,7 +35,8 @@ owner a = number_value a.order
 accounts : AreAccounts order_begins order_more order_good order_key owner 0
 accounts =
     load_accounts (λ a. a.order) is_for_order (λ a. record a { load = a.load + 1 }) (λ a. refl) 7 0
-    order_read (λ row x is. ap (λ (r : Row). column r 0) (order_reading.sound row x is).0) order_opened (λ x. record { order = x.0; count = x.1.count; load = x.1.delivered }) refl (λ x. refl) (λ x. refl) order_good
+    order_read (λ row x is. ap (λ (r : Row). column r 0) (order_reading.sound row x is).0) order_opened (λ x. record { order = x.0; count = x.1.count; load = x.1.delivered }) refl (λ x. refl)
+    (λ x. refl) order_good
 
 items : AreItems order_begins order_more order_good order_key owner order_bike_line
 items = record { item = λ row. refl; place = λ row. (0, refl) }
@@ -65,7 +66,8 @@ module _ (t : Tables) (up : AreInOrder t) (wide : AreWide t) where
       ∙ ap (λ (k : ℕ). nat_le (x.1.delivered + k) x.1.count) (order_loaded t up (wide Bikes) x.0)
 
   -- the verdict on what was brought
-  pub loads_verdict : (verdict : Option Row) → pass order_begins order_more order_good order_key (take 1) None 0 (lines_of query.OrderBikes t) ≡ verdict → IsFirstFailing t Orders (Demands t Orders load_test) verdict
+  pub loads_verdict : (verdict : Option Row) → pass order_begins order_more order_good order_key (take 1) None 0 (lines_of query.OrderBikes t) ≡ verdict
+      → IsFirstFailing t Orders (Demands t Orders load_test) verdict
   loads_verdict verdict is =
       merged_verdict order_begins order_more order_good order_key owner t Orders up one 0 accounts order_bike_line t.bikes items
       (lines_apart 0 0 (λ row. column row 7) 0 t.orders t.bikes (up Orders) (up Bikes) (λ row has. begins_with_one row 7 (wide Orders row has)) (λ row has. begins_with_one row 7 (wide Bikes row has)))

@@ -133,7 +133,8 @@ order_line_loads order row wide =
 pub truck_fold : (xs : List Row) (a : TruckAccount) → fold truck_more a xs ≡ record a { load = a.load + count (loads (is_on_truck a.truck) a.truck) xs }
 truck_fold [] a = ap (λ (n : ℕ). record a { load = n }) (omega arith)
 truck_fold (x ∷ xs) a = let c = count-cons (loads (is_on_truck a.truck) a.truck) x xs in go (loads (is_on_truck a.truck) a.truck x) c (truck_fold xs) where
-  go : (b : Bool) → count (loads (is_on_truck a.truck) a.truck) (x ∷ xs) ≡ one b + count (loads (is_on_truck a.truck) a.truck) xs → ((c : TruckAccount) → fold truck_more c xs ≡ record c { load = c.load + count (loads (is_on_truck c.truck) c.truck) xs })
+  go : (b : Bool) → count (loads (is_on_truck a.truck) a.truck) (x ∷ xs) ≡ one b + count (loads (is_on_truck a.truck) a.truck) xs
+      → ((c : TruckAccount) → fold truck_more c xs ≡ record c { load = c.load + count (loads (is_on_truck c.truck) c.truck) xs })
       → fold truck_more (cond b (record a { load = a.load + 1 }) a) xs ≡ record a { load = a.load + count (loads (is_on_truck a.truck) a.truck) (x ∷ xs) }
   go true c later = later (record a { load = a.load + 1 }) ∙ ap (λ (n : ℕ). record a { load = n }) (omega (arith, c))
   go false c later = later a ∙ ap (λ (n : ℕ). record a { load = n }) (omega (arith, c))
@@ -141,7 +142,8 @@ truck_fold (x ∷ xs) a = let c = count-cons (loads (is_on_truck a.truck) a.truc
 pub order_fold : (xs : List Row) (a : OrderAccount) → fold order_more a xs ≡ record a { load = a.load + count (loads (is_for_order a.order) a.order) xs }
 order_fold [] a = ap (λ (n : ℕ). record a { load = n }) (omega arith)
 order_fold (x ∷ xs) a = let c = count-cons (loads (is_for_order a.order) a.order) x xs in go (loads (is_for_order a.order) a.order x) c (order_fold xs) where
-  go : (b : Bool) → count (loads (is_for_order a.order) a.order) (x ∷ xs) ≡ one b + count (loads (is_for_order a.order) a.order) xs → ((c : OrderAccount) → fold order_more c xs ≡ record c { load = c.load + count (loads (is_for_order c.order) c.order) xs })
+  go : (b : Bool) → count (loads (is_for_order a.order) a.order) (x ∷ xs) ≡ one b + count (loads (is_for_order a.order) a.order) xs
+      → ((c : OrderAccount) → fold order_more c xs ≡ record c { load = c.load + count (loads (is_for_order c.order) c.order) xs })
       → fold order_more (cond b (record a { load = a.load + 1 }) a) xs ≡ record a { load = a.load + count (loads (is_for_order a.order) a.order) (x ∷ xs) }
   go true c later = later (record a { load = a.load + 1 }) ∙ ap (λ (n : ℕ). record a { load = n }) (omega (arith, c))
   go false c later = later a ∙ ap (λ (n : ℕ). record a { load = n }) (omega (arith, c))

@@ -16,9 +16,9 @@ use Rattle.sqlite_value.specs.declared.value.Value.TheVariants.{Text}
 use Rattle.sqlite_value.specs.declared.value.Value.{Value}
 use Rattle.sqlite_value.specs.Order.{Row, row_cmp, column}
 use Rattle.sqlite_rules.specs.Lists.{Has}
-use Rattle.bike_rows.specs.View.{by_key, row_with, partner}
-use Rattle.bike_rows.proofs.OrderLemmas.{Rises}
-use Rattle.bike_rows.proofs.TreeLemmas.{by_key_total}
+use Rattle.bike_sql.specs.View.{by_key, row_with, partner}
+use Rattle.bike_sql.proofs.OrderLemmas.{Rises}
+use Rattle.bike_sql.proofs.TreeLemmas.{by_key_total}
 use Rattle.bike_catalogue.specs.Rows.{TypeRow}
 use Rattle.bike_operator.specs.declared.records.Rental.{Rental}
 use Rattle.bike_operator.specs.declared.records.Order.{Order}
@@ -67,7 +67,8 @@ module _ {X : Type 0} (read : Row → Option X) (rows : List Row) where
 station_without : (o : Option Row) → option_map (λ (e : List ℕ × Station). e.1) (option_and_then station_in o) ≡ option_map (λ (e : List ℕ × Station × ℤ × ℕ). e.1) (option_and_then station_read o)
 station_without None = refl
 station_without (Some row) = go (station_read row) where
-  go : (q : Option (List ℕ × Station × ℤ × ℕ)) → option_map (λ (e : List ℕ × Station). e.1) (option_map (λ (e : List ℕ × Station × ℤ × ℕ). (e.0, e.1)) q) ≡ option_map (λ (e : List ℕ × Station × ℤ × ℕ). e.1) q
+  go : (q : Option (List ℕ × Station × ℤ × ℕ)) → option_map (λ (e : List ℕ × Station). e.1) (option_map (λ (e : List ℕ × Station × ℤ × ℕ). (e.0, e.1)) q)
+      ≡ option_map (λ (e : List ℕ × Station × ℤ × ℕ). e.1) q
   go None = refl
   go (Some x) = refl
 

@@ -10,7 +10,7 @@ use Rattle.sqlite_value.specs.declared.value.Value.{Value}
 use Rattle.sqlite_value.specs.declared.value.Value.TheVariants.{Text}
 use Rattle.sqlite_value.specs.Order.{Row, column}
 use Rattle.sqlite_rules.specs.Lists.{Has}
-use Rattle.bike_rows.specs.View.{partner}
+use Rattle.bike_sql.specs.View.{partner}
 use Rattle.bike_catalogue.specs.Rows.{TypeRow}
 use Rattle.bike_texts.specs.declared.ends.OrderEnd.{OrderEnd}
 use Rattle.bike_texts.specs.declared.ends.OrderEnd.TheVariants as end
@@ -153,7 +153,9 @@ module _ (t : Tables) (up : AreInOrder t) (wide : AreWide t) where
     to_found = end_is x.1.to_end (column row 3) (ap (λ (r : Row). column r 3) row_is)
 
     names_some : order_names n (names_line row) ≡ (x.0 == n + 1) && (nat_lt n MOST_ORDERS && (holds x.1.count (truck_of row) && fin.contains_key s.types x.1.type_id))
-    names_some = names_is n row has ∙ (λ i. is_order_named n (is i) (truck_of row) (kind_of row)) ∙ ap (λ (b : Bool). (x.0 == n + 1) && (nat_lt n MOST_ORDERS && (holds x.1.count (truck_of row) && b))) kind_found
+    names_some =
+        names_is n row has ∙ (λ i. is_order_named n (is i) (truck_of row) (kind_of row))
+        ∙ ap (λ (b : Bool). (x.0 == n + 1) && (nat_lt n MOST_ORDERS && (holds x.1.count (truck_of row) && b))) kind_found
 
     ends_some : order_ends n (ends_line row) ≡ has_end s x.1.from_end && (has_end s x.1.to_end && not (is_same_end x.1.from_end x.1.to_end))
     ends_some =
@@ -245,8 +247,16 @@ module _ (t : Tables) (up : AreInOrder t) (wide : AreWide t) where
       let two = least_verdict t Orders (Demands t Orders names_test) (Demands t Orders ends_test) a b names ends in
       let three = least_verdict t Orders (λ key. Demands t Orders names_test key × Demands t Orders ends_test key) (Demands t Orders (load_test t up wide)) (least_key a b) c two loads in
       same_verdict t Orders (λ key. (Demands t Orders names_test key × Demands t Orders ends_test key) × Demands t Orders (load_test t up wide) key) (IsGoodKey t Orders)
-      (λ key it. good_key t Orders IsGoodLine says (λ k. tt) key (λ row is. (demanded t Orders names_test key it.0.0 row is, demanded t Orders ends_test key it.0.1 row is, demanded t Orders (load_test t up wide) key it.1 row is)))
+      (λ key it. good_key t Orders IsGoodLine says (λ k. tt) key (λ row is. (
+        demanded t Orders names_test key it.0.0 row is,
+        demanded t Orders ends_test key it.0.1 row is,
+        demanded t Orders
+            (load_test t up wide) key it.1 row is,
+      )))
       (λ key good.
-      let each = of_good_key t Orders IsGoodLine says (λ k. tt) key good in
-      ((demands_of t Orders names_test key (λ row is. (each row is).0), demands_of t Orders ends_test key (λ row is. (each row is).1)), demands_of t Orders (load_test t up wide) key (λ row is. (each row is).2)))
+      let each = of_good_key t Orders IsGoodLine says (λ k. tt) key good in (
+        (demands_of t Orders names_test key (λ row is. (each row is).0), demands_of t Orders ends_test key (λ row is. (each row is).1)),
+        demands_of t Orders (load_test t up wide) key
+            (λ row is. (each row is).2),
+      ))
       (least_key (least_key a b) c) three

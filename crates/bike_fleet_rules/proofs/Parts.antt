@@ -8,13 +8,13 @@ use Rattle.sqlite_schema.specs.Names.{place_of}
 use Rattle.sqlite_value.specs.Order.{Row, column}
 use Rattle.sqlite_rules.specs.Lists.{Has}
 use Rattle.sqlite.specs.Effect.{Database}
-use Rattle.bike_rows.specs.View.{columns_of, rows_in}
-use Rattle.bike_rows.specs.Layout.{Layout, table_of}
-use Rattle.bike_rows.specs.Stands.{Stands, rows_of}
-use Rattle.bike_rows.proofs.OrderLemmas.{order_has}
-use Rattle.bike_rows.proofs.TreeLemmas.{by_key_total}
-use Rattle.bike_rows.proofs.ListLemmas.{map_has}
-use Rattle.bike_rows.proofs.FrameLemmas.{rows_of_is}
+use Rattle.bike_sql.specs.View.{columns_of, rows_in}
+use Rattle.bike_sql.specs.Layout.{Layout, table_of}
+use Rattle.bike_sql.specs.Stands.{Stands, rows_of}
+use Rattle.bike_sql.proofs.OrderLemmas.{order_has}
+use Rattle.bike_sql.proofs.TreeLemmas.{by_key_total}
+use Rattle.bike_sql.proofs.RowListLemmas.{map_has}
+use Rattle.bike_sql.proofs.FrameLemmas.{rows_of_is}
 use Rattle.bike_book.specs.Tables.{TableName, Tables, tables_by, keys_of, rows_in as table_rows}
 use Rattle.bike_schema.specs.Layouts.{layout_of, layout_in, name_of}
 use Rattle.bike_schema.specs.Tables.{tables_of, HasTables}

@@ -39,7 +39,8 @@ owner a = number_value a.truck
 accounts : AreAccounts truck_begins truck_more truck_good truck_key owner 6
 accounts =
     load_accounts (λ a. a.truck) is_on_truck (λ a. record a { load = a.load + 1 }) (λ a. refl) 1 6
-    truck_read (λ row x is. ap (λ (r : Row). column r 0) (truck_reading.sound row x is).0) truck_opened (λ x. record { truck = x.0; capacity = x.1.capacity; load = 0 }) refl (λ x. refl) (λ x. refl) truck_good
+    truck_read (λ row x is. ap (λ (r : Row). column r 0) (truck_reading.sound row x is).0) truck_opened (λ x. record { truck = x.0; capacity = x.1.capacity; load = 0 }) refl (λ x. refl)
+    (λ x. refl) truck_good
 
 items : AreItems truck_begins truck_more truck_good truck_key owner truck_bike_line
 items = record { item = λ row. refl; place = λ row. (0, refl) }

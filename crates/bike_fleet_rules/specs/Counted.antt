@@ -25,10 +25,13 @@ spelled_by number kind condition at = do
 
 -- the first place that five columns of a line name
 abbrev pub place_at : ℕ → Row → Option Place
-place_at at line = first_place_in (column line at) (column line (at + 1)) (column line (at + 2)) (column line (at + 3)) (column line (at + 4))
+place_at at line =
+    first_place_in (column line at) (column line (at + 1)) (column line (at + 2)) (column line (at + 3))
+    (column line (at + 4))
 
 -- the bicycle that the row counts which stands in a line from this column on
 abbrev pub counted_at : ℕ → Row → Option (ℕ × Bike)
 counted_at first line =
     if nat_le (first + bikes.COLUMNS) (length line)
-    then spelled_by (column line first) (column line (first + 1)) (column line (first + 2)) (place_at (first + 3) line) else None
+    then spelled_by (column line first) (column line (first + 1)) (column line (first + 2)) (place_at (first + 3) line)
+    else None

@@ -1,5 +1,6 @@
 -- What the lines of trucks, and of orders, come to: each with the bicycles on it, or on trucks for it.
-use Rattle.std.specs.Prelude.{ℕ, ◌==◌, ◌&&◌, ◌+◌, [], ◌∷◌, Bool, false, if◌then◌else◌, nat_lt, nat_le, Option, Some, None, is_some}
+use Rattle.std.specs.Prelude.{ℕ, ◌==◌, ◌&&◌, ◌+◌, [], ◌∷◌, Bool, false, if◌then◌else◌, nat_lt, nat_le, Option, Some}
+use Rattle.std.specs.Prelude.{None, is_some}
 use Rattle.sqlite_value.specs.Order.{Row, column}
 use Rattle.bike_book.specs.declared.columns.bikes.TheConstants as bikes
 use Rattle.bike_book.specs.declared.columns.trucks.TheConstants as trucks

@@ -1,5 +1,6 @@
 -- What is asked of the lines of orders and of bicycles, each with its partners beside it.
-use Rattle.std.specs.Prelude.{ℕ, ℤ, ◌+◌, ◌==◌, ◌&&◌, ◌||◌, List, [], ◌∷◌, Bool, true, false, not, nat_lt, nat_le, Option, Some, None, is_some}
+use Rattle.std.specs.Prelude.{ℕ, ℤ, ◌+◌, ◌==◌, ◌&&◌, ◌||◌, List, [], ◌∷◌, Bool, true, false, not, nat_lt, nat_le}
+use Rattle.std.specs.Prelude.{Option, Some, None, is_some}
 use Rattle.std.specs.Str.{bytes_eq}
 use Rattle.sqlite_value.specs.Order.{Row, column}
 use Rattle.bike_book.specs.declared.columns.types.TheConstants as types
@@ -38,11 +39,13 @@ holds count (Some x) = nat_le count x.1.capacity
 -- the order before which so many stand: its number, its truck and its type
 abbrev pub is_order_named : ℕ → Option (ℕ × Order) → Option (ℕ × Truck) → Option (List ℕ × TypeRow) → Bool
 is_order_named below None truck kind = false
-is_order_named below (Some x) truck kind = (x.0 == below + 1) && (nat_lt below MOST_ORDERS && (holds x.1.count truck && is_some kind))
+is_order_named below (Some x) truck kind =
+    (x.0 == below + 1) && (nat_lt below MOST_ORDERS && (holds x.1.count truck && is_some kind))
 
 unfoldable pub order_names : ℕ → Row → Bool
 order_names below line =
-    is_order_named below (order_read (part 0 orders.COLUMNS line)) (truck_read (part orders.COLUMNS trucks.COLUMNS line))
+    is_order_named below (order_read (part 0 orders.COLUMNS line))
+    (truck_read (part orders.COLUMNS trucks.COLUMNS line))
     (type_read (part (orders.COLUMNS + trucks.COLUMNS) types.COLUMNS line))
 
 -- the end is the depot, or a station that is there
@@ -51,9 +54,11 @@ is_end_there end.Depot station = true
 is_end_there (end.Station id) station = is_some station
 
 -- the ends of the order
-abbrev pub are_ends_there : Option (ℕ × Order) → Option (List ℕ × Station × ℤ × ℕ) → Option (List ℕ × Station × ℤ × ℕ) → Bool
+abbrev pub are_ends_there : Option (ℕ × Order) → Option (List ℕ × Station × ℤ × ℕ) → Option (List ℕ × Station × ℤ × ℕ)
+    → Bool
 are_ends_there None from to = false
-are_ends_there (Some x) from to = is_end_there x.1.from_end from && (is_end_there x.1.to_end to && not (is_same_end x.1.from_end x.1.to_end))
+are_ends_there (Some x) from to =
+    is_end_there x.1.from_end from && (is_end_there x.1.to_end to && not (is_same_end x.1.from_end x.1.to_end))
 
 unfoldable pub order_ends : ℕ → Row → Bool
 order_ends below line =
@@ -81,7 +86,9 @@ is_where_retired state at = not (is_retired state) || is_depot at
 -- the bicycle before which so many stand: its type, its dock and its state
 abbrev pub is_bike_named : ℕ → Option (ℕ × Bike) → Option (List ℕ × TypeRow) → Option (List ℕ × Station × ℤ × ℕ) → Bool
 is_bike_named below None kind station = false
-is_bike_named below (Some x) kind station = nat_lt below MOST_BIKES && (is_some kind && (is_dock_there x.1.place station && is_where_retired x.1.state x.1.place))
+is_bike_named below (Some x) kind station =
+    nat_lt below MOST_BIKES && (is_some kind && (is_dock_there x.1.place station
+    && is_where_retired x.1.state x.1.place))
 
 unfoldable pub bike_names : ℕ → Row → Bool
 bike_names below line =
@@ -127,4 +134,5 @@ is_bike_borne None truck = false
 is_bike_borne (Some x) truck = is_truck_there x.1.place truck
 
 unfoldable pub bike_trucks : ℕ → Row → Bool
-bike_trucks below line = is_bike_borne (bike_read (part 0 bikes.COLUMNS line)) (truck_read (part bikes.COLUMNS trucks.COLUMNS line))
+bike_trucks below line =
+    is_bike_borne (bike_read (part 0 bikes.COLUMNS line)) (truck_read (part bikes.COLUMNS trucks.COLUMNS line))

@@ -1,7 +1,7 @@
 //! The rules of bicycles.
 
 ghost use Rattle.bike_book.specs.Tables.{Bikes};
-ghost use Rattle.bike_rows.specs.Calls.{ReadsWhere};
+ghost use Rattle.bike_sql.specs.Calls.{ReadsWhere};
 ghost use Rattle.bike_schema.specs.Tables.{IsOurs};
 ghost use Rattle.bike_judges.specs.Verdicts.{JudgesTable};
 

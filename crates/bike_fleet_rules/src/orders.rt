@@ -5,7 +5,7 @@ ghost use Rattle.bike_operator.specs.Counts.{is_for_order};
 ghost use Rattle.bike_readings.specs.Views.{order_of, place_of};
 ghost use Rattle.bike_fleet_rules.specs.Loads.{order_begins, order_more, order_good, order_key, loads};
 ghost use Rattle.bike_book.specs.Tables.{Orders};
-ghost use Rattle.bike_rows.specs.Calls.{ReadsWhere};
+ghost use Rattle.bike_sql.specs.Calls.{ReadsWhere};
 ghost use Rattle.bike_schema.specs.Tables.{IsOurs};
 ghost use Rattle.bike_judges.specs.Verdicts.{JudgesTable};
 

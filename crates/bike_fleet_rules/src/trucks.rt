@@ -5,7 +5,7 @@ ghost use Rattle.bike_readings.specs.Views.{truck_of, place_of};
 ghost use Rattle.bike_fleet_rules.specs.Loads.{truck_begins, truck_more, truck_good, truck_key, loads};
 ghost use Rattle.bike_operator.specs.Counts.{is_on_truck};
 ghost use Rattle.bike_book.specs.Tables.{Trucks};
-ghost use Rattle.bike_rows.specs.Calls.{ReadsWhere};
+ghost use Rattle.bike_sql.specs.Calls.{ReadsWhere};
 ghost use Rattle.bike_schema.specs.Tables.{IsOurs};
 ghost use Rattle.bike_judges.specs.Verdicts.{JudgesTable};
 

@@ -17,7 +17,8 @@ use Rattle.bike_http.specs.declared.exchange.Served.TheVariants.{Empty, Status}
 use Rattle.bike_http.specs.declared.exchange.ServeFault.{ServeFault}
 use Rattle.bike_http.specs.declared.exchange.ServeFault.TheVariants.{Read, Write, Cut}
 
--- The input asks for a request that was accepted before, with this response; since then others came, and the operator is the one after them.
+-- The input asks for a request that was accepted before, with this
+-- response; since then others came, and the operator is the one after them.
 -- Whether the program was stopped in between isn't asked: it is the operator that the desk is at now.
 pub record CameBefore (input : Option (List ℕ)) (s : Operator) (first : Response) : Type 0 where
   pub bytes : List ℕ
@@ -36,12 +37,15 @@ abbrev pub IsFirstOrNone : Response → Response → Type 0
 IsFirstOrNone first sent = (sent ≡ first) ⊎ (sent ≡ unavailable)
 
 -- WHAT IS SENT AGAIN: the bytes of the first response, or 503. A desk that goes on is at the operator at which it was.
-abbrev pub SendsAgain : {S : Type 0} → Ghosts S → DeskValue S → Operator → Response → Option (List ℕ) → Option (List ℕ) → Result Served ServeFault
+abbrev pub SendsAgain : {S : Type 0} → Ghosts S → DeskValue S → Operator → Response → Option (List ℕ) → Option (List ℕ)
+    → Result Served ServeFault
     → Type 0
 SendsAgain g d s first before after (Ok Empty) = ⊥
 SendsAgain g d s first before after (Ok (Status status)) =
-    (sent : Response) × IsFirstOrNone first sent × (status ≡ response_status sent) × Appends before after (bytes_of sent) × (d.is_stopped ≡ false → IsAt g d s)
+    (sent : Response) × IsFirstOrNone first sent × (status ≡ response_status sent)
+    × Appends before after (bytes_of sent) × (d.is_stopped ≡ false → IsAt g d s)
 SendsAgain g d s first before after (Err Read) = Unit {0}
 SendsAgain g d s first before after (Err Write) =
-    (sent : Response) × IsFirstOrNone first sent × AppendsFront before after (bytes_of sent) × (d.is_stopped ≡ false → IsAt g d s)
+    (sent : Response) × IsFirstOrNone first sent × AppendsFront before after (bytes_of sent)
+    × (d.is_stopped ≡ false → IsAt g d s)
 SendsAgain g d s first before after (Err Cut) = ⊥

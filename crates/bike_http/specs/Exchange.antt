@@ -28,7 +28,8 @@ abbrev pub feed_response : Operator → ℕ → Feed → Option SystemRow → Re
 feed_response s t feed None = answered not_found
 feed_response s t feed (Some x) = published (feed_text s x feed t)
 
--- THE TABLE: the response to what is asked of an operator at a moment; a feed is for the operator's `now` where that is later ..
+-- THE TABLE: the response to what is asked of an operator at a
+-- moment; a feed is for the operator's `now` where that is later ..
 abbrev pub response_of : Operator → ℕ → Action → Response
 response_of s t (Reject rejection) = answered (answer.Rejected rejection)
 response_of s t (Apply q) = answered (answer.Replied (step s t q).0)
@@ -65,9 +66,10 @@ status_in (published text) = statuses.Ok
 abbrev pub response_status : Response → ℕ
 response_status response = code_of (status_in response)
 
--- WHAT AN INPUT ASKS OF AN OPERATOR at a moment: its response, and the operator after it. An input that isn't known asks for
--- something.
-pub record Answers (input : Option (List ℕ)) (s : Operator) (t : ℕ) (response : Response) (next : Operator) : Type 0 where
+-- WHAT AN INPUT ASKS OF AN OPERATOR at a moment: its response, and the operator after it. An input that isn't known
+-- asks for something.
+pub record Answers (input : Option (List ℕ)) (s : Operator) (t : ℕ) (response : Response)
+    (next : Operator) : Type 0 where
   pub asked : Action
   pub received : IfSome input (λ bytes. Received bytes (Some asked))
   pub good : IsGood t asked

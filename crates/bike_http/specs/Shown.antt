@@ -21,7 +21,13 @@ shown_or_not_found show None = not_found
 shown_or_not_found show (Some x) = show x
 
 abbrev pub shown_rider : Operator → ℕ → Rider → Answer
-shown_rider s n r = answer.Rider (record { rider = n; blocked = r.is_blocked; balance = balance_of n s.entries; rental = open_number s n })
+shown_rider s n r =
+    answer.Rider (record {
+      rider = n;
+      blocked = r.is_blocked;
+      balance = balance_of n s.entries;
+      rental = open_number s n;
+    })
 
 -- a closed rental is shown with its refunds
 abbrev pub shown_rental : Operator → ℕ → Rental → Answer

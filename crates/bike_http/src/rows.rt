@@ -6,9 +6,8 @@ ghost use Rattle.bike_http.specs.Rows.{rider_answer, bike_answer, rental_answer,
 use bike_fields::{BicycleNumber, OrderNumber, RentalNumber, RiderNumber};
 use bike_http_head::Rejection;
 use bike_http_response::{Answer, RiderRow};
-use bike_operator::{Bike, Order};
+use bike_operator::{Bike, Order, RentalInfo};
 use bike_queries::RiderInfo;
-use bike_summaries::RentalInfo;
 
 /// A rider, or that there is none of that number.
 pub(crate) fn rider_answer(number: RiderNumber, found: Option<RiderInfo>) -> Answer

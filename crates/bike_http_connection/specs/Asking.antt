@@ -4,7 +4,7 @@ use Rattle.bike_http_connection.specs.declared.peer.Peer.{Peer}
 use Rattle.bike_http_connection.specs.declared.connection.State.{State}
 use Rattle.bike_http_connection.specs.declared.connection.State.TheVariants.{Gathering, Ready, Sending, Lingering}
 use Rattle.bike_http_connection.specs.declared.exchange.Exchange.{Exchange}
-use Rattle.bike_http_connection.specs.declared.request.Request.{Request}
+use Rattle.bike_http_connection.specs.declared.request.RequestReader.{RequestReader}
 use Rattle.bike_http_request.specs.Received.{Received}
 use Rattle.bike_http_request.specs.declared.action.Action.{Action}
 
@@ -14,7 +14,7 @@ pub record Coming : Type 0 where
   pub input : List ℕ
 
 -- what is still to be read of a request
-abbrev pub unread : Request → List ℕ
+abbrev pub unread : RequestReader → List ℕ
 unread request = drop request.start request.bytes.items
 
 -- what these bytes ask for, the input asks for

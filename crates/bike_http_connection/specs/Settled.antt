@@ -33,4 +33,5 @@ wanted_of (Of n) = n
 -- these bytes are a request, whatever follows: its head, and as much behind it as that tells
 abbrev pub IsWhole : List ℕ → Type 0
 IsWhole bytes =
-    (head : RequestHead) × (rest : List ℕ) × HasHead bytes head rest × (wanted_of (body_length (map name_and_value head.fields)) ≤ length rest)
+    (head : RequestHead) × (rest : List ℕ) × HasHead bytes head rest
+    × (wanted_of (body_length (map name_and_value head.fields)) ≤ length rest)

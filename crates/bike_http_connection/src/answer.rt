@@ -20,7 +20,7 @@ const SHORT: usize = 1024;
 
 /// An answer, in blocks that are freed one by one as they are taken; seen as the bytes that aren't sent yet.
 #[derive(Drop)]
-pub struct Answer {
+pub struct ResponseBuffer {
     alloc: Global,
     full: VecDeque<Vec<u8>>,
     last: Vec<u8>,
@@ -30,7 +30,7 @@ pub struct Answer {
     room: usize,
 }
 
-impl Model for Answer {
+impl Model for ResponseBuffer {
     ghost use Rattle.std.specs.Prelude.{List, ℕ, ◌≤◌, length, map, vec_items};
     ghost use Rattle.bike_http_connection.specs.Answers.{bytes_in, left_of};
 
@@ -52,13 +52,13 @@ fn first_block<'a>(full: &'a VecDeque<Vec<u8>>, last: &'a Vec<u8>) -> &'a [u8]
     }
 }
 
-impl Answer {
+impl ResponseBuffer {
     /// No byte yet, and so many at most. It takes the memory for the first 1,024.
-    pub fn new(alloc: Global, room: usize) -> Result<Answer, AllocError>
+    pub fn new(alloc: Global, room: usize) -> Result<ResponseBuffer, AllocError>
         ensures { IfOk result (λ answer. answer ≡ []) }
     {
         let last = Vec::with_capacity(alloc, SHORT)?;
-        Ok(Answer {
+        Ok(ResponseBuffer {
             alloc,
             full: VecDeque::new(alloc),
             last,
@@ -156,7 +156,7 @@ impl Answer {
     }
 }
 
-impl Write for Answer {
+impl Write for ResponseBuffer {
     ghost use Rattle.std.specs.Prelude.{Some};
 
     ghost contents = { λ answer. Some answer };

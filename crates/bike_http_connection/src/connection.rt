@@ -6,12 +6,12 @@ ghost use Rattle.bike_http_connection.specs.Connected.{left_in, IsUnderWay, IsRe
 ghost use Rattle.bike_http_connection.specs.Connected.{connected_as, opened_as, begun_as, handed_as};
 ghost use Rattle.bike_http_connection.specs.Asking.{AsksAs, unread, coming_from};
 
-use crate::answer::Answer;
+use crate::answer::ResponseBuffer;
 use crate::exchange::Exchange;
 use crate::gathering::Gathering;
 use crate::limits::{MOST_CALLS, PATIENCE, PIECE};
 use crate::peer::Peer;
-use crate::request::Request;
+use crate::request::RequestReader;
 use crate::socket::Socket;
 use bike_fixed::Moment;
 use std::alloc::{AllocError, Global};
@@ -48,9 +48,14 @@ pub(crate) enum State {
     /// Its request is there.
     Ready(Gathering),
     /// Its answer goes out. It may have been made before all of the request was read.
-    Sending { answer: Answer, is_early: bool },
+    Sending {
+        answer: ResponseBuffer,
+        is_early: bool,
+    },
     /// It was answered before all of its request was read, and what comes still is read in so many pieces.
-    Lingering { pieces: u32 },
+    Lingering {
+        pieces: u32,
+    },
 }
 
 /// A connection; seen as its client, of whom it is known what is still to be answered and what is taken, with the
@@ -108,10 +113,12 @@ fn linger<S: Socket>(socket: &mut S, pieces: &mut u32) -> Step
 
 /// Reads what there is of a request.
 fn gather<S: Socket>(peer: Peer<S>, gathering: Gathering) -> (Peer<S>, State, Step)
+    // How far its request came.
     ensures ready { IsReady S.is_known S.coming result.0 result.1 }
     ensures same { IsTrue S.is_known → (result.2 ≡ Step.Over → ⊥)
         → connected_as S.input S.coming S.taken result.0 result.1
         ≡ connected_as S.input S.coming S.taken peer (State.Gathering gathering) }
+    // Who it is, and what is still to be sent to it, stays.
     ensures kept { S.input result.0.socket ≡ S.input peer.socket }
     ensures moment { result.0.moment ≡ peer.moment }
     ensures end { result.0.end ≡ peer.end }
@@ -129,10 +136,12 @@ fn gather<S: Socket>(peer: Peer<S>, gathering: Gathering) -> (Peer<S>, State, St
 
 /// Reads or writes as far as a socket is ready.
 fn go_on<S: Socket>(peer: Peer<S>, state: State) -> (Peer<S>, State, Step)
+    // How far its request came.
     ensures ready { IsReady S.is_known S.coming peer state → IsReady S.is_known S.coming result.0 result.1 }
     ensures same { IsTrue S.is_known → (result.2 ≡ Step.Over → ⊥)
         → connected_as S.input S.coming S.taken result.0 result.1
         ≡ connected_as S.input S.coming S.taken peer state }
+    // Who it is, and what is still to be sent to it, stays.
     ensures kept { S.input result.0.socket ≡ S.input peer.socket }
     ensures moment { result.0.moment ≡ peer.moment }
     ensures end { result.0.end ≡ peer.end }
@@ -190,7 +199,7 @@ impl<S: Socket> Connection<S> {
     }
 
     /// A connection that was answered. The answer may have been made before all of the request was read (`is_early`).
-    pub(crate) fn sending(peer: Peer<S>, answer: Answer, is_early: bool) -> Connection<S>
+    pub(crate) fn sending(peer: Peer<S>, answer: ResponseBuffer, is_early: bool) -> Connection<S>
         ensures { result ≡ opened_as S.input S.coming S.taken peer (State.Sending answer is_early) }
     {
         Connection {
@@ -297,7 +306,7 @@ impl<S: Socket> Connection<S> {
         match state {
             State::Ready(gathering) => Ok(Exchange {
                 peer,
-                request: Request::new(gathering.bytes, gathering.is_ended),
+                request: RequestReader::new(gathering.bytes, gathering.is_ended),
             }),
             state => Err(Connection {
                 peer,

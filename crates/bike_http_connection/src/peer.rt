@@ -4,7 +4,7 @@ ghost use Rattle.std.specs.Prelude.{◌≡◌, ◌+◌, ◌*◌, min};
 ghost use Rattle.std.specs.Duration.{as_nanos, max_nanos};
 ghost use Rattle.bike_http_connection.specs.Connected.{peer_as, answered};
 
-use crate::answer::Answer;
+use crate::answer::ResponseBuffer;
 use crate::connection::Connection;
 use crate::limits::PATIENCE;
 use crate::socket::{Socket, Wants};
@@ -14,7 +14,7 @@ use std::time::Duration;
 
 /// What the system tells of a socket, by which key.
 #[derive(Clone, Copy, PartialEq, Eq)]
-enum Watched {
+enum Interest {
     Nothing,
     Reads(usize),
     Writes(usize),
@@ -26,7 +26,7 @@ pub struct Peer<S> {
     pub(crate) socket: S,
     pub(crate) moment: Moment,
     end: Duration,
-    watched: Watched,
+    watched: Interest,
 }
 
 impl<S: Socket> Peer<S> {
@@ -40,7 +40,7 @@ impl<S: Socket> Peer<S> {
             socket,
             moment,
             end: now.saturating_add(Duration::from_secs(PATIENCE)),
-            watched: Watched::Nothing,
+            watched: Interest::Nothing,
         }
     }
 
@@ -52,7 +52,7 @@ impl<S: Socket> Peer<S> {
     }
 
     /// The connection with its answer, which may have been made before all of the request was read (`is_early`).
-    pub fn into_answered(self, answer: Answer, is_early: bool) -> Connection<S>
+    pub fn into_answered(self, answer: ResponseBuffer, is_early: bool) -> Connection<S>
         ensures who { result.who ≡ answered (peer_as S.input S.taken self) answer }
         ensures end { result.end ≡ self.end }
     {
@@ -81,7 +81,7 @@ impl<S: Socket> Peer<S> {
         &mut self,
         registry: &S::Registry,
         key: usize,
-        wanted: Watched,
+        wanted: Interest,
         wants: Wants,
     ) -> io::Result<()>
         ensures kept { S.coming self.new.socket ≡ S.coming self.old.socket }
@@ -96,7 +96,7 @@ impl<S: Socket> Peer<S> {
         }
         self.watched = wanted;
         self.socket
-            .watch(registry, key, wants, before == Watched::Nothing)
+            .watch(registry, key, wants, before == Interest::Nothing)
     }
 
     /// Has the system tell when it can be read.
@@ -107,7 +107,7 @@ impl<S: Socket> Peer<S> {
         ensures own { S.input self.new.socket ≡ S.input self.old.socket }
         ensures taken { S.taken self.new.socket ≡ S.taken self.old.socket }
     {
-        self.watch(registry, key, Watched::Reads(key), Wants::Reads)
+        self.watch(registry, key, Interest::Reads(key), Wants::Reads)
     }
 
     /// Has the system tell when it can be written.
@@ -118,6 +118,6 @@ impl<S: Socket> Peer<S> {
         ensures own { S.input self.new.socket ≡ S.input self.old.socket }
         ensures taken { S.taken self.new.socket ≡ S.taken self.old.socket }
     {
-        self.watch(registry, key, Watched::Writes(key), Wants::Writes)
+        self.watch(registry, key, Interest::Writes(key), Wants::Writes)
     }
 }

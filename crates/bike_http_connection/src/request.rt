@@ -9,19 +9,19 @@ use std::io::{ErrorKind, Read};
 /// The bytes of a request that is there, and nothing of whose it is. A reader: it gives the bytes that were gathered,
 /// and then the end of the input where that came. A read of anything else fails.
 #[derive(Drop)]
-pub struct Request {
+pub struct RequestReader {
     bytes: Vec<u8>,
     /// How many of them were read.
     start: usize,
     is_ended: bool,
 }
 
-impl Request {
+impl RequestReader {
     /// Of these bytes none is read yet.
-    pub(crate) fn new(bytes: Vec<u8>, is_ended: bool) -> Request
+    pub(crate) fn new(bytes: Vec<u8>, is_ended: bool) -> RequestReader
         ensures { result ≡ record { bytes = bytes; start = 0; is_ended = is_ended } }
     {
-        Request {
+        RequestReader {
             bytes,
             start: 0,
             is_ended,
@@ -44,7 +44,7 @@ impl Request {
     }
 }
 
-impl Read for Request {
+impl Read for RequestReader {
     // The bytes that were gathered and aren't read yet.
     ghost remaining = { λ request. Some (unread request) };
 

@@ -1,5 +1,6 @@
 -- When connections end: the soonest of their deadlines, and those whose time is over.
-use Rattle.std.proofs.Common.{◌≡◌, ◌≢◌, ℕ, ◌+◌, ◌<◌, ◌≤◌, List, [], ◌∷◌, ◌++◌, map, length, min, Option, Some, None, Bool, true, false, if◌then◌else◌, slice_set, slice_index_or, Result, Ok, Err, IfOk, OnErr, IsPermutation, inl, inr, refl, sym, subst, ap, ◌∙◌, arith}
+use Rattle.std.proofs.Common.{◌≡◌, ◌≢◌, ℕ, ◌+◌, ◌<◌, ◌≤◌, List, [], ◌∷◌, ◌++◌, map, length, min, Option, Some, None, Bool, true, false, if◌then◌else◌, slice_set, slice_index_or, Result, Ok, Err, IfOk}
+use Rattle.std.proofs.Common.{OnErr, IsPermutation, inl, inr, refl, sym, subst, ap, ◌∙◌, arith}
 use Rattle.std.proofs.Math.Nat.{min-le_left, min-le_right, min-eq_left, min-eq_right, le_refl}
 use Rattle.std.proofs.lemmas.Bool.{cases_eq, cases_lt}
 use Rattle.std.proofs.lemmas.List.{map-append, length-map, get_or_past}

@@ -1,8 +1,10 @@
 -- What is there when connections end, and when one is put into a slab or taken out.
-use Rattle.std.proofs.Common.{◌≡◌, ℕ, zero, suc, List, [], ◌∷◌, ◌++◌, Option, Some, None, is_some, cond, count_by, length, slice_index_or, slice_set, IsPermutation, Result, Ok, Err, IfOk, OnErr, inl, inr, refl, sym, subst, ap, ◌∙◌, append_assoc, append-nil, arith, get_or-set_other}
+use Rattle.std.proofs.Common.{◌≡◌, ℕ, zero, suc, List, [], ◌∷◌, ◌++◌, Option, Some, None, is_some, cond, count_by, length, slice_index_or, slice_set, IsPermutation, Result, Ok, Err, IfOk, OnErr, inl}
+use Rattle.std.proofs.Common.{inr, refl, sym, subst, ap, ◌∙◌, append_assoc, append-nil, arith, get_or-set_other}
 use Rattle.std.proofs.lemmas.Bool.{cases_eq}
 use Rattle.std.proofs.lemmas.List.Sums.{sum_by-cons}
-use Rattle.std.proofs.lemmas.List.Sorted.{IsPermutation-refl, IsPermutation-sym, IsPermutation-trans, IsPermutation-cons, IsPermutation-append_left, IsPermutation-append_right, IsPermutation-append_comm, IsPermutation-middle}
+use Rattle.std.proofs.lemmas.List.Sorted.{IsPermutation-refl, IsPermutation-sym, IsPermutation-trans, IsPermutation-cons, IsPermutation-append_left, IsPermutation-append_right}
+use Rattle.std.proofs.lemmas.List.Sorted.{IsPermutation-append_comm, IsPermutation-middle}
 use Rattle.slab.specs.Slab.{Slab, get, slab_len, Updates}
 use Rattle.bike_http_connections.specs.Ahead.{Loses, open_in}
 

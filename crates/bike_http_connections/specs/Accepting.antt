@@ -1,7 +1,8 @@
 -- What accepting a connection gives.
-use Rattle.std.specs.Prelude.{◌≡◌, ℕ, ◌≤◌, List, [], ◌∷◌, ◌++◌, take, ⊤, Option, Some, None, IfSome, Result, Ok, Err, IfOk}
-use Rattle.bike_http_connections.specs.declared.network.Accepted.{Accepted}
-use Rattle.bike_http_connections.specs.declared.network.Accepted.TheVariants.{One, Lost, Nobody, Failed}
+use Rattle.std.specs.Prelude.{◌≡◌, ℕ, ◌≤◌, List, [], ◌∷◌, ◌++◌, take, ⊤, Option, Some, None, IfSome, Result, Ok, Err}
+use Rattle.std.specs.Prelude.{IfOk}
+use Rattle.bike_http_connections.specs.declared.network.AcceptOutcome.{AcceptOutcome}
+use Rattle.bike_http_connections.specs.declared.network.AcceptOutcome.TheVariants.{One, Lost, Nobody, Failed}
 use Rattle.bike_http_connection.specs.Asking.{Coming}
 use Rattle.bike_http_connections.specs.Ahead.{Loses}
 
@@ -11,13 +12,13 @@ IsWithin {S} {E} room told = IfOk told (λ accepted. IfSome accepted (λ one. on
 
 module _ {S : Type 0} (coming : S → List ℕ) where
   -- one of those ahead is accepted, or none; some of the others may be lost
-  abbrev pub Picks : List Coming → List Coming → Accepted S → Type 0
+  abbrev pub Picks : List Coming → List Coming → AcceptOutcome S → Type 0
   Picks old new (One socket moment) = Loses old (record { moment = moment; input = coming socket } ∷ new)
   Picks old new Lost = Loses old new
   Picks old new Nobody = Loses old new
   Picks old new Failed = Loses old new
 
-  abbrev pub Accepts : {E : Type 0} → List Coming → List Coming → Result (Accepted S) E → Type 0
+  abbrev pub Accepts : {E : Type 0} → List Coming → List Coming → Result (AcceptOutcome S) E → Type 0
   Accepts {E} old new (Ok accepted) = Picks old new accepted
   Accepts {E} old new (Err error) = Loses old new
 
@@ -37,13 +38,13 @@ module _ {S : Type 0} (coming : S → List ℕ) where
     IsFresh came socket = (input socket ≡ came ++ coming socket) × (taken socket ≡ [])
 
     -- so is who is accepted
-    abbrev pub IsFreshOne : Accepted S → Type 0
+    abbrev pub IsFreshOne : AcceptOutcome S → Type 0
     IsFreshOne (One socket moment) = IsFresh [] socket
     IsFreshOne Lost = ⊤
     IsFreshOne Nobody = ⊤
     IsFreshOne Failed = ⊤
 
-    abbrev pub AreFresh : {E : Type 0} → Result (Accepted S) E → Type 0
+    abbrev pub AreFresh : {E : Type 0} → Result (AcceptOutcome S) E → Type 0
     AreFresh {E} told = IfOk told IsFreshOne
 
     abbrev pub AreFreshAlone : {E : Type 0} → List ℕ → Result (Option (S × ℕ × ℕ)) E → Type 0

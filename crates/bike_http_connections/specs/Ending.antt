@@ -17,7 +17,8 @@ NoneSooner soonest slab = (key : ℕ) (one : Opened) → get slab key ≡ Some o
 -- .. which, if there is one, is that of one of them
 abbrev pub IsOfOne : Option ℕ → Slab Opened → Type 0
 IsOfOne soonest slab =
-    (moment : ℕ) → soonest ≡ Some moment → (key : ℕ) × (one : Opened) × (get slab key ≡ Some one) × (moment ≡ as_nanos one.end)
+    (moment : ℕ) → soonest ≡ Some moment → (key : ℕ) × (one : Opened) × (get slab key ≡ Some one)
+    × (moment ≡ as_nanos one.end)
 
 -- itself, unless its time is over
 abbrev pub unless_late : ℕ → Option Opened → Option Opened

@@ -7,12 +7,12 @@ ghost use Rattle.bike_http_connections.specs.Handed.{Gives, Hands, HandsOver, Ar
 ghost use Rattle.bike_http_connections.specs.Turns.{nanos, sooner_of};
 
 use crate::limits::TURN;
-use crate::network::{Accepted, Network};
+use crate::network::{AcceptOutcome, Network};
 use crate::open::Open;
 use crate::times::{Pause, sooner};
 use crate::turns::Turn;
 use bike_fixed::Moment;
-use bike_http_connection::{Answer, Connection, Exchange, PIECE, Peer};
+use bike_http_connection::{Connection, Exchange, PIECE, Peer, ResponseBuffer};
 use std::alloc::Global;
 use std::io;
 use std::io::ErrorKind;
@@ -95,13 +95,13 @@ impl<N: Network> Connections<N> {
         ensures { IsTrue N.Socket.is_known → Loses self.old self.new }
     {
         match self.network.accept()? {
-            Accepted::One(socket, moment) => {
+            AcceptOutcome::One(socket, moment) => {
                 self.take_in(socket, moment, &[]);
                 Ok(true)
             }
-            Accepted::Lost => Ok(true),
-            Accepted::Nobody => Ok(false),
-            Accepted::Failed => {
+            AcceptOutcome::Lost => Ok(true),
+            AcceptOutcome::Nobody => Ok(false),
+            AcceptOutcome::Failed => {
                 self.put_off_accepting();
                 Ok(false)
             }
@@ -247,7 +247,7 @@ impl<N: Network> Connections<N> {
     }
 
     /// The next of those that ask for no feed, in this turn.
-    fn next_short(&mut self) -> Option<(Exchange<N::Socket>, Answer)>
+    fn next_short(&mut self) -> Option<(Exchange<N::Socket>, ResponseBuffer)>
         ensures { Gives N.Socket.is_known N.Socket.input N.Socket.coming N.Socket.taken
             self.old self.new result }
     {
@@ -258,7 +258,7 @@ impl<N: Network> Connections<N> {
     }
 
     /// The next of those that may ask for a feed, of which each turn has one.
-    fn next_long(&mut self) -> Option<(Exchange<N::Socket>, Answer)>
+    fn next_long(&mut self) -> Option<(Exchange<N::Socket>, ResponseBuffer)>
         ensures { Gives N.Socket.is_known N.Socket.input N.Socket.coming N.Socket.taken
             self.old self.new result }
     {
@@ -269,7 +269,7 @@ impl<N: Network> Connections<N> {
     }
 
     /// The next of those whose request is there in this turn.
-    fn next_in_turn(&mut self) -> Option<(Exchange<N::Socket>, Answer)>
+    fn next_in_turn(&mut self) -> Option<(Exchange<N::Socket>, ResponseBuffer)>
         ensures { Gives N.Socket.is_known N.Socket.input N.Socket.coming N.Socket.taken
             self.old self.new result }
     {
@@ -284,7 +284,7 @@ impl<N: Network> Connections<N> {
     /// behind the others. With it comes what takes its answer. None once all are over that were to be accepted. An
     /// error is a network that fails. What others took meanwhile is the next of their answers, and what they are still
     /// to take is the rest of them.
-    pub fn next(&mut self) -> io::Result<Option<(Exchange<N::Socket>, Answer)>>
+    pub fn next(&mut self) -> io::Result<Option<(Exchange<N::Socket>, ResponseBuffer)>>
         ensures hands { IsTrue N.Socket.is_known
             → Hands N.Socket.coming (ahead_of self.old) (ahead_of self.new) result }
         ensures clients { IsTrue N.Socket.is_known
@@ -308,7 +308,7 @@ impl<N: Network> Connections<N> {
 
     /// Takes a connection back with its answer, which goes out to its own client as that takes it, once. It may have
     /// been made before all of the request was read (`is_early`): then what comes still is read for a moment.
-    pub fn finish(&mut self, peer: Peer<N::Socket>, answer: Answer, is_early: bool)
+    pub fn finish(&mut self, peer: Peer<N::Socket>, answer: ResponseBuffer, is_early: bool)
         ensures ahead { IsTrue N.Socket.is_known → Loses (ahead_of self.old) (ahead_of self.new) }
         ensures clients { IsTrue N.Socket.is_known
             → Loses (answered (peer_as N.Socket.input N.Socket.taken peer) answer ∷ self.old) self.new }

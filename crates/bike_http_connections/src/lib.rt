@@ -16,4 +16,4 @@ mod turns;
 
 pub use connections::Connections;
 pub use limits::{ACCEPTS_AGAIN, MOST_OPEN, TURN};
-pub use network::{Accepted, Network};
+pub use network::{AcceptOutcome, Network};

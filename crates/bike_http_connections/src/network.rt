@@ -11,7 +11,7 @@ use std::time::Duration;
 
 /// What accepting gave.
 #[derive(Drop)]
-pub enum Accepted<S> {
+pub enum AcceptOutcome<S> {
     /// A connection, and the moment at which it was accepted.
     One(S, Moment),
     /// None that stayed, and there may be more.
@@ -43,7 +43,7 @@ pub trait Network: Drop {
     fn may_accept(&self) -> bool;
 
     /// Accepts one without waiting. An error is a network that accepts nobody any more.
-    fn accept(&mut self) -> io::Result<Accepted<Self::Socket>>
+    fn accept(&mut self) -> io::Result<AcceptOutcome<Self::Socket>>
         ensures accepts { IsTrue Self.Socket.is_known
             → Accepts Self.Socket.coming (ahead self.old) (ahead self.new) result }
         ensures fresh { IsTrue Self.Socket.is_known

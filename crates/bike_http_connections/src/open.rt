@@ -11,7 +11,7 @@ use crate::limits::MOST_OPEN;
 use crate::room::Room;
 use crate::times::Deadlines;
 use crate::turns::Queues;
-use bike_http_connection::{Answer, BLOCK, Connection, Exchange, Socket, Step};
+use bike_http_connection::{BLOCK, Connection, Exchange, ResponseBuffer, Socket, Step};
 use slab::Slab;
 use std::alloc::{AllocError, Global};
 use std::marker::Model;
@@ -239,7 +239,7 @@ impl<S: Socket> Open<S> {
         key: usize,
         is_feed: bool,
         blocks: usize,
-    ) -> Option<(Exchange<S>, Answer)>
+    ) -> Option<(Exchange<S>, ResponseBuffer)>
         ensures { Gives S.is_known S.input S.coming S.taken self.old self.new result }
     {
         let connection = self.remove(key)?;
@@ -248,7 +248,7 @@ impl<S: Socket> Open<S> {
             return None;
         }
         match connection.into_exchange() {
-            Ok(exchange) => match Answer::new(self.alloc, blocks.saturating_mul(BLOCK)) {
+            Ok(exchange) => match ResponseBuffer::new(self.alloc, blocks.saturating_mul(BLOCK)) {
                 Ok(answer) => Some((exchange, answer)),
                 Err(AllocError) => None,
             },
@@ -261,7 +261,7 @@ impl<S: Socket> Open<S> {
 
     /// The next of those that may ask for a feed, or of the others. A feed is handed out where there is room for the
     /// longest.
-    pub(crate) fn next(&mut self, is_feed: bool) -> Option<(Exchange<S>, Answer)>
+    pub(crate) fn next(&mut self, is_feed: bool) -> Option<(Exchange<S>, ResponseBuffer)>
         ensures { Gives S.is_known S.input S.coming S.taken self.old self.new result }
     {
         if is_feed && !self.room.fits_feed() {

@@ -1,5 +1,6 @@
 -- A path that takes a route is as the route's pattern says.
-use Rattle.std.proofs.Common.{◌≡◌, ℕ, zero, suc, ◌-◌, ◌<◌, List, [], ◌∷◌, ◌++◌, Bool, true, false, ◌==◌, ltb, ◌&&◌, Option, Some, None, All, length, take, drop, get_or, refl, sym, ap, ◌∙◌, subst, ◌⊎◌, inl, inr, nat_eq, arith, take-append-drop}
+use Rattle.std.proofs.Common.{◌≡◌, ℕ, zero, suc, ◌-◌, ◌<◌, List, [], ◌∷◌, ◌++◌, Bool, true, false, ◌==◌, ltb, ◌&&◌, Option, Some, None, All, length, take, drop, get_or, refl, sym, ap, ◌∙◌, subst, ◌⊎◌}
+use Rattle.std.proofs.Common.{inl, inr, nat_eq, arith, take-append-drop}
 use Rattle.std.proofs.lemmas.Bool.Decides.{nat_tests}
 use Rattle.std.proofs.lemmas.List.{take_all}
 use Rattle.std.proofs.lemmas.List.Elements.{All-nil, All-cons}
@@ -128,7 +129,8 @@ module _ {K : Type 0} where
             plain = front_no_slash (b ∷ path) (length (segment (b ∷ path)) - length suffix) (omega arith);
           })
       by false true e f = absurd (rw (e, f) at h)
-      by false false e f = rw (e, f) (record { there = rw (e, f) at h; some = omega arith; plain = subst HasNoSlash (sym (take_all (length (b ∷ path)) (b ∷ path) (omega arith))) (all_no_slash (b ∷ path) f) })
+      by false false e f =
+          rw (e, f) (record { there = rw (e, f) at h; some = omega arith; plain = subst HasNoSlash (sym (take_all (length (b ∷ path)) (b ∷ path) (omega arith))) (all_no_slash (b ∷ path) f) })
 
   or_else_some : (a b c : Option K) (k : K) → or_else a (or_else b c) ≡ Some k → (a ≡ Some k) ⊎ (b ≡ Some k) ⊎ (c ≡ Some k)
   or_else_some (Some x) b c k e = inl e

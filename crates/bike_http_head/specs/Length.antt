@@ -1,5 +1,6 @@
 -- How long the fields of a head say that the body is (RFC 9112, section 6). A field is its name and its value.
-use Rattle.std.specs.Prelude.{ℕ, List, [], ◌∷◌, length, Bool, ◌&&◌, nat_lt, nat_le, if◌then◌else◌, Option, Some, None, codes}
+use Rattle.std.specs.Prelude.{ℕ, List, [], ◌∷◌, length, Bool, ◌&&◌, nat_lt, nat_le, if◌then◌else◌, Option, Some, None}
+use Rattle.std.specs.Prelude.{codes}
 use Rattle.std.specs.Char.{is_ascii_digit}
 use Rattle.std.specs.List.{list_all, list_any, filter}
 use Rattle.std.specs.Str.{str_eq_ignore_ascii_case}
@@ -40,4 +41,5 @@ told_after (Some size) f = if is_content_length f then Some Malformed else Some 
 
 -- the length that all fields tell
 unfoldable pub body_length : List Field → BodyLength
-body_length fields = if list_any is_transfer_encoding fields then Malformed else sizes_tell (filter is_content_length fields)
+body_length fields =
+    if list_any is_transfer_encoding fields then Malformed else sizes_tell (filter is_content_length fields)

@@ -17,5 +17,5 @@ pub use head::{HEAD_LENGTH, Head, HeadReading, MOST_FIELDS, read_head};
 pub use length::{BODY_LENGTH, BodyLength};
 pub use path::{may_ask_feed, path_of};
 pub use rejection::{Allow, Rejection};
-pub use routes::{Found, Route, Routes, route_laws};
+pub use routes::{Route, RouteMatch, Routes, route_laws};
 pub use row_key::RowKey;

@@ -87,7 +87,7 @@ pub struct Routes {
 
 /// The route that a path takes.
 #[derive(Clone, Copy)]
-pub struct Found<'p> {
+pub struct RouteMatch<'p> {
     /// The route.
     pub route: Route,
     /// What stands in the place of its parameter; empty where it has none.
@@ -118,7 +118,7 @@ impl Routes {
     }
 
     /// The route that the path takes, as it stands: nothing in it is decoded.
-    pub fn find<'p>(&self, path: &'p str) -> Option<Found<'p>>
+    pub fn find<'p>(&self, path: &'p str) -> Option<RouteMatch<'p>>
         ensures { option_map (λ found. (found.route, found.part.now)) result ≡ found_at path.now }
     {
         let Ok(found) = self.router.at(path) else {
@@ -128,7 +128,7 @@ impl Routes {
             Some((_, part)) => part,
             None => "",
         };
-        Some(Found {
+        Some(RouteMatch {
             route: *found.value,
             part,
         })

@@ -21,7 +21,8 @@ use Rattle.bike_requests.proofs.CommandLaws.{command_sound}
 use Rattle.bike_http_head.specs.declared.routes.Route.{Route}
 use Rattle.bike_http_head.specs.declared.routes.Route.TheVariants as route
 use Rattle.bike_http_request.specs.Members.{text_in, number_in, key_in, ident_in, choice_in, side_in}
-use Rattle.bike_http_request.specs.Bodies.{bike_in, dock_in, order_in, rider_in, start_of, end_of, mark_dock_of, mark_bike_of, load_of, unload_of, office_command, dock_command, crew_command, command_by, caller_at}
+use Rattle.bike_http_request.specs.Bodies.{bike_in, dock_in, order_in, rider_in, start_of, end_of, mark_dock_of, mark_bike_of, load_of, unload_of, office_command, dock_command, crew_command}
+use Rattle.bike_http_request.specs.Bodies.{command_by, caller_at}
 
 -- ---- what reading gives
 

@@ -1,5 +1,6 @@
 -- What an input asks for.
-use Rattle.std.specs.Prelude.{◌≡◌, ◌⊎◌, ℕ, Bool, true, List, length, take, map, codes, nat_le, is_some, if◌then◌else◌, Option, Some, None, IsSome, option_map}
+use Rattle.std.specs.Prelude.{◌≡◌, ◌⊎◌, ℕ, Bool, true, List, length, take, map, codes, nat_le, is_some, if◌then◌else◌}
+use Rattle.std.specs.Prelude.{Option, Some, None, IsSome, option_map}
 use Rattle.std.specs.Str.{is_utf8, bytes_eq}
 use Rattle.httparse.specs.Grammar.{RequestHead}
 use Rattle.httparse.specs.Spans.{name_and_value}
@@ -15,7 +16,8 @@ use Rattle.bike_commands.specs.declared.command.Command.{Command}
 use Rattle.bike_commands.specs.declared.request.Request.{Request}
 use Rattle.bike_http_head.specs.declared.rejection.Allow.{Allow}
 use Rattle.bike_http_head.specs.declared.rejection.Allow.TheVariants.{Get, Post}
-use Rattle.bike_http_head.specs.declared.rejection.Rejection.TheVariants.{BadRequest, BadField, NotFound, MethodNotAllowed, TooLarge}
+use Rattle.bike_http_head.specs.declared.rejection.Rejection.TheVariants.{BadRequest, BadField, NotFound}
+use Rattle.bike_http_head.specs.declared.rejection.Rejection.TheVariants.{MethodNotAllowed, TooLarge}
 use Rattle.bike_http_head.specs.declared.length.BodyLength.{BodyLength}
 use Rattle.bike_http_head.specs.declared.length.BodyLength.TheVariants.{Malformed, TooLong, Of}
 use Rattle.bike_http_head.specs.declared.routes.Route.{Route}
@@ -26,13 +28,15 @@ use Rattle.bike_http_head.specs.Head.{HasHead, HasNoHead}
 use Rattle.bike_http_head.specs.Length.{body_length}
 use Rattle.bike_http_head.specs.Table.{path_of, found_at}
 use Rattle.bike_http_request.specs.Members.{key_in}
-use Rattle.bike_http_request.specs.Bodies.{rider_in, station_in, truck_in, start_of, end_of, mark_dock_of, mark_bike_of, load_of, unload_of, office_command}
+use Rattle.bike_http_request.specs.Bodies.{rider_in, station_in, truck_in, start_of, end_of, mark_dock_of, mark_bike_of}
+use Rattle.bike_http_request.specs.Bodies.{load_of, unload_of, office_command}
 use Rattle.bike_http_request.specs.declared.action.Action.{Action}
 use Rattle.bike_http_request.specs.declared.action.Action.TheVariants.{Reject, Apply, Show, Publish}
 
 -- the object that the bytes are, read as a text of JSON
 unfoldable pub object_of : List ℕ → Option Data
-object_of bytes = if is_utf8 bytes then (read bytes >>= λ value. if is_some (as_object value) then Some value else None) else None
+object_of bytes =
+    if is_utf8 bytes then (read bytes >>= λ value. if is_some (as_object value) then Some value else None) else None
 
 abbrev pub is_method : List ℕ → Allow → Bool
 is_method method Get = bytes_eq method (codes "GET")
@@ -141,10 +145,12 @@ IsToAct method target = ActsFound (found_at (path_of target)) method
 abbrev pub asked_behind : BodyLength → RequestHead → List ℕ → Action
 asked_behind Malformed head rest = Reject BadRequest
 asked_behind TooLong head rest = Reject TooLarge
-asked_behind (Of n) head rest = if nat_le n (length rest) then asked_for head.method head.target (take n rest) else Reject BadRequest
+asked_behind (Of n) head rest =
+    if nat_le n (length rest) then asked_for head.method head.target (take n rest) else Reject BadRequest
 
 -- what an input asks for: without a head within the bounds it is a bad request
 abbrev pub Asks : List ℕ → Action → Type 0
 Asks input asked =
-    ((head : RequestHead) × (rest : List ℕ) × HasHead input head rest × (asked ≡ asked_behind (body_length (map name_and_value head.fields)) head rest))
+    ((head : RequestHead) × (rest : List ℕ) × HasHead input head rest
+    × (asked ≡ asked_behind (body_length (map name_and_value head.fields)) head rest))
     ⊎ (HasNoHead input × (asked ≡ Reject BadRequest))

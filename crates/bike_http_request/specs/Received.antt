@@ -56,8 +56,8 @@ abbrev pub Received : List ℕ → Option Action → Type 0
 Received input None = input ≡ []
 Received input (Some asked) = (0 < length input) × Asks input asked
 
--- memory is asked for only to act: the head was read, its path takes a route of POST that names what it is to, POST is its
--- method, and the body is whole
+-- memory is asked for only to act: the head was read, its path takes a route of POST that names what it is to, POST is
+-- its method, and the body is whole
 pub record WantsMemory (input : List ℕ) : Type 0 where
   pub head : RequestHead
   pub rest : List ℕ

@@ -16,8 +16,8 @@ use Rattle.bike_operator.specs.declared.records.Place.{Place}
 use Rattle.bike_operator.specs.declared.records.Place.TheVariants as place
 use Rattle.bike_operator.specs.declared.records.Bike.{Bike}
 use Rattle.bike_operator.specs.declared.records.Order.{Order}
-use Rattle.bike_summaries.specs.declared.rental.ClosingInfo.{ClosingInfo}
-use Rattle.bike_summaries.specs.declared.rental.RentalInfo.{RentalInfo}
+use Rattle.bike_operator.specs.declared.rental_info.ClosingInfo.{ClosingInfo}
+use Rattle.bike_operator.specs.declared.rental_info.RentalInfo.{RentalInfo}
 use Rattle.bike_http_head.specs.declared.rejection.Rejection.{Rejection}
 use Rattle.bike_http_head.specs.declared.rejection.Rejection.TheVariants as rejection
 use Rattle.bike_http_response.specs.declared.answer.Answer.{Answer}
@@ -85,7 +85,8 @@ open_rental (Some n) = n
 abbrev pub rider_tree : RiderRow → Tree
 rider_tree r =
     object (member (codes "rider") (whole (pos r.rider)) (member (codes "state") (text (rider_state r.blocked))
-    (member (codes "balance_cents") (whole r.balance) (member (codes "rental") (whole (pos (open_rental r.rental))) no_members))))
+    (member (codes "balance_cents") (whole r.balance)
+    (member (codes "rental") (whole (pos (open_rental r.rental))) no_members))))
 
 abbrev pub state_name : BikeState → List ℕ
 state_name Fit = codes "fit"
@@ -94,11 +95,13 @@ state_name Retired = codes "retired"
 
 abbrev pub place_members : Place → Members
 place_members (place.Dock station dock) =
-    member (codes "place") (text (codes "dock")) (member (codes "station") (text station) (member (codes "dock") (whole (pos dock)) no_members))
+    member (codes "place") (text (codes "dock"))
+    (member (codes "station") (text station) (member (codes "dock") (whole (pos dock)) no_members))
 place_members (place.Rental rental) =
     member (codes "place") (text (codes "rental")) (member (codes "rental") (whole (pos rental)) no_members)
 place_members (place.Truck truck order) =
-    member (codes "place") (text (codes "truck")) (member (codes "truck") (whole (pos truck)) (member (codes "order") (whole (pos order)) no_members))
+    member (codes "place") (text (codes "truck"))
+    (member (codes "truck") (whole (pos truck)) (member (codes "order") (whole (pos order)) no_members))
 place_members place.Depot = member (codes "place") (text (codes "depot")) no_members
 
 abbrev pub bike_tree : ℕ → Bike → Tree
@@ -126,8 +129,10 @@ closing_members (Some c) = closed_members (ended_at c.to_station) (moment_text c
 
 abbrev pub rental_object : ℕ → RentalInfo → List ℕ → Members → Tree
 rental_object number r start closing =
-    object (member (codes "rental") (whole (pos number)) (member (codes "rider") (whole (pos r.rider)) (member (codes "bike") (whole (pos r.bike))
-    (member (codes "plan") (text r.plan) (member (codes "from") (text r.from_station) (member (codes "start") (text start) closing))))))
+    object (member (codes "rental") (whole (pos number))
+    (member (codes "rider") (whole (pos r.rider)) (member (codes "bike") (whole (pos r.bike))
+    (member (codes "plan") (text r.plan) (member (codes "from") (text r.from_station)
+    (member (codes "start") (text start) closing))))))
 
 abbrev pub rental_tree : ℕ → RentalInfo → Tree
 rental_tree number r = rental_object number r (moment_text r.start) (closing_members r.closing)
@@ -139,8 +144,10 @@ end_name (Station station) = station
 
 abbrev pub order_tree : ℕ → Order → Tree
 order_tree number o =
-    object (member (codes "order") (whole (pos number)) (member (codes "truck") (whole (pos o.truck)) (member (codes "from") (text (end_name o.from_end))
-    (member (codes "to") (text (end_name o.to_end)) (member (codes "type") (text o.type_id) (member (codes "count") (whole (pos o.count))
+    object (member (codes "order") (whole (pos number))
+    (member (codes "truck") (whole (pos o.truck)) (member (codes "from") (text (end_name o.from_end))
+    (member (codes "to") (text (end_name o.to_end))
+    (member (codes "type") (text o.type_id) (member (codes "count") (whole (pos o.count))
     (member (codes "delivered") (whole (pos o.delivered)) (member (codes "is_open") (flag o.is_open) no_members))))))))
 
 -- THE TABLE: the body of each answer

@@ -23,4 +23,5 @@ close_lines = crlf ++ codes "Connection: close" ++ crlf
 -- the status line, the fields and the empty line of an answer whose body has that length
 unfoldable pub head_text : Status → Option Allow → ℕ → List ℕ
 head_text status allow length =
-    codes "HTTP/1.1 " ++ decimal (code_of status) ++ codes " " ++ reason_of status ++ type_lines ++ decimal length ++ close_lines ++ allow_line allow ++ crlf
+    codes "HTTP/1.1 " ++ decimal (code_of status) ++ codes " " ++ reason_of status ++ type_lines ++ decimal length
+    ++ close_lines ++ allow_line allow ++ crlf

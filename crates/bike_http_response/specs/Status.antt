@@ -6,7 +6,8 @@ use Rattle.bike_commands.specs.declared.reply.Reply.{Reply}
 use Rattle.bike_commands.specs.declared.reply.Reply.TheVariants.{Refused}
 use Rattle.bike_http_head.specs.declared.rejection.Allow.{Allow}
 use Rattle.bike_http_head.specs.declared.rejection.Rejection.{Rejection}
-use Rattle.bike_http_head.specs.declared.rejection.Rejection.TheVariants.{BadRequest, BadField, NotFound, MethodNotAllowed, TooLarge}
+use Rattle.bike_http_head.specs.declared.rejection.Rejection.TheVariants.{BadRequest, BadField, NotFound}
+use Rattle.bike_http_head.specs.declared.rejection.Rejection.TheVariants.{MethodNotAllowed, TooLarge}
 use Rattle.bike_http_response.specs.declared.answer.Answer.{Answer}
 use Rattle.bike_http_response.specs.declared.answer.Answer.TheVariants as answer
 use Rattle.bike_http_response.specs.declared.status.Status.{Status}

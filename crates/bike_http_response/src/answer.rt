@@ -8,8 +8,7 @@ use bike_commands::{Refusal, Reply};
 use bike_fields::{BicycleNumber, OrderNumber, RentalNumber, RiderNumber};
 use bike_fixed::Cents;
 use bike_http_head::{Allow, Rejection};
-use bike_operator::{Bike, Order};
-use bike_summaries::RentalInfo;
+use bike_operator::{Bike, Order, RentalInfo};
 
 /// A rider, as it is shown.
 #[derive(Clone, Copy)]

@@ -14,8 +14,7 @@ use crate::members::{Scalar, signed, whole, write_object};
 use bike_fields::{BicycleNumber, Ident, OrderNumber, RentalNumber};
 use bike_fixed::Cents;
 use bike_json::{JsonState, MemberName, Output, member};
-use bike_operator::{Bike, BikeState, Order, Place};
-use bike_summaries::RentalInfo;
+use bike_operator::{Bike, BikeState, Order, Place, RentalInfo};
 use bike_texts::OrderEnd;
 
 fn rider_state(blocked: bool) -> &'static str

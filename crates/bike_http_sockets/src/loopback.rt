@@ -6,7 +6,7 @@ use crate::clock::clock_moment;
 use crate::listener::{Listener, is_gone};
 use bike_fixed::Moment;
 use bike_http_connection::{Socket, Wants};
-use bike_http_connections::{ACCEPTS_AGAIN, Accepted, Network, TURN};
+use bike_http_connections::{ACCEPTS_AGAIN, AcceptOutcome, Network, TURN};
 use mio::net::TcpStream;
 use mio::{Events, Interest, Poll, Registry, Token};
 use std::collections::VecDeque;
@@ -175,14 +175,14 @@ impl<'a> Network for Loopback<'a> {
         self.listener.may_accept()
     }
 
-    fn accept(&mut self) -> io::Result<Accepted<LoopbackSocket>> {
+    fn accept(&mut self) -> io::Result<AcceptOutcome<LoopbackSocket>> {
         self.listener.stop_waiting()?;
         match self.listener.accept() {
-            Ok(stream) => Ok(Accepted::One(LoopbackSocket { stream }, self.moment()?)),
-            Err(error) if error.kind() == ErrorKind::WouldBlock => Ok(Accepted::Nobody),
-            Err(error) if error.kind() == ErrorKind::ConnectionAborted => Ok(Accepted::Lost),
+            Ok(stream) => Ok(AcceptOutcome::One(LoopbackSocket { stream }, self.moment()?)),
+            Err(error) if error.kind() == ErrorKind::WouldBlock => Ok(AcceptOutcome::Nobody),
+            Err(error) if error.kind() == ErrorKind::ConnectionAborted => Ok(AcceptOutcome::Lost),
             Err(error) if is_gone(&error) => Err(error),
-            Err(_) => Ok(Accepted::Failed),
+            Err(_) => Ok(AcceptOutcome::Failed),
         }
     }
 

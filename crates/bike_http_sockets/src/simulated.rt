@@ -5,7 +5,7 @@ ghost use Rattle.std.specs.Prelude.{◌≡◌, ◌<◌, [], IfOk};
 
 use bike_fixed::Moment;
 use bike_http_connection::{Socket, Wants};
-use bike_http_connections::{ACCEPTS_AGAIN, Accepted, Network};
+use bike_http_connections::{ACCEPTS_AGAIN, AcceptOutcome, Network};
 use std::collections::VecDeque;
 use std::io;
 use std::io::ErrorKind;
@@ -197,16 +197,16 @@ impl<'a> Network for SimulatedNetwork<'a> {
         }
     }
 
-    fn accept(&mut self) -> io::Result<Accepted<SimulatedSocket<'a>>> {
+    fn accept(&mut self) -> io::Result<AcceptOutcome<SimulatedSocket<'a>>> {
         if self.fails() {
-            return Ok(Accepted::Failed);
+            return Ok(AcceptOutcome::Failed);
         }
         match self.clients.pop_front() {
             Some(client) => {
                 let moment = client.moment;
-                Ok(Accepted::One(SimulatedSocket::of(client), moment))
+                Ok(AcceptOutcome::One(SimulatedSocket::of(client), moment))
             }
-            None => Ok(Accepted::Nobody),
+            None => Ok(AcceptOutcome::Nobody),
         }
     }
 

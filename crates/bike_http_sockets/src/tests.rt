@@ -2,7 +2,7 @@
 
 use crate::simulated::{Client, PAUSE, SimulatedNetwork};
 use bike_fixed::Moment;
-use bike_http_connection::{Answer, Exchange, Request};
+use bike_http_connection::{Exchange, RequestReader, ResponseBuffer};
 use bike_http_connections::Connections;
 use std::alloc::Global;
 use std::collections::VecDeque;
@@ -120,7 +120,7 @@ fn steps_of_bytes(seed: u64, third: u8) -> Option<[Steps; 3]> {
 }
 
 /// Reads a request, and writes it back as its answer.
-fn answer(request: &mut Request, answer: &mut Answer) -> bool {
+fn answer(request: &mut RequestReader, answer: &mut ResponseBuffer) -> bool {
     let mut bytes = [0; 64];
     let mut length = 0;
     for _turn in 0..64 {

@@ -1,5 +1,6 @@
 -- What series of writes do together.
-use Rattle.std.proofs.Common.{◌≡◌, ℕ, zero, suc, ◌+◌, ◌<◌, List, [], ◌∷◌, ◌++◌, Bool, true, false, not, cond, Option, Result, Ok, Err, is_ok, OnOk, OnErr, length, take, refl, sym, ap, ◌∙◌, inl, inr, subst, arith, length-append}
+use Rattle.std.proofs.Common.{◌≡◌, ℕ, zero, suc, ◌+◌, ◌<◌, List, [], ◌∷◌, ◌++◌, Bool, true, false, not, cond, Option, Result, Ok, Err, is_ok, OnOk, OnErr, length, take, refl, sym, ap, ◌∙◌, inl, inr}
+use Rattle.std.proofs.Common.{subst, arith, length-append}
 use Rattle.std.specs.Io.KnownBytes.{Keeps, Appends}
 use Rattle.std.proofs.KnownBytes.{Appends-trans, Appends-kept, Keeps-trans}
 use Rattle.bike_stream.specs.Writing.{AppendsFront}
@@ -66,18 +67,21 @@ Wrote_settled {p} {q} {r} {a} {b} {x} {f} {n} {m} h e g k l is =
     let given : r.count ≡ cond q.failed p.count q.count = is ∙ (ap (λ t. cond t n m) e ∙ (ap (λ t. cond q.failed t m) l ∙ ap (λ t. cond q.failed p.count t) g)) in
     record { are = rw (k ∙ e) (settled p.failed q.failed p.count q.count r.count a b x h.are given); same = h.same }
 
-ok_bytes : {A E : Type 0} (failed : Bool) (m n : ℕ) (a b : OutputState) (x : List ℕ) (r : Result A E) → is_ok r ≡ not failed → Writes false failed m n a b x → OnOk r (Appends a.bytes b.bytes x × (n ≡ m + length x))
+ok_bytes : {A E : Type 0} (failed : Bool) (m n : ℕ) (a b : OutputState) (x : List ℕ) (r : Result A E) → is_ok r ≡ not failed → Writes false failed m n a b x
+    → OnOk r (Appends a.bytes b.bytes x × (n ≡ m + length x))
 ok_bytes failed m n a b x (Err e) h w = tt
 ok_bytes true m n a b x (Ok u) h w = absurd (cc h)
 ok_bytes false m n a b x (Ok u) h w = w
 
-err_bytes : {A E : Type 0} (failed : Bool) (m n : ℕ) (a b : OutputState) (x : List ℕ) (r : Result A E) → is_ok r ≡ not failed → Writes false failed m n a b x → OnErr r (AppendsFront a.bytes b.bytes x × MayFail a m x)
+err_bytes : {A E : Type 0} (failed : Bool) (m n : ℕ) (a b : OutputState) (x : List ℕ) (r : Result A E) → is_ok r ≡ not failed → Writes false failed m n a b x
+    → OnErr r (AppendsFront a.bytes b.bytes x × MayFail a m x)
 err_bytes failed m n a b x (Ok u) h w = tt
 err_bytes true m n a b x (Err e) h w = w
 err_bytes false m n a b x (Err e) h w = absurd (cc h)
 
 -- what the outcome says of a series before which nothing had failed: all was written, and counted
-pub Wrote_ok : {A E : Type 0} {p q : Place} {a b : OutputState} {x : List ℕ} (r : Result A E) → Wrote p q a b x → p.failed ≡ false → is_ok r ≡ not q.failed → OnOk r (Appends a.bytes b.bytes x × (q.count ≡ p.count + length x))
+pub Wrote_ok : {A E : Type 0} {p q : Place} {a b : OutputState} {x : List ℕ} (r : Result A E) → Wrote p q a b x → p.failed ≡ false → is_ok r ≡ not q.failed
+    → OnOk r (Appends a.bytes b.bytes x × (q.count ≡ p.count + length x))
 Wrote_ok {A} {E} {p} {q} {a} {b} {x} r w e h = ok_bytes q.failed p.count q.count a b x r h (rw e at w.are)
 
 -- or a front of it, and there is a cause

@@ -18,7 +18,8 @@ BeginsText bytes = (tree : Tree) × (rest : List ℕ) × (text_of tree ≡ bytes
 -- open one, and the open one) and the bytes of its parts
 pub data Calls : List Level → Level → List ℕ → Type 0 where
   none : Calls [] Start []
-  value : (round : List Level) (top : Level) (bytes : List ℕ) (tree : Tree) → IsTrue (takes_value top) → Calls round top bytes
+  value : (round : List Level) (top : Level) (bytes : List ℕ) (tree : Tree) → IsTrue (takes_value top)
+      → Calls round top bytes
       → Calls round (after_value top) (bytes ++ (comma (has_more top) ++ text_of tree))
   name : (round : List Level) (top : Level) (bytes text : List ℕ) → IsTrue (takes_name top) → Calls round top bytes
       → Calls round NamedObject (bytes ++ (comma (has_more top) ++ string_text text ++ 58 ∷ []))
@@ -26,7 +27,9 @@ pub data Calls : List Level → Level → List ℕ → Type 0 where
       → Calls (after_value top ∷ round) EmptyArray (bytes ++ (comma (has_more top) ++ 91 ∷ []))
   begin_object : (round : List Level) (top : Level) (bytes : List ℕ) → IsTrue (takes_value top) → Calls round top bytes
       → Calls (after_value top ∷ round) EmptyObject (bytes ++ (comma (has_more top) ++ 123 ∷ []))
-  end_array : (round : List Level) (outer top : Level) (bytes : List ℕ) → IsTrue (takes_array_end top) → Calls (outer ∷ round) top bytes
+  end_array : (round : List Level) (outer top : Level) (bytes : List ℕ) → IsTrue (takes_array_end top)
+      → Calls (outer ∷ round) top bytes
       → Calls round outer (bytes ++ 93 ∷ [])
-  end_object : (round : List Level) (outer top : Level) (bytes : List ℕ) → IsTrue (takes_name top) → Calls (outer ∷ round) top bytes
+  end_object : (round : List Level) (outer top : Level) (bytes : List ℕ) → IsTrue (takes_name top)
+      → Calls (outer ∷ round) top bytes
       → Calls round outer (bytes ++ 125 ∷ [])

@@ -1,11 +1,13 @@
 -- Where a writer of JSON stands, and what a series of calls writes.
-use Rattle.std.specs.Prelude.{◌≡◌, ◌<◌, ◌⊎◌, ℕ, zero, suc, ◌+◌, List, [], ◌∷◌, ◌++◌, length, Bool, true, false, IsTrue, get_or}
+use Rattle.std.specs.Prelude.{◌≡◌, ◌<◌, ◌⊎◌, ℕ, zero, suc, ◌+◌, List, [], ◌∷◌, ◌++◌, length, Bool, true, false, IsTrue}
+use Rattle.std.specs.Prelude.{get_or}
 use Rattle.std.specs.Io.KnownBytes.{Keeps, Appends}
 use Rattle.bike_stream.specs.Writing.{AppendsFront}
 use Rattle.bike_json.specs.Outputs.{OutputState, IsSameOutput}
 use Rattle.bike_json.specs.Tree.{comma}
 use Rattle.bike_json.specs.declared.level.Level.{Level}
-use Rattle.bike_json.specs.declared.level.Level.TheVariants.{Start, Done, EmptyArray, FilledArray, EmptyObject, FilledObject, NamedObject}
+use Rattle.bike_json.specs.declared.level.Level.TheVariants.{Start, Done, EmptyArray, FilledArray, EmptyObject}
+use Rattle.bike_json.specs.declared.level.Level.TheVariants.{FilledObject, NamedObject}
 
 -- the levels round the open one, the nearest first
 abbrev pub enclosing : List Level → ℕ → List Level
@@ -86,8 +88,8 @@ greatest_count = 18446744073709551615
 abbrev pub MayFail : OutputState → ℕ → List ℕ → Type 0
 MayFail output count bytes = IsTrue output.may_refuse ⊎ (greatest_count < count + length bytes)
 
--- what calls do to the failure, the count and the bytes that the output holds: after a failure nothing is
--- written; at one, for which there is a cause, a front of the bytes, and not all; without one all of them, which the count gains
+-- what calls do to the failure, the count and the bytes that the output holds: after a failure nothing is written; at
+-- one, for which there is a cause, a front of the bytes, and not all; without one all of them, which the count gains
 abbrev pub Writes : Bool → Bool → ℕ → ℕ → OutputState → OutputState → List ℕ → Type 0
 Writes true failed before after old new bytes = (failed ≡ true) × (after ≡ before) × Keeps old.bytes new.bytes
 Writes false true before after old new bytes = AppendsFront old.bytes new.bytes bytes × MayFail old before bytes

@@ -1,5 +1,6 @@
 -- How a JSON string is read (RFC 8259, section 7).
-use Rattle.std.specs.Prelude.{ℕ, ◌+◌, ◌-◌, ◌*◌, List, [], ◌∷◌, ◌++◌, Bool, ◌==◌, ◌&&◌, nat_lt, nat_le, if◌then◌else◌, Option, None, Some, option_map, option_and_then, encode_utf8}
+use Rattle.std.specs.Prelude.{ℕ, ◌+◌, ◌-◌, ◌*◌, List, [], ◌∷◌, ◌++◌, Bool, ◌==◌, ◌&&◌, nat_lt, nat_le, if◌then◌else◌}
+use Rattle.std.specs.Prelude.{Option, None, Some, option_map, option_and_then, encode_utf8}
 
 infixl 10 ◌>>=◌
 -- what comes next, where there is something
@@ -17,7 +18,8 @@ hex_value c =
 -- the number that four hexadecimal digits spell
 abbrev pub unit_value : ℕ → ℕ → ℕ → ℕ → Option ℕ
 unit_value a b c d =
-    hex_value a >>= λ w. hex_value b >>= λ x. hex_value c >>= λ y. hex_value d >>= λ z. Some (w * 4096 + x * 256 + y * 16 + z)
+    hex_value a >>= λ w. hex_value b >>= λ x. hex_value c >>= λ y. hex_value d >>= λ z. Some
+    (w * 4096 + x * 256 + y * 16 + z)
 
 -- the byte that a letter behind a backslash stands for
 abbrev pub letter_value : ℕ → Option ℕ

@@ -49,7 +49,8 @@ abbrev mutual
   -- the text of members, with whether others stand before them
   pub members_text : Bool → Members → List ℕ
   members_text more no_members = []
-  members_text more (member name value members) = comma more ++ (string_text name ++ 58 ∷ (text_of value ++ members_text true members))
+  members_text more (member name value members) =
+      comma more ++ (string_text name ++ 58 ∷ (text_of value ++ members_text true members))
 
   -- the text of items, with whether others stand before them
   pub items_text : Bool → Items → List ℕ

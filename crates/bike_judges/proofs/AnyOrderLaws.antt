@@ -16,21 +16,21 @@ use Rattle.sqlite.specs.Held.{Held, state}
 use Rattle.sqlite.specs.State.{HasCleanDisk, IsUnchanged, Survives}
 use Rattle.sqlite.proofs.Callers.{reads_as as shown_as, begins_as, given_begin}
 use Rattle.sqlite.proofs.StateLemmas.{survives_weaker}
-use Rattle.bike_rows.specs.Calls.{ReadsWhere}
-use Rattle.bike_rows.specs.Layout.{Layout, table_of}
-use Rattle.bike_rows.specs.Outcome.{IsLeft}
-use Rattle.bike_rows.specs.Queries.{table_query}
-use Rattle.bike_rows.specs.Stands.{rows_of, Stands}
-use Rattle.bike_rows.specs.View.{columns_of}
-use Rattle.bike_rows.proofs.AnswerLemmas.{out, answered}
-use Rattle.bike_rows.proofs.ChainLaws.{reads_as, reads_both}
-use Rattle.bike_rows.proofs.FrameLemmas.{rows_of_is}
-use Rattle.bike_rows.proofs.KeyOrderLemmas.{keyed_apart}
-use Rattle.bike_rows.proofs.ListLemmas.{map_map, map_same, filter_all}
-use Rattle.bike_rows.proofs.SelectLaws.{every_column}
-use Rattle.bike_rows.proofs.SortLemmas.{order_permutes}
-use Rattle.bike_rows.proofs.TextLemmas.{IsSelect, select_means}
-use Rattle.bike_rows.proofs.TreeLemmas.{by_key_total}
+use Rattle.bike_sql.specs.Calls.{ReadsWhere}
+use Rattle.bike_sql.specs.Layout.{Layout, table_of}
+use Rattle.bike_sql.specs.Outcome.{IsLeft}
+use Rattle.bike_sql.specs.Queries.{table_query}
+use Rattle.bike_sql.specs.Stands.{rows_of, Stands}
+use Rattle.bike_sql.specs.View.{columns_of}
+use Rattle.bike_sql.proofs.AnswerLemmas.{out, answered}
+use Rattle.bike_sql.proofs.ChainLaws.{reads_as, reads_both}
+use Rattle.bike_sql.proofs.FrameLemmas.{rows_of_is}
+use Rattle.bike_sql.proofs.KeyOrderLemmas.{keyed_apart}
+use Rattle.bike_sql.proofs.RowListLemmas.{map_map, map_same, filter_all}
+use Rattle.bike_sql.proofs.SelectLaws.{every_column}
+use Rattle.bike_sql.proofs.SortLemmas.{order_permutes}
+use Rattle.bike_sql.proofs.TextLemmas.{IsSelect, select_means}
+use Rattle.bike_sql.proofs.TreeLemmas.{by_key_total}
 use Rattle.bike_schema.specs.Tables.{IsOurs, tables_of}
 use Rattle.bike_judges.specs.AnyOrder.{HasAnyOrder, HasRead, TestsNext, HavePassed}
 
@@ -95,8 +95,10 @@ module _ (keys : ℕ) (layout : Layout) (db : Database) (was : Stands db keys la
 -- ---- row by row
 
 -- the next row is tested
-pub next_tested : {S E : Type 0} (g : Ghosts S) (test : Row → Bool) (old new : Held S) (result : Result (Option Bool) E) → (HasCleanDisk (state g new) → IfOk result (λ next. (all given : List Row) → HasRead g all old given → TestsNext g test all new given next))
-    → (HasCleanDisk (state g new) → OnOk result (IsUnchanged (state g old) (state g new))) → (HasCleanDisk (state g new) → OnErr result (IsLeft (state g old) (state g new))) → (old.in_transaction ≡ false → new.in_transaction ≡ false)
+pub next_tested : {S E : Type 0} (g : Ghosts S) (test : Row → Bool) (old new : Held S) (result : Result (Option Bool) E)
+    → (HasCleanDisk (state g new) → IfOk result (λ next. (all given : List Row) → HasRead g all old given → TestsNext g test all new given next))
+    → (HasCleanDisk (state g new) → OnOk result (IsUnchanged (state g old) (state g new))) → (HasCleanDisk (state g new) → OnErr result (IsLeft (state g old) (state g new)))
+    → (old.in_transaction ≡ false → new.in_transaction ≡ false)
     → Survives (state g old) (state g new) (λ _. ⊥) → ReadsWhere g IsOurs old new result (λ db next. (all given : List Row) → HasRead g all old given → TestsNext g test all new given next)
 next_tested g test old new result next same failed mode survives = record {
   found = λ clean ours. next clean;
@@ -107,7 +109,8 @@ next_tested g test old new result next same failed mode survives = record {
 
 module _ {S : Type 0} (g : Ghosts S) (all : List Row) where
   -- a row that was given
-  pub one_read : (old new : Held S) (row : Row) → Advances g old new (Some row) → IsUnchanged (state g old) (state g new) → (given : List Row) → HasRead g all old given → HasRead g all new (given ++ row ∷ [])
+  pub one_read : (old new : Held S) (row : Row) → Advances g old new (Some row) → IsUnchanged (state g old) (state g new) → (given : List Row) → HasRead g all old given
+      → HasRead g all new (given ++ row ∷ [])
   one_read old new row goes same given it = record { text = it.text; gave = goes it.text [] given it.gave; answer = subst (λ db. HasAnyOrder db it.text all) (sym same.0.now_is) it.answer }
 
   -- none was left
@@ -143,13 +146,20 @@ module _ {S : Type 0} (g : Ghosts S) (all : List Row) where
 
 -- ---- the rows of kept
 
-module _ {S E F : Type 0} (g : Ghosts S) (test : Row → Bool) (old mid new : Held S) (next : Option Bool) (so_far : ReadsWhere g IsOurs old mid {E = E} (Ok (tt {0})) (λ db _. HavePassed g test (tables_of db).kept mid))
+module _ {S E F : Type 0} (g : Ghosts S) (test : Row → Bool) (old mid new : Held S) (next : Option Bool)
+    (so_far : ReadsWhere g IsOurs old mid {E = E} (Ok (tt {0})) (λ db _. HavePassed g test (tables_of db).kept mid))
     (step : ReadsWhere g IsOurs mid new {E = F} (Ok next) (λ db o. (all given : List Row) → HasRead g all mid given → TestsNext g test all new given o)) where
   pub goes_on : {G : Type 0} → next ≡ Some true → ReadsWhere g IsOurs old new {E = G} (Ok (tt {0})) (λ db _. HavePassed g test (tables_of db).kept new)
-  goes_on is = reads_as (reads_both so_far step) (λ db both. let kept = (tables_of db).kept in one_more g kept test mid new both.0 (λ given it. subst (TestsNext g test kept new given) is (both.1 kept given it)))
+  goes_on is =
+      reads_as (reads_both so_far step) (λ db both. let kept = (tables_of db).kept in one_more g kept test mid new both.0
+      (λ given it. subst (TestsNext g test kept new given) is (both.1 kept given it)))
 
   pub is_failed : {G : Type 0} → next ≡ Some false → ReadsWhere g IsOurs old new {E = G} (Ok false) (λ db all. all ≡ list_all test (tables_of db).kept)
-  is_failed is = reads_as (reads_both so_far step) (λ db both. let kept = (tables_of db).kept in one_failed g kept test mid new both.0 (λ given it. subst (TestsNext g test kept new given) is (both.1 kept given it)))
+  is_failed is =
+      reads_as (reads_both so_far step) (λ db both. let kept = (tables_of db).kept in one_failed g kept test mid new both.0
+      (λ given it. subst (TestsNext g test kept new given) is (both.1 kept given it)))
 
   pub is_passed : {G : Type 0} → next ≡ None → ReadsWhere g IsOurs old new {E = G} (Ok true) (λ db all. all ≡ list_all test (tables_of db).kept)
-  is_passed is = reads_as (reads_both so_far step) (λ db both. let kept = (tables_of db).kept in all_passed g kept test mid new both.0 (λ given it. subst (TestsNext g test kept new given) is (both.1 kept given it)))
+  is_passed is =
+      reads_as (reads_both so_far step) (λ db both. let kept = (tables_of db).kept in all_passed g kept test mid new both.0
+      (λ given it. subst (TestsNext g test kept new given) is (both.1 kept given it)))

@@ -11,12 +11,12 @@ use Rattle.sqlite_value.specs.declared.value.Value.TheVariants.{Int}
 use Rattle.sqlite_value.specs.Order.{Row, column, value_cmp, row_cmp}
 use Rattle.sqlite_value.proofs.KeyLemmas.{then_tied}
 use Rattle.sqlite_rules.specs.Lists.{Has}
-use Rattle.bike_rows.specs.View.{by_key}
-use Rattle.bike_rows.proofs.LineLemmas.{apart_append, has_append}
-use Rattle.bike_rows.proofs.ListLemmas.{map_has}
-use Rattle.bike_rows.proofs.OrderLemmas.{Rises, all_has, all_from}
-use Rattle.bike_rows.proofs.SortLemmas.{AreApartAll}
-use Rattle.bike_rows.proofs.TreeLemmas.{by_key_total}
+use Rattle.bike_sql.specs.View.{by_key}
+use Rattle.bike_sql.proofs.LineLemmas.{apart_append, has_append}
+use Rattle.bike_sql.proofs.RowListLemmas.{map_has}
+use Rattle.bike_sql.proofs.OrderLemmas.{Rises, all_has, all_from}
+use Rattle.bike_sql.proofs.SortLemmas.{AreApartAll}
+use Rattle.bike_sql.proofs.TreeLemmas.{by_key_total}
 use Rattle.bike_book.proofs.Keys.{value_cmp-number_value}
 use Rattle.bike_book.specs.Tables.{TableName, Tables, rows_in, keys_of, Stations, Docks, Bikes, Trucks, Orders}
 use Rattle.bike_book.specs.declared.columns.stations.TheConstants as stations
@@ -42,7 +42,8 @@ first_columns (x ∷ y ∷ row) wide = refl
 -- ---- one table
 
 -- the lines of rows that rise, where two lines tie only if their rows do
-pub shown_apart : (show : Row → Row) (width keys : ℕ) (rows : List Row) → Rises (by_key_total keys) rows → ((r s : Row) → Has rows r → Has rows s → by_key width (show r) (show s) ≡ Equal → by_key keys r s ≡ Equal)
+pub shown_apart : (show : Row → Row) (width keys : ℕ) (rows : List Row) → Rises (by_key_total keys) rows
+    → ((r s : Row) → Has rows r → Has rows s → by_key width (show r) (show s) ≡ Equal → by_key keys r s ≡ Equal)
     → AreApartAll (by_key_total width) (map show rows)
 unfolding IsDistinct
 shown_apart show width keys [] up ties = tt
@@ -92,7 +93,8 @@ module _ (t : Tables) (up : AreInOrder t) (whole : AreWhole t) where
       wide row h = let it = whole name row h in omega (arith, it, one)
 
   -- the rows of a table with one key, by that
-  numbered : (name : TableName) → keys_of name ≡ 1 → (owner : Row → Value) (place spare : ℕ) → AreApartAll (by_key_total 3) (map (λ row. line (owner row) (pos place) (column row 0) spare row) (rows_in t name))
+  numbered : (name : TableName) → keys_of name ≡ 1 → (owner : Row → Value) (place spare : ℕ)
+      → AreApartAll (by_key_total 3) (map (λ row. line (owner row) (pos place) (column row 0) spare row) (rows_in t name))
   numbered name one owner place spare =
       shown_apart (λ row. line (owner row) (pos place) (column row 0) spare row) 3 1 (rows_in t name) (subst (λ (n : ℕ). Rises (by_key_total n) (rows_in t name)) one (up name))
       (λ r s h k tie. one_tied r s (wide r h) (wide s k) (own_keys _ _ _ _ _ _ tie))
@@ -134,7 +136,8 @@ module _ (t : Tables) (up : AreInOrder t) (whole : AreWhole t) where
   pub stations_apart : AreApartAll (by_key_total 3) ((map station_line t.stations ++ map station_dock_line t.docks) ++ map station_bike_line t.bikes)
   stations_apart =
       apart_append (by_key_total 3) (map station_line t.stations ++ map station_dock_line t.docks) (map station_bike_line t.bikes)
-      (apart_append (by_key_total 3) (map station_line t.stations) (map station_dock_line t.docks) (heads Stations refl 0) docks_apart (at_two (at 0) (at 0) zero_value (at 1) 0 1 0 (stations.COLUMNS - docks.COLUMNS) t.stations t.docks (omega arith)))
+      (apart_append (by_key_total 3) (map station_line t.stations) (map station_dock_line t.docks) (heads Stations refl 0) docks_apart
+      (at_two (at 0) (at 0) zero_value (at 1) 0 1 0 (stations.COLUMNS - docks.COLUMNS) t.stations t.docks (omega arith)))
       (numbered Bikes refl (at 3) 2 (stations.COLUMNS - bikes.COLUMNS))
       (λ x y h g. elim (has_append (map station_line t.stations) (map station_dock_line t.docks) x h) [
         | inl first ↦ at_two (at 0) (at 3) zero_value (at 0) 0 2 0 (stations.COLUMNS - bikes.COLUMNS) t.stations t.bikes (omega arith) x y first g

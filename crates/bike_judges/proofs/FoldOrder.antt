@@ -9,9 +9,9 @@ use Rattle.std.proofs.lemmas.Bool.{true≢false}
 use Rattle.sqlite_value.specs.Order.{Row}
 use Rattle.sqlite_rules.specs.Lists.{Has}
 use Rattle.sqlite_trees.specs.Tree.{IsAscending}
-use Rattle.bike_rows.specs.Keyed.{put_in, in_order}
-use Rattle.bike_rows.proofs.OrderLemmas.{all_has, order_has}
-use Rattle.bike_rows.proofs.SortLemmas.{AreApartAll}
+use Rattle.bike_sql.specs.Keyed.{put_in, in_order}
+use Rattle.bike_sql.proofs.OrderLemmas.{all_has, order_has}
+use Rattle.bike_sql.proofs.SortLemmas.{AreApartAll}
 use Rattle.bike_judges.specs.Passes.{first_failing}
 
 module _ {X A : Type 0} {R : X → X → Ordering} (o : IsTotalOrder R) (f : A → X → A) (swaps : (a : A) (x y : X) → f (f a x) y ≡ f (f a y) x) where

@@ -4,10 +4,10 @@ use Rattle.std.specs.List.{range_with_len}
 use Rattle.sqlite_value.specs.declared.value.Value.TheVariants.{Null}
 use Rattle.sqlite_sql.specs.Term.{Term, lit, col}
 use Rattle.sqlite_schema.specs.Names.{place_of}
-use Rattle.bike_rows.specs.Layout.{table_of}
-use Rattle.bike_rows.specs.Queries.{table_query, by_columns, join_tests, third_tests}
-use Rattle.bike_rows.proofs.SelectLaws.{every_column, places_of, union_columns, all_binary}
-use Rattle.bike_rows.proofs.TextLemmas.{IsSelect, IsLeftJoin, IsTwoJoins, IsUnionAll, IsUnionOfThree}
+use Rattle.bike_sql.specs.Layout.{table_of}
+use Rattle.bike_sql.specs.Queries.{table_query, by_columns, join_tests, third_tests}
+use Rattle.bike_sql.proofs.SelectLaws.{every_column, places_of, union_columns, all_binary}
+use Rattle.bike_sql.proofs.TextLemmas.{IsSelect, IsLeftJoin, IsTwoJoins, IsUnionAll, IsUnionOfThree}
 use Rattle.bike_book.specs.Tables.{TableName}
 use Rattle.bike_schema.specs.Layouts.{layout_of, InEach}
 use Rattle.bike_schema.proofs.KeyLemmas.{key_places}
@@ -37,7 +37,8 @@ IsJoinOf t other columns text = IsLeftJoin (second_on t other columns) (by_colum
 -- each with its partners in two other tables
 abbrev pub AreJoinsOf : TableName → TableName → List ℕ → TableName → List ℕ → List ℕ → Type 0
 AreJoinsOf t other columns third more text =
-    IsTwoJoins (second_on t other columns) (third_on t third more) (by_columns (key_places t)) (columns_in 1 t ++ columns_in 2 other ++ columns_in 3 third) (layout_of t) (layout_of other) (layout_of third) text
+    IsTwoJoins (second_on t other columns) (third_on t third more) (by_columns (key_places t)) (columns_in 1 t ++ columns_in 2 other ++ columns_in 3 third) (layout_of t) (layout_of other)
+    (layout_of third) text
 
 -- each with two partners in one other table
 abbrev pub AreSelfJoinsOf : TableName → TableName → List ℕ → List ℕ → List ℕ → Type 0

@@ -18,7 +18,8 @@ under other a b low not_below = go (row_cmp a b) refl where
       row_cmp_total.antisymm other b ∙ ap ordering_reverse back ∙ sym (row_cmp_total.antisymm other a) ∙ low
   go Greater e = absurd (let back : row_cmp b a ≡ Less = row_cmp_total.antisymm b a ∙ ap ordering_reverse e in let t : true ≡ false = sym (ap is_lt back) ∙ not_below in cc)
 
-pub least_verdict : (t : Tables) (name : TableName) (P Q : Row → Type 0) (a b : Option Row) → IsFirstFailing t name P a → IsFirstFailing t name Q b → IsFirstFailing t name (λ key. P key × Q key) (least_key a b)
+pub least_verdict : (t : Tables) (name : TableName) (P Q : Row → Type 0) (a b : Option Row) → IsFirstFailing t name P a → IsFirstFailing t name Q b
+    → IsFirstFailing t name (λ key. P key × Q key) (least_key a b)
 least_verdict t name P Q None None p q = λ key. (p key, q key)
 least_verdict t name P Q None (Some b) p q = record { bad = λ both. q.bad both.1; own = q.own; before = λ other low. (p other, q.before other low) }
 least_verdict t name P Q (Some a) None p q = record { bad = λ both. p.bad both.0; own = p.own; before = λ other low. (p.before other low, q other) }

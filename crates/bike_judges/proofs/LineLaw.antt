@@ -1,5 +1,6 @@
 -- The verdict of a pass over lines by themselves: the least key whose row fails the test.
-use Rattle.std.proofs.Common.{◌≡◌, inl, inr, ℕ, suc, List, [], ◌∷◌, ◌++◌, append_assoc, length, length-append, map, filter, Bool, true, false, cond, Option, Some, None, refl, sym, ap, subst, ◌∙◌, arith}
+use Rattle.std.proofs.Common.{◌≡◌, inl, inr, ℕ, suc, List, [], ◌∷◌, ◌++◌, append_assoc, length, length-append, map, filter, Bool, true, false, cond, Option, Some, None, refl, sym, ap, subst, ◌∙◌}
+use Rattle.std.proofs.Common.{arith}
 use Rattle.std.specs.Prelude.{take, IfSome}
 use Rattle.std.specs.Ordering.{is_lt, ordering_reverse}
 use Rattle.std.specs.declared.cmp.Ordering.TheVariants.{Less, Equal}
@@ -7,9 +8,9 @@ use Rattle.std.proofs.lemmas.Cmp.{tied_itself}
 use Rattle.sqlite_value.specs.Order.{Row, row_cmp}
 use Rattle.sqlite_value.proofs.OrderLemmas.{row_cmp_total}
 use Rattle.sqlite_rules.specs.Lists.{Has}
-use Rattle.bike_rows.specs.View.{by_key}
-use Rattle.bike_rows.proofs.OrderLemmas.{Rises, all_has}
-use Rattle.bike_rows.proofs.TreeLemmas.{by_key_total}
+use Rattle.bike_sql.specs.View.{by_key}
+use Rattle.bike_sql.proofs.OrderLemmas.{Rises, all_has}
+use Rattle.bike_sql.proofs.TreeLemmas.{by_key_total}
 use Rattle.bike_book.specs.Tables.{TableName, Tables, rows_in, keys_of}
 use Rattle.bike_readings.specs.Rules.{AreInOrder, row_under, rows_below}
 use Rattle.bike_readings.proofs.Places.{lesser, lesser_before, has_under, under_has}
@@ -89,7 +90,8 @@ module _ (t : Tables) (name : TableName) (up : AreInOrder t) (line : Row → Row
         → (first_failing test key (length (before ++ r ∷ [])) (map line rest) ≡ v → Came rest v) → Came (r ∷ rest) v
     go true it more later = one_more r rest v (ap (λ (n : ℕ). test n (line r)) at ∙ it) (later (ap (λ (n : ℕ). first_failing test key n (map line rest)) long ∙ more))
     go false it more later = subst (Came (r ∷ rest)) more
-        (first r rest (rest_rises keys before (r ∷ rest) (subst (Rises (by_key_total keys)) is (up name))) (subst (λ (xs : List Row). Has xs r) (sym is) (here before)) (ap (λ (n : ℕ). test n (line r)) at ∙ it))
+        (first r rest (rest_rises keys before (r ∷ rest) (subst (Rises (by_key_total keys)) is (up name))) (subst (λ (xs : List Row). Has xs r) (sym is) (here before))
+        (ap (λ (n : ℕ). test n (line r)) at ∙ it))
 
   -- what is demanded under a key, where its row passes
   under : (other : Row) → ((r : Row) → Has rows r → row_cmp (take keys r) other ≡ Equal → passes r ≡ true) → Demands t name (λ n row. test n (line row)) other

@@ -8,9 +8,9 @@ use Rattle.std.specs.declared.cmp.Ordering.TheVariants.{Less, Equal}
 use Rattle.std.specs.FinMap as fin
 use Rattle.std.specs.FinMap.Entries as entries
 use Rattle.sqlite_value.specs.Order.{Row, row_cmp}
-use Rattle.bike_rows.specs.View.{by_key, row_with}
-use Rattle.bike_rows.proofs.OrderLemmas.{Rises}
-use Rattle.bike_rows.proofs.TreeLemmas.{by_key_total}
+use Rattle.bike_sql.specs.View.{by_key, row_with}
+use Rattle.bike_sql.proofs.OrderLemmas.{Rises}
+use Rattle.bike_sql.proofs.TreeLemmas.{by_key_total}
 use Rattle.bike_operator.specs.Operator.{Station}
 use Rattle.bike_book.proofs.MapRows.{StoresKeys, has_find}
 use Rattle.bike_book.proofs.Keys.{text_key, numbers, texts}

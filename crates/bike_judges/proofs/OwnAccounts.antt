@@ -62,7 +62,8 @@ module _ {A : Type 0} (owner : A → Value) (add : A → Row → A) (keeps : (a 
   pub own_fold : (xs : List Row) (a : A) → fold (own owner add) a xs ≡ fold add a (lines_for (owner a) xs)
   own_fold [] a = refl
   own_fold (x ∷ xs) a = go (is_own a x) refl (own_fold xs) where
-    go : (b : Bool) → is_own a x ≡ b → ((d : A) → fold (own owner add) d xs ≡ fold add d (lines_for (owner d) xs)) → fold (own owner add) (own owner add a x) xs ≡ fold add a (cond (is_own a x) (x ∷ lines_for (owner a) xs) (lines_for (owner a) xs))
+    go : (b : Bool) → is_own a x ≡ b → ((d : A) → fold (own owner add) d xs ≡ fold add d (lines_for (owner d) xs))
+        → fold (own owner add) (own owner add a x) xs ≡ fold add a (cond (is_own a x) (x ∷ lines_for (owner a) xs) (lines_for (owner a) xs))
     go true is rest =
         ap (λ (d : A). fold (own owner add) d xs) (step a a x true refl is) ∙ rest (add a x)
         ∙ ap (λ (v : Value). fold add (add a x) (lines_for v xs)) (keeps a x)

@@ -7,13 +7,14 @@ use Rattle.sqlite_value.specs.declared.value.Value.{Value}
 use Rattle.sqlite_value.specs.Order.{Row}
 use Rattle.sqlite_rules.specs.Lists.{Has}
 use Rattle.sqlite.specs.Effect.{Database}
-use Rattle.bike_rows.specs.Layout.{table_of}
-use Rattle.bike_rows.specs.View.{columns_of}
-use Rattle.bike_rows.proofs.FrameLemmas.{rows_of_is}
-use Rattle.bike_rows.proofs.ListLemmas.{map_has}
-use Rattle.bike_rows.proofs.OrderLemmas.{order_has}
-use Rattle.bike_rows.proofs.TreeLemmas.{by_key_total}
-use Rattle.bike_book.specs.Tables.{TableName, Tables, rows_in, keys_of, Meta, System, Plans, Segments, Types, Regions, Stations, Docks, Bikes, Trucks, Riders, Rentals, Orders, Entries, Kept, Counts, MoreNames}
+use Rattle.bike_sql.specs.Layout.{table_of}
+use Rattle.bike_sql.specs.View.{columns_of}
+use Rattle.bike_sql.proofs.FrameLemmas.{rows_of_is}
+use Rattle.bike_sql.proofs.RowListLemmas.{map_has}
+use Rattle.bike_sql.proofs.OrderLemmas.{order_has}
+use Rattle.bike_sql.proofs.TreeLemmas.{by_key_total}
+use Rattle.bike_book.specs.Tables.{TableName, Tables, rows_in, keys_of, Meta, System, Plans, Segments, Types, Regions, Stations, Docks, Bikes, Trucks, Riders, Rentals, Orders, Entries, Kept, Counts}
+use Rattle.bike_book.specs.Tables.{MoreNames}
 use Rattle.bike_schema.specs.Layouts.{layout_of, layout_in}
 use Rattle.bike_schema.specs.Tables.{tables_of, HasTables}
 use Rattle.bike_schema.proofs.MakesLemmas.{rows_of_table}
@@ -85,7 +86,8 @@ module _ {A : Type 0} (begins : Row → Opening A) (more : A → Row → A) (goo
   pub stations_verdict : Accounts 0 → Items station_dock_line → Items station_bike_line → (verdict : Option Row) → run (lines_of query.Stations t) ≡ verdict
       → IsFirstFailing t Stations (Demands t Stations (λ n row. with_all (map station_dock_line t.docks ++ map station_bike_line t.bikes) n (begins (station_line row)))) verdict
   stations_verdict accounts docks bikes =
-      merged_of_three_verdict begins more good key owner t Stations up (one_key t whole Stations refl) 0 accounts station_dock_line t.docks station_bike_line t.bikes docks bikes (stations_apart t up whole)
+      merged_of_three_verdict begins more good key owner t Stations up (one_key t whole Stations refl) 0 accounts station_dock_line t.docks station_bike_line t.bikes docks bikes
+      (stations_apart t up whole)
 
   pub trucks_verdict : Accounts 6 → Items truck_bike_line → (verdict : Option Row) → run (lines_of query.Trucks t) ≡ verdict
       → IsFirstFailing t Trucks (Demands t Trucks (λ n row. with_all (map truck_bike_line t.bikes) n (begins (truck_line row)))) verdict

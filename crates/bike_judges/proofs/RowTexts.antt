@@ -1,9 +1,9 @@
 -- The queries that answer the rows of one table.
 use Rattle.std.proofs.Common.{ℕ, List, []}
 use Rattle.sqlite.specs.Effect.{Database}
-use Rattle.bike_rows.specs.Answer.{HasOneAnswer}
-use Rattle.bike_rows.specs.Stands.{rows_of}
-use Rattle.bike_rows.proofs.SelectLaws.{ordered_rows}
+use Rattle.bike_sql.specs.Answer.{HasOneAnswer}
+use Rattle.bike_sql.specs.Stands.{rows_of}
+use Rattle.bike_sql.proofs.SelectLaws.{ordered_rows}
 use Rattle.bike_book.specs.Tables.{TableName, keys_of}
 use Rattle.bike_schema.specs.Layouts.{name_of}
 use Rattle.bike_schema.specs.Tables.{HasTables}

@@ -8,11 +8,11 @@ use Rattle.sqlite.specs.Given.{Advances}
 use Rattle.sqlite.specs.Held.{Held, state}
 use Rattle.sqlite.specs.State.{HasCleanDisk, IsUnchanged, Survives}
 use Rattle.sqlite.proofs.Callers.{unchanged_then}
-use Rattle.bike_rows.specs.Calls.{IsQuiet, ReadsWhere}
-use Rattle.bike_rows.specs.Walk.{IsWalking, GoesOn}
+use Rattle.bike_sql.specs.Calls.{IsQuiet, ReadsWhere}
+use Rattle.bike_sql.specs.Walk.{IsWalking, GoesOn}
 use Rattle.sqlite.proofs.StateLemmas.{survives_weaker}
-use Rattle.bike_rows.proofs.ChainLaws.{quiet_step, reads_both, reads_failed, reads_refused}
-use Rattle.bike_rows.proofs.WalkLaw.{walk_goes}
+use Rattle.bike_sql.proofs.ChainLaws.{quiet_step, reads_both, reads_failed, reads_refused}
+use Rattle.bike_sql.proofs.WalkLaw.{walk_goes}
 use Rattle.bike_schema.specs.Tables.{IsOurs, tables_of}
 use Rattle.bike_judges.specs.declared.key.BadKey.{BadKey}
 use Rattle.bike_judges.specs.declared.query.Query.{Query}
@@ -38,7 +38,8 @@ module _ {S J : Type 0} (g : Ghosts S) (says : J → List Row → Option Row →
       let on = goes left it in
       record { left = on.0; walking = on.2; told = λ verdict said. takes on.0 verdict (subst (λ lines. says before lines verdict) on.1 said) }
 
-  pub found_next : (before after : J) (line : Row) (key : BadKey) → Goes (Some line) → Takes before after line (Some key) → (left : List Row) → IsWalking g old left → GoesTo g says new before after left (Found key)
+  pub found_next : (before after : J) (line : Row) (key : BadKey) → Goes (Some line) → Takes before after line (Some key) → (left : List Row) → IsWalking g old left
+      → GoesTo g says new before after left (Found key)
   found_next before after line key goes takes left it verdict said =
       let on = goes left it in
       takes on.0 verdict (subst (λ lines. says before lines verdict) on.1 said)
@@ -47,8 +48,10 @@ module _ {S J : Type 0} (g : Ghosts S) (says : J → List Row → Option Row →
   none_next before goes left it verdict said = subst (λ lines. says before lines verdict) (goes left it) said
 
   -- a step over a row, or past the last
-  pub steps_on : {E : Type 0} (before after : J) (step : Step) (row : Option Row) → (HasCleanDisk (state g new) → Advances g old new row) → (HasCleanDisk (state g new) → IsUnchanged (state g old) (state g new))
-      → (old.in_transaction ≡ false → new.in_transaction ≡ false) → Survives (state g old) (state g new) (λ _. ⊥) → (Goes row → (left : List Row) → IsWalking g old left → GoesTo g says new before after left step) → Steps g says old new before after {E = E} (Ok step)
+  pub steps_on : {E : Type 0} (before after : J) (step : Step) (row : Option Row) → (HasCleanDisk (state g new) → Advances g old new row)
+      → (HasCleanDisk (state g new) → IsUnchanged (state g old) (state g new))
+      → (old.in_transaction ≡ false → new.in_transaction ≡ false) → Survives (state g old) (state g new) (λ _. ⊥)
+      → (Goes row → (left : List Row) → IsWalking g old left → GoesTo g says new before after left step) → Steps g says old new before after {E = E} (Ok step)
   steps_on before after step row moved same mode survives told = record {
     next = λ clean left it. told (walk_goes g old new row (moved clean) (same clean)) left it;
     same = same;
@@ -97,7 +100,8 @@ module _ {S J : Type 0} (g : Ghosts S) (says : J → List Row → Option Row →
     }
 
     -- no line was left
-    pub ends : {E F : Type 0} (found : Option BadKey) → ((verdict : Option Row) → says after [] verdict → option_map key_row found ≡ verdict) → Steps g says mid new before after {E = E} (Ok End) → ReadsWhere g IsOurs old new {E = F} (Ok found) (Finds first)
+    pub ends : {E F : Type 0} (found : Option BadKey) → ((verdict : Option Row) → says after [] verdict → option_map key_row found ≡ verdict) → Steps g says mid new before after {E = E} (Ok End)
+        → ReadsWhere g IsOurs old new {E = F} (Ok found) (Finds first)
     ends found told it = record {
       found = λ clean ours verdict said.
           let so_far = was.showing (clean_before it clean) ours in
@@ -146,11 +150,13 @@ module _ {S J : Type 0} (g : Ghosts S) (says : J → List Row → Option Row →
 
 module _ {F : Type 0} (after : F → Row → F) where
   -- a line was added
-  pub adds_next : (total before new : F) (line : Row) → new ≡ after before line → (left : List Row) (verdict : Option Row) → ComesTo after total before (line ∷ left) verdict → Continues (ComesTo after total) new left verdict None
+  pub adds_next : (total before new : F) (line : Row) → new ≡ after before line → (left : List Row) (verdict : Option Row) → ComesTo after total before (line ∷ left) verdict
+      → Continues (ComesTo after total) new left verdict None
   adds_next total before new line is left verdict said = subst (λ (f : F). fold after f left ≡ total) (sym is) said
 
   -- no line was left
-  pub comes_to : {S : Type 0} (g : Ghosts S) (query : Query) (old mid new : Held S) (first before last : F) → ((total : F) → IsUnderWay g (ComesTo after total) query old mid first before) → {E G : Type 0} → ((total : F) → Steps g (ComesTo after total) mid new before last {E = E} (Ok End))
+  pub comes_to : {S : Type 0} (g : Ghosts S) (query : Query) (old mid new : Held S) (first before last : F) → ((total : F) → IsUnderWay g (ComesTo after total) query old mid first before)
+      → {E G : Type 0} → ((total : F) → Steps g (ComesTo after total) mid new before last {E = E} (Ok End))
       → ReadsWhere g IsOurs old new {E = G} (Ok last) (λ db total. total ≡ fold after first (lines_of query (tables_of db)))
   comes_to g query old mid new first before last was {E} {G} it =
       record {

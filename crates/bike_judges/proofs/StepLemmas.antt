@@ -52,9 +52,11 @@ module _ {A : Type 0} (begins : Row → Opening A) (more : A → Row → A) (goo
   found_bad None n m k next it = absurd it
   found_bad (Some a) n m k next it = ap (λ (b : Bool). cond b next (Some (key a))) it.0 ∙ ap (λ (r : Row). Some r) (sym it.1)
 
-  module _ {J : Type 0} (says : J → List Row → Option Row → Type 0) (j : J) (account : Option A) (n : ℕ) (x : Row) (left : List Row) (verdict : Option Row) (is : run account n (x ∷ left) ≡ verdict) where
+  module _ {J : Type 0} (says : J → List Row → Option Row → Type 0) (j : J) (account : Option A) (n : ℕ) (x : Row) (left : List Row) (verdict : Option Row)
+      (is : run account n (x ∷ left) ≡ verdict) where
     -- a head opens an account behind the one that it closes
-    pub head_line : (a : A) (m : ℕ) (found : Option BadKey) → begins x ≡ Head a → Closes good key account n m found → (run (Some a) m left ≡ verdict → says j left verdict) → Continues says j left verdict found
+    pub head_line : (a : A) (m : ℕ) (found : Option BadKey) → begins x ≡ Head a → Closes good key account n m found → (run (Some a) m left ≡ verdict → says j left verdict)
+        → Continues says j left verdict found
     head_line a m None e it says_so =
         says_so (ap (λ (k : ℕ). run (Some a) k left) (sym (counted account n m it))
         ∙ sym (found_good account n m (run (Some a) (count_closed begins more good key (take 1) account n) left) it) ∙ sym (cons account n x left (Head a) e) ∙ is)

@@ -1,5 +1,6 @@
 -- The verdict of a pass over lines in stretches: the least key whose head, with all items that are its own, isn't good.
-use Rattle.std.proofs.Common.{◌≡◌, ◌⊎◌, inl, inr, ℕ, suc, ◌<◌, ◌≤◌, List, [], ◌∷◌, ◌++◌, append_assoc, map, filter, fold, Bool, true, false, not, cond, pos, Option, Some, None, refl, sym, ap, subst, ◌∙◌, arith}
+use Rattle.std.proofs.Common.{◌≡◌, ◌⊎◌, inl, inr, ℕ, suc, ◌<◌, ◌≤◌, List, [], ◌∷◌, ◌++◌, append_assoc, map, filter, fold, Bool, true, false, not, cond, pos, Option, Some, None, refl, sym, ap, subst}
+use Rattle.std.proofs.Common.{◌∙◌, arith}
 use Rattle.std.specs.Prelude.{take}
 use Rattle.std.specs.Ordering.{ordering_then, ordering_reverse, nat_cmp}
 use Rattle.std.specs.Cmp.{ranked}
@@ -11,13 +12,13 @@ use Rattle.sqlite_value.specs.declared.value.Value.TheVariants.{Int}
 use Rattle.sqlite_value.specs.Order.{Row, column, value_cmp, row_cmp}
 use Rattle.sqlite_value.proofs.OrderLemmas.{value_cmp_total, value_cmp-Int, then-Equal}
 use Rattle.sqlite_rules.specs.Lists.{Has}
-use Rattle.bike_rows.specs.Keyed.{in_order}
-use Rattle.bike_rows.specs.View.{by_key}
-use Rattle.bike_rows.proofs.ListLemmas.{has_filter, filter_has, map_has, permuted}
-use Rattle.bike_rows.proofs.LineLemmas.{has_append}
-use Rattle.bike_rows.proofs.OrderLemmas.{Rises, rises, all_has, all_from, same_list, order_has}
-use Rattle.bike_rows.proofs.TreeLemmas.{by_key_total}
-use Rattle.bike_rows.proofs.SortLemmas.{AreApartAll, order_permutes}
+use Rattle.bike_sql.specs.Keyed.{in_order}
+use Rattle.bike_sql.specs.View.{by_key}
+use Rattle.bike_sql.proofs.RowListLemmas.{has_filter, filter_has, map_has, permuted}
+use Rattle.bike_sql.proofs.LineLemmas.{has_append}
+use Rattle.bike_sql.proofs.OrderLemmas.{Rises, rises, all_has, all_from, same_list, order_has}
+use Rattle.bike_sql.proofs.TreeLemmas.{by_key_total}
+use Rattle.bike_sql.proofs.SortLemmas.{AreApartAll, order_permutes}
 use Rattle.bike_book.proofs.Keys.{value_cmp-number_value}
 use Rattle.bike_book.specs.Tables.{TableName, Tables, rows_in, keys_of}
 use Rattle.bike_readings.specs.Rules.{AreInOrder}
@@ -187,7 +188,9 @@ module _ {A : Type 0} (begins : Row → Opening A) (more : A → Row → A) (goo
         lower = elim (ranks x h (suc item.1.0) 0 item.1.1 (ap (λ (z : Row). column z 1) it_is.1) low) [ inl less ↦ less | inr same ↦ absurd (let s = same.1 in omega (arith, s)) ]
 
         go_item : (b : Bool) → cond b (more a x) a ≡ a
-        go_item true = accounts.others a x (λ tie. let t : value_cmp (column x 0) (column h 0) ≡ Equal = ap (value_cmp (column x 0)) (sym owned) ∙ tie in let less : value_cmp (column x 0) (column h 0) ≡ Less = lower in cc)
+        go_item true =
+            accounts.others a x
+            (λ tie. let t : value_cmp (column x 0) (column h 0) ≡ Equal = ap (value_cmp (column x 0)) (sym owned) ∙ tie in let less : value_cmp (column x 0) (column h 0) ≡ Less = lower in cc)
         go_item false = refl
 
       go : (o : Opening A) → begins h ≡ o → is_good_with begins added good key (take 1) (x ∷ xs) n o ≡ is_good_with begins added good key (take 1) xs n o
@@ -265,21 +268,25 @@ module _ {A : Type 0} (begins : Row → Opening A) (more : A → Row → A) (goo
     open_pass [] lines up a low n = refl
     open_pass (x ∷ xs) lines up a low n = go (lines x (inl refl)) (open_pass xs (λ y h. lines y (inr h)) up.1) where
       go : IsHeadLine x ⊎ IsItemLine x
-          → ((c : A) → ((y : Row) → Has xs y → IsHeadLine y → value_cmp (owner c) (column y 0) ≡ Less) → (m : ℕ) → run (Some c) m xs ≡ close (Some (fold added c xs)) m (failing xs (suc m) (heads_of xs)))
+          → ((c : A) → ((y : Row) → Has xs y → IsHeadLine y → value_cmp (owner c) (column y 0) ≡ Less) → (m : ℕ)
+          → run (Some c) m xs ≡ close (Some (fold added c xs)) m (failing xs (suc m) (heads_of xs)))
           → pass_line begins more good key (take 1) (Some a) n x (begins x) (λ other m. run other m xs) ≡ close (Some (fold added a (x ∷ xs))) n (failing (x ∷ xs) (suc n) (heads_of (x ∷ xs)))
       go (inr item) rest =
           ap (λ (o : Opening A). pass_line begins more good key (take 1) (Some a) n x o (λ other m. run other m xs)) item.0
           ∙ rest (more a x) (λ y h it. ap (λ (v : Value). value_cmp v (column y 0)) (accounts.keeps a x) ∙ low y (inr h) it) n
           ∙ ap (λ (o : Opening A). close (Some (fold added (add o a x) xs)) n (failing xs (suc n) (heads_of xs))) (sym item.0)
           ∙ ap (close (Some (fold added a (x ∷ xs))) n) (sym (item_step x xs lines up item.0 (suc n)))
-      go (inl it) rest = by (begins x) refl (opens x it) ∙ ap (λ (c : A). close (Some c) n (failing (x ∷ xs) (suc n) (heads_of (x ∷ xs)))) (sym (untouched_by a (x ∷ xs) (all_below a x xs lines up it (low x (inl refl) it)))) where
-        by : (o : Opening A) → begins x ≡ o → Opens x o → pass_line begins more good key (take 1) (Some a) n x o (λ other m. run other m xs) ≡ close (Some a) n (failing (x ∷ xs) (suc n) (heads_of (x ∷ xs)))
-        by (Head b) e it_opens =
-            let owned : owner b ≡ column x 0 = it_opens.owned b refl in
-            ap (close (Some a) n)
-            (rest b (λ y h also. ap (λ (v : Value). value_cmp v (column y 0)) owned ∙ heads_above x xs up it y h also) (suc n) ∙ sym (head_step x xs lines up b e owned it_opens.first (suc n)))
-        by Unread e it_opens = ap (close (Some a) n) (sym (unread_step x xs e (suc n)))
-        by Item e it_opens = absurd (it_opens.no_item refl)
+      go (inl it) rest =
+          by (begins x) refl (opens x it) ∙ ap (λ (c : A). close (Some c) n (failing (x ∷ xs) (suc n) (heads_of (x ∷ xs))))
+          (sym (untouched_by a (x ∷ xs) (all_below a x xs lines up it (low x (inl refl) it)))) where
+            by : (o : Opening A) → begins x ≡ o → Opens x o → pass_line begins more good key (take 1) (Some a) n x o (λ other m. run other m xs)
+                ≡ close (Some a) n (failing (x ∷ xs) (suc n) (heads_of (x ∷ xs)))
+            by (Head b) e it_opens =
+                let owned : owner b ≡ column x 0 = it_opens.owned b refl in
+                ap (close (Some a) n)
+                (rest b (λ y h also. ap (λ (v : Value). value_cmp v (column y 0)) owned ∙ heads_above x xs up it y h also) (suc n) ∙ sym (head_step x xs lines up b e owned it_opens.first (suc n)))
+            by Unread e it_opens = ap (close (Some a) n) (sym (unread_step x xs e (suc n)))
+            by Item e it_opens = absurd (it_opens.no_item refl)
 
     -- before the first head
     whole_pass : (xs : List Row) → AreLines xs → Up xs → (n : ℕ) → run None n xs ≡ failing xs n (heads_of xs)
@@ -368,11 +375,12 @@ module _ {A : Type 0} (begins : Row → Opening A) (more : A → Row → A) (goo
       -- what is added among them are the items
       over_heads : (rs : List Row) (a : A) → fold (added spare accounts) a (map (head spare) rs ++ items) ≡ fold (added spare accounts) a items
       over_heads [] a = refl
-      over_heads (r ∷ rs) a = ap (λ (c : A). fold (added spare accounts) c (map (head spare) rs ++ items)) (go (begins (head spare r)) (opens spare accounts (head spare r) (r, refl))) ∙ over_heads rs a where
-        go : (o : Opening A) → Opens spare accounts (head spare r) o → add spare accounts o a (head spare r) ≡ a
-        go (Head b) it = refl
-        go Unread it = refl
-        go Item it = absurd (it.no_item refl)
+      over_heads (r ∷ rs) a =
+          ap (λ (c : A). fold (added spare accounts) c (map (head spare) rs ++ items)) (go (begins (head spare r)) (opens spare accounts (head spare r) (r, refl))) ∙ over_heads rs a where
+            go : (o : Opening A) → Opens spare accounts (head spare r) o → add spare accounts o a (head spare r) ≡ a
+            go (Head b) it = refl
+            go Unread it = refl
+            go Item it = absurd (it.no_item refl)
 
       over_items : (xs : List Row) → ((x : Row) → Has xs x → begins x ≡ Item) → (a : A) → fold (added spare accounts) a xs ≡ fold more a xs
       over_items [] each a = refl

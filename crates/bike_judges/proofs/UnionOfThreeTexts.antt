@@ -2,7 +2,7 @@
 use Rattle.std.proofs.Common.{ℕ, ◌-◌, List, [], ◌∷◌, pos, refl}
 use Rattle.sqlite_value.specs.declared.value.Value.TheVariants.{Int}
 use Rattle.sqlite_sql.specs.Term.{Term, lit, col}
-use Rattle.bike_rows.proofs.SelectLaws.{rows_merged_of_three, TiesOnlyByKey, NeverTies}
+use Rattle.bike_sql.proofs.SelectLaws.{rows_merged_of_three, TiesOnlyByKey, NeverTies}
 use Rattle.bike_book.specs.Tables.{Stations, Docks, Bikes, Counts}
 use Rattle.bike_book.specs.declared.columns.stations.TheConstants as stations
 use Rattle.bike_book.specs.declared.columns.docks.TheConstants as docks

@@ -1,5 +1,6 @@
 -- The rows of a table, read in whatever order they lie.
-use Rattle.std.specs.Prelude.{◌≡◌, ℕ, Bool, true, List, [], ◌∷◌, ◌++◌, Option, Some, None, Result, Ok, IfOk, IsPermutation}
+use Rattle.std.specs.Prelude.{◌≡◌, ℕ, Bool, true, List, [], ◌∷◌, ◌++◌, Option, Some, None, Result, Ok, IfOk}
+use Rattle.std.specs.Prelude.{IsPermutation}
 use Rattle.std.specs.List.{list_all}
 use Rattle.std.specs.Borrow.{MutBor}
 use Rattle.sqlite_value.specs.Order.{Row}
@@ -13,7 +14,7 @@ use Rattle.sqlite.specs.Effect.{Database}
 use Rattle.sqlite.specs.Given.{HasGiven}
 use Rattle.sqlite.specs.Held.{Held, state}
 use Rattle.bike_sql.specs.Laws.{Reads}
-use Rattle.bike_rows.specs.Calls.{ReadsWhere}
+use Rattle.bike_sql.specs.Calls.{ReadsWhere}
 use Rattle.bike_schema.specs.Tables.{IsOurs, tables_of}
 
 -- In this database the text is a query that answers these rows, in any order.
@@ -21,8 +22,10 @@ pub record HasAnyOrder (db : Database) (text : List ℕ) (all : List Row) : Type
   pub program : Program
   pub names : List (List ℕ)
   pub means : Reads db.schema text (Select program names)
-  pub whole : (rows : List Row) → IsProgramAnswer (lets_of program) program.body db.trees [] rows → IsPermutation all rows
-  pub begins : (rows : List Row) → IsProgramStart (lets_of program) program.body db.trees [] rows → (tail : List Row) × IsPermutation all (rows ++ tail)
+  pub whole : (rows : List Row) → IsProgramAnswer (lets_of program) program.body db.trees [] rows
+      → IsPermutation all rows
+  pub begins : (rows : List Row) → IsProgramStart (lets_of program) program.body db.trees [] rows
+      → (tail : List Row) × IsPermutation all (rows ++ tail)
 
 module _ {S : Type 0} (g : Ghosts S) where
   -- The connection runs such a query, and has given these of its rows.
@@ -45,4 +48,5 @@ module _ {S : Type 0} (g : Ghosts S) where
   -- A read of the rows of kept began, of which none is given.
   pub record BeginsKept (entry : MutBor (Held S)) {E : Type 0} (result : Result (Rows S g) E) : Type 0 where
     pub same_reference : IfOk result (λ rows. rows.conn.ghost_name ≡ entry.ghost_name)
-    pub begun : IfOk result (λ rows. ReadsWhere g IsOurs entry.now rows.conn.now {X = Unit {0}} {E = E} (Ok tt) (λ db _. HasRead (tables_of db).kept rows.conn.now []))
+    pub begun : IfOk result (λ rows. ReadsWhere g IsOurs entry.now rows.conn.now {X = Unit {0}} {E = E} (Ok tt)
+        (λ db _. HasRead (tables_of db).kept rows.conn.now []))

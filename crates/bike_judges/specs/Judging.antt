@@ -13,6 +13,7 @@ key_row (Named text) = Text text ∷ []
 key_row (Paired first second) = Text first ∷ Text second ∷ []
 
 -- after one more line: the judge says the same of those that are left, or the verdict was found
-abbrev pub Continues : {J : Type 0} → (J → List Row → Option Row → Type 0) → J → List Row → Option Row → Option BadKey → Type 0
+abbrev pub Continues : {J : Type 0} → (J → List Row → Option Row → Type 0) → J → List Row → Option Row → Option BadKey
+    → Type 0
 Continues says judge left verdict None = says judge left verdict
 Continues says judge left verdict (Some key) = verdict ≡ Some (key_row key)

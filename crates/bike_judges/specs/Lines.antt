@@ -1,11 +1,12 @@
--- The lines that the audit's queries answer, each as a list over the tables. A line holds whole stored rows: that of a table with those of its
--- partners beside it, or, where tables mix, its key in the order of the lines and then the row, with NULL up to the width of the widest.
+-- The lines that the audit's queries answer, each as a list over the tables. A line holds whole stored rows: that of a
+-- table with those of its partners beside it, or, where tables mix, its key in the order of the lines and then the row,
+-- with NULL up to the width of the widest.
 use Rattle.std.specs.Prelude.{ℕ, ℤ, zero, suc, pos, ◌-◌, List, [], ◌∷◌, ◌++◌, map, take, drop, Option, Some, None}
 use Rattle.sqlite_value.specs.declared.value.Value.{Value}
 use Rattle.sqlite_value.specs.declared.value.Value.TheVariants.{Null, Int}
 use Rattle.sqlite_value.specs.Order.{Row, column}
-use Rattle.bike_rows.specs.Keyed.{in_order}
-use Rattle.bike_rows.specs.View.{by_key, left_joined, twice_joined}
+use Rattle.bike_sql.specs.Keyed.{in_order}
+use Rattle.bike_sql.specs.View.{by_key, left_joined, twice_joined}
 use Rattle.bike_book.specs.Tables.{Tables}
 use Rattle.bike_book.specs.declared.columns.plans.TheConstants as plans
 use Rattle.bike_book.specs.declared.columns.types.TheConstants as types
@@ -84,13 +85,16 @@ order_line = head 0
 abbrev pub order_bike_line : Row → Row
 order_bike_line row = line (column row 7) (pos 1) (column row 0) 0 row
 
--- a station's docks, and then by types its counts and the bicycles there: the station, the place of the docks or of the rest, the dock or the
--- type, the place of the table there, and the bicycle
+-- a station's docks, and then by types its counts and the bicycles there: the station, the place of the docks or of the
+-- rest, the dock or the type, the place of the table there, and the bicycle
 abbrev pub count_dock_line : Row → Row
-count_dock_line row = column row 0 ∷ Int (pos 0) ∷ column row 1 ∷ Int (pos 0) ∷ Int (pos 0) ∷ row ++ nulls (bikes.COLUMNS - docks.COLUMNS)
+count_dock_line row =
+    column row 0 ∷ Int (pos 0) ∷ column row 1 ∷ Int (pos 0) ∷ Int (pos 0) ∷ row ++ nulls (bikes.COLUMNS - docks.COLUMNS)
 
 abbrev pub count_line : Row → Row
-count_line row = column row 0 ∷ Int (pos 1) ∷ column row 1 ∷ Int (pos 0) ∷ Int (pos 0) ∷ row ++ nulls (bikes.COLUMNS - counts.COLUMNS)
+count_line row =
+    column row 0 ∷ Int (pos 1) ∷ column row 1 ∷ Int (pos 0) ∷ Int (pos 0) ∷ row
+    ++ nulls (bikes.COLUMNS - counts.COLUMNS)
 
 abbrev pub count_bike_line : Row → Row
 count_bike_line row = column row 3 ∷ Int (pos 1) ∷ column row 1 ∷ Int (pos 1) ∷ column row 0 ∷ row
@@ -100,7 +104,8 @@ abbrev pub merge_of_two : ℕ → (Row → Row) → List Row → (Row → Row) �
 merge_of_two keys first xs second ys = in_order (by_key keys) (map first xs ++ map second ys)
 
 abbrev pub merge_of_three : ℕ → (Row → Row) → List Row → (Row → Row) → List Row → (Row → Row) → List Row → List Row
-merge_of_three keys first xs second ys third zs = in_order (by_key keys) ((map first xs ++ map second ys) ++ map third zs)
+merge_of_three keys first xs second ys third zs =
+    in_order (by_key keys) ((map first xs ++ map second ys) ++ map third zs)
 
 -- ---- THE LINES OF EACH QUERY
 
@@ -114,21 +119,28 @@ lines_of query.Regions t = t.regions
 lines_of query.StationRows t = left_joined (with_one regions.COLUMNS) (11 ∷ []) 1 t.regions t.stations
 lines_of query.Stations t = merge_of_three 3 station_line t.stations station_dock_line t.docks station_bike_line t.bikes
 lines_of query.Docks t = left_joined (with_one stations.COLUMNS) (0 ∷ []) 1 t.stations t.docks
-lines_of query.BikeNames t = twice_joined (with_two types.COLUMNS stations.COLUMNS) (1 ∷ []) 1 t.types (3 ∷ []) 1 t.stations t.bikes
-lines_of query.BikeUses t = twice_joined (with_two rentals.COLUMNS orders.COLUMNS) (5 ∷ []) 1 t.rentals (7 ∷ []) 1 t.orders t.bikes
+lines_of query.BikeNames t =
+    twice_joined (with_two types.COLUMNS stations.COLUMNS) (1 ∷ []) 1 t.types (3 ∷ []) 1 t.stations t.bikes
+lines_of query.BikeUses t =
+    twice_joined (with_two rentals.COLUMNS orders.COLUMNS) (5 ∷ []) 1 t.rentals (7 ∷ []) 1 t.orders t.bikes
 lines_of query.BikeTrucks t = left_joined (with_one trucks.COLUMNS) (6 ∷ []) 1 t.trucks t.bikes
 lines_of query.BikeDocks t = merge_of_two 4 dock_line t.docks docked_line t.bikes
 lines_of query.Trucks t = merge_of_two 3 truck_line t.trucks truck_bike_line t.bikes
 lines_of query.RiderRows t = t.riders
 lines_of query.Rentals t = t.rentals
-lines_of query.OrderNames t = twice_joined (with_two trucks.COLUMNS types.COLUMNS) (1 ∷ []) 1 t.trucks (4 ∷ []) 1 t.types t.orders
-lines_of query.OrderEnds t = twice_joined (with_two stations.COLUMNS stations.COLUMNS) (2 ∷ []) 1 t.stations (3 ∷ []) 1 t.stations t.orders
+lines_of query.OrderNames t =
+    twice_joined (with_two trucks.COLUMNS types.COLUMNS) (1 ∷ []) 1 t.trucks (4 ∷ []) 1 t.types t.orders
+lines_of query.OrderEnds t =
+    twice_joined (with_two stations.COLUMNS stations.COLUMNS) (2 ∷ []) 1 t.stations (3 ∷ []) 1 t.stations t.orders
 lines_of query.OrderBikes t = merge_of_two 3 order_line t.orders order_bike_line t.bikes
 lines_of query.Entries t = t.entries
 lines_of query.EntryRentals t = left_joined (with_one rentals.COLUMNS) (3 ∷ []) 1 t.rentals t.entries
 lines_of query.Kept t = t.kept
-lines_of query.CountNames t = twice_joined (with_two stations.COLUMNS types.COLUMNS) (0 ∷ []) 1 t.stations (1 ∷ []) 1 t.types t.counts
+lines_of query.CountNames t =
+    twice_joined (with_two stations.COLUMNS types.COLUMNS) (0 ∷ []) 1 t.stations (1 ∷ []) 1 t.types t.counts
 lines_of query.Counts t = merge_of_three 5 count_dock_line t.docks count_bike_line t.bikes count_line t.counts
 lines_of query.Names t = t.more_names
-lines_of query.NamePlaces t = twice_joined (with_two stations.COLUMNS regions.COLUMNS) (1 ∷ []) 1 t.stations (1 ∷ []) 1 t.regions t.more_names
-lines_of query.NameOffers t = twice_joined (with_two types.COLUMNS plans.COLUMNS) (1 ∷ []) 1 t.types (1 ∷ []) 1 t.plans t.more_names
+lines_of query.NamePlaces t =
+    twice_joined (with_two stations.COLUMNS regions.COLUMNS) (1 ∷ []) 1 t.stations (1 ∷ []) 1 t.regions t.more_names
+lines_of query.NameOffers t =
+    twice_joined (with_two types.COLUMNS plans.COLUMNS) (1 ∷ []) 1 t.types (1 ∷ []) 1 t.plans t.more_names

@@ -1,5 +1,7 @@
--- One pass over lines: each line by itself, or lines in stretches, where a head opens an account and the lines after it are added to that.
-use Rattle.std.specs.Prelude.{◌≡◌, ℕ, suc, List, [], ◌∷◌, fold, if◌then◌else◌, Bool, true, false, Option, Some, None, option_map}
+-- One pass over lines: each line by itself, or lines in stretches, where
+-- a head opens an account and the lines after it are added to that.
+use Rattle.std.specs.Prelude.{◌≡◌, ℕ, suc, List, [], ◌∷◌, fold, if◌then◌else◌, Bool, true, false, Option, Some, None}
+use Rattle.std.specs.Prelude.{option_map}
 use Rattle.sqlite_value.specs.Order.{Row}
 use Rattle.bike_book.specs.Tables.{TableName, Tables}
 use Rattle.bike_readings.specs.Rules.{row_under, rows_below}
@@ -23,7 +25,8 @@ Demands t name test key = OfRow test (rows_below t name key) (row_under t name k
 
 -- ---- stretches
 
-module _ {A : Type 0} (begins : Row → Opening A) (more : A → Row → A) (good : ℕ → A → Bool) (key : A → Row) (head_key : Row → Row) where
+module _ {A : Type 0} (begins : Row → Opening A) (more : A → Row → A) (good : ℕ → A → Bool) (key : A → Row)
+    (head_key : Row → Row) where
   -- the open account is closed before a head or at the end: it is bad, or the pass goes on
   abbrev pub closed : Option A → ℕ → Option Row → Option Row
   closed None n next = next

@@ -4,9 +4,9 @@ use Rattle.sqlite_value.specs.Order.{Row}
 use Rattle.sqlite_trees.specs.declared.store.Store.{Ghosts}
 use Rattle.sqlite.specs.Held.{Held, state}
 use Rattle.sqlite.specs.State.{HasCleanDisk, IsUnchanged, Survives}
-use Rattle.bike_rows.specs.Calls.{IsQuiet}
-use Rattle.bike_rows.specs.Outcome.{IsLeft}
-use Rattle.bike_rows.specs.Walk.{IsWalking}
+use Rattle.bike_sql.specs.Calls.{IsQuiet}
+use Rattle.bike_sql.specs.Outcome.{IsLeft}
+use Rattle.bike_sql.specs.Walk.{IsWalking}
 use Rattle.bike_schema.specs.Tables.{IsOurs, tables_of}
 use Rattle.bike_judges.specs.declared.query.Query.{Query}
 use Rattle.bike_judges.specs.Judging.{key_row}
@@ -32,19 +32,23 @@ module _ {S J : Type 0} (g : Ghosts S) (says : J → List Row → Option Row →
   -- of the lines that were to come: one was shown, or it held the first bad key, or there was none
   abbrev pub GoesTo : Held S → J → J → List Row → Step → Type 0
   GoesTo new before after left Shown = IsShowing new before left after
-  GoesTo new before after left (Found key) = (verdict : Option Row) → says before left verdict → verdict ≡ Some (key_row key)
+  GoesTo new before after left (Found key) =
+      (verdict : Option Row) → says before left verdict → verdict ≡ Some (key_row key)
   GoesTo new before after left End = SaysAs before left after []
 
   -- What one step tells.
   pub record Steps (old new : Held S) (before after : J) {E : Type 0} (result : Result Step E) : Type 0 where
-    pub next : HasCleanDisk (state g new) → IfOk result (λ step. (left : List Row) → IsWalking g old left → GoesTo new before after left step)
+    pub next : HasCleanDisk (state g new) → IfOk result
+        (λ step. (left : List Row) → IsWalking g old left → GoesTo new before after left step)
     pub same : HasCleanDisk (state g new) → OnOk result (IsUnchanged (state g old) (state g new))
     pub failed : HasCleanDisk (state g new) → OnErr result (IsLeft (state g old) (state g new))
     pub mode : old.in_transaction ≡ false → new.in_transaction ≡ false
     pub survives : Survives (state g old) (state g new) (λ _. ⊥)
 
-  -- The lines of the query are being shown: the database is as it was, and what the judge said of all it says of those that are left.
+  -- The lines of the query are being shown: the database is as it was,
+  -- and what the judge said of all it says of those that are left.
   pub record IsUnderWay (query : Query) (old now : Held S) (first judge : J) : Type 0 where
     pub quiet : IsQuiet g IsOurs old now
     pub same : HasCleanDisk (state g now) → IsOurs (state g old).now → IsUnchanged (state g old) (state g now)
-    pub showing : HasCleanDisk (state g now) → IsOurs (state g old).now → IsShowing now first (lines_of query (tables_of (state g old).now)) judge
+    pub showing : HasCleanDisk (state g now) → IsOurs (state g old).now
+        → IsShowing now first (lines_of query (tables_of (state g old).now)) judge

@@ -1,7 +1,7 @@
 -- What the text of a query answers.
 use Rattle.std.specs.Prelude.{ℕ, List, []}
 use Rattle.sqlite.specs.Effect.{Database}
-use Rattle.bike_rows.specs.Answer.{HasOneAnswer}
+use Rattle.bike_sql.specs.Answer.{HasOneAnswer}
 use Rattle.bike_schema.specs.Tables.{HasTables, tables_of}
 use Rattle.bike_judges.specs.declared.query.Query.{Query}
 use Rattle.bike_judges.specs.Lines.{lines_of}

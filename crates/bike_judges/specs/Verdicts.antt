@@ -1,4 +1,5 @@
--- What the rules of one table answer, where all keys of the tables before it are good; and the same of a part of what is demanded.
+-- What the rules of one table answer, where all keys of the tables
+-- before it are good; and the same of a part of what is demanded.
 use Rattle.std.specs.Prelude.{◌≡◌, ◌<◌, Option, Some, None, option_map, IfSome, take}
 use Rattle.std.specs.declared.cmp.Ordering.TheVariants.{Less}
 use Rattle.sqlite_value.specs.Order.{Row, row_cmp}
@@ -29,4 +30,5 @@ IsTableVerdict t name = IsFirstFailing t name (IsGoodKey t name)
 
 -- WHAT THE RULES OF A TABLE ANSWER
 abbrev pub JudgesTable : TableName → Database → Option BadKey → Type 0
-JudgesTable name db found = EarlierGood (tables_of db) name → IsTableVerdict (tables_of db) name (option_map key_row found)
+JudgesTable name db found =
+    EarlierGood (tables_of db) name → IsTableVerdict (tables_of db) name (option_map key_row found)

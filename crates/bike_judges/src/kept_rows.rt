@@ -6,8 +6,8 @@ ghost use Rattle.std.specs.List.{list_all};
 ghost use Rattle.sqlite_value.specs.Order.{Row};
 ghost use Rattle.sqlite.specs.Held.{state};
 ghost use Rattle.sqlite.specs.State.{HasCleanDisk, IsUnchanged, Survives};
-ghost use Rattle.bike_rows.specs.Calls.{LendsWhere, ReadsWhere};
-ghost use Rattle.bike_rows.specs.Outcome.{IsLeft};
+ghost use Rattle.bike_sql.specs.Calls.{LendsWhere, ReadsWhere};
+ghost use Rattle.bike_sql.specs.Outcome.{IsLeft};
 ghost use Rattle.bike_schema.specs.Tables.{IsOurs, tables_of};
 ghost use Rattle.bike_judges.specs.AnyOrder.{BeginsKept, HasRead, TestsNext};
 

@@ -3,7 +3,7 @@
 ghost use Rattle.std.specs.Prelude.{◌≡◌, IfOk, Option, option_map};
 ghost use Rattle.std.specs.Borrow.{sem};
 ghost use Rattle.sqlite_value.specs.Order.{Row};
-ghost use Rattle.bike_rows.specs.Calls.{LendsWhere, ReadsWhere, WalksWhere};
+ghost use Rattle.bike_sql.specs.Calls.{LendsWhere, ReadsWhere, WalksWhere};
 ghost use Rattle.bike_schema.specs.Tables.{IsOurs, tables_of};
 ghost use Rattle.bike_judges.specs.Judging.{key_row};
 ghost use Rattle.bike_judges.specs.Lines.{lines_of};

@@ -1,5 +1,6 @@
 -- Rentals that end leave rentals sound.
-use Rattle.std.proofs.Common.{◌≡◌, ℕ, ℤ, ◌+◌, ◌≤◌, ◌+ℤ◌, pos, List, [], ◌∷◌, ◌++◌, length, length-append, map, Bool, true, false, cond, eqb, Option, Some, None, refl, sym, ap, ◌∙◌, subst, arith, inl, inr}
+use Rattle.std.proofs.Common.{◌≡◌, ℕ, ℤ, ◌+◌, ◌≤◌, ◌+ℤ◌, pos, List, [], ◌∷◌, ◌++◌, length, length-append, map, Bool, true, false, cond, eqb, Option, Some, None, refl, sym, ap, ◌∙◌, subst, arith, inl}
+use Rattle.std.proofs.Common.{inr}
 use Rattle.std.specs.FinMap as finmap
 use Rattle.std.specs.FinMap.{FinMap}
 use Rattle.std.specs.Cmp.{nat_cmp_total}
@@ -86,7 +87,8 @@ rentals_charged s x now kept r to_station order later v ongoing is =
     closed_row : (n : ℕ) (y : Rental) → item_numbered n x.rentals ≡ Some y → n ≡ r.number → closed_by c r.rental ≡ y
     closed_row n y i same =
         same_Some (closed_by c r.rental) y
-        (sym (number_same r.number (closed_by c) s.rentals r.rental v.found) ∙ sym (ap (λ (rs : List Rental). item_numbered r.number rs) is.rentals) ∙ ap (λ (m : ℕ). item_numbered m x.rentals) (sym same) ∙ i)
+        (sym (number_same r.number (closed_by c) s.rentals r.rental v.found) ∙ sym (ap (λ (rs : List Rental). item_numbered r.number rs) is.rentals)
+        ∙ ap (λ (m : ℕ). item_numbered m x.rentals) (sym same) ∙ i)
 
     still : (n : ℕ) (y : Rental) → item_numbered n x.rentals ≡ Some y → is_open y ≡ true → Either n r.number → item_numbered n s.rentals ≡ Some y
     still n y i p (Same same) = let shut : false ≡ is_open y = ap (λ (z : Rental). is_open z) (closed_row n y i same) in absurd cc
@@ -139,7 +141,8 @@ rentals_charged s x now kept r to_station order later v ongoing is =
 
 -- ---- in a dock, or recovered
 
-pub rentals_ended : (s : Operator) (now : ℕ) (kept : FinMap texts_cmp Kept) (bike : ℕ) (station : List ℕ) (dock : ℕ) (o : Option RentalView) → IsSound s → s.now ≤ now → finmap.contains_key s.stations station ≡ true
+pub rentals_ended : (s : Operator) (now : ℕ) (kept : FinMap texts_cmp Kept) (bike : ℕ) (station : List ℕ) (dock : ℕ) (o : Option RentalView) → IsSound s → s.now ≤ now
+    → finmap.contains_key s.stations station ≡ true
     → ((r : RentalView) → o ≡ Some r → IsRentalOf s bike r) → AreRentalsSound (at_moment (after_end bike station dock now o s) now kept)
 rentals_ended s now kept bike station dock None order later there is = rentals_untouched s now kept order later
 rentals_ended s now kept bike station dock (Some r) order later there is = go (is r refl) where

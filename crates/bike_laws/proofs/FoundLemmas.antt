@@ -71,7 +71,8 @@ entry_found {X = X} test (x ∷ es) e order is =
     here : (y : ℕ × X) → sorted.find nat_cmp y.0 (y ∷ es) ≡ Some y.1
     here y = ap (λ (o : Ordering). cond (is_eq o) (Some y.1) (sorted.find nat_cmp y.0 es)) (tied_itself nat_cmp_total y.0)
 
-    go : (b : Bool) → cond b (Some x) (find test es) ≡ Some e → (find test es ≡ Some e → (eq_by_cmp nat_cmp e.0 x.0 ≡ false) × (sorted.find nat_cmp e.0 es ≡ Some e.1)) → sorted.find nat_cmp e.0 (x ∷ es) ≡ Some e.1
+    go : (b : Bool) → cond b (Some x) (find test es) ≡ Some e → (find test es ≡ Some e → (eq_by_cmp nat_cmp e.0 x.0 ≡ false) × (sorted.find nat_cmp e.0 es ≡ Some e.1))
+        → sorted.find nat_cmp e.0 (x ∷ es) ≡ Some e.1
     go true same more = subst (λ (y : ℕ × X). sorted.find nat_cmp y.0 (x ∷ es) ≡ Some y.1) (same_Some x e same) (here x)
     go false same more = let m = more same in ap (λ (b : Bool). cond b (Some x.1) (sorted.find nat_cmp e.0 es)) m.0 ∙ m.1
 
@@ -102,7 +103,8 @@ pub record IsViewOf (s : Operator) (r : RentalView) : Type 0 where
   pub refunded_is : r.refunded ≡ refunded_of r.number s.entries
   pub balance_is : r.balance ≡ balance_of r.rental.rider s.entries
 
-planned_is : (s : Operator) (number : ℕ) (x : Rental) (o : Option PlanRow) (r : RentalView) → item_numbered number s.rentals ≡ Some x → finmap.get s.plans x.plan ≡ o → planned_rental s number x o ≡ Some r → IsViewOf s r
+planned_is : (s : Operator) (number : ℕ) (x : Rental) (o : Option PlanRow) (r : RentalView) → item_numbered number s.rentals ≡ Some x → finmap.get s.plans x.plan ≡ o
+    → planned_rental s number x o ≡ Some r → IsViewOf s r
 planned_is s number x None r found plan is = absurd cc
 planned_is s number x (Some p) r found plan is =
     subst (IsViewOf s) (same_Some (record { number = number; rental = x; plan = p; refunded = refunded_of number s.entries; balance = balance_of x.rider s.entries }) r is)
@@ -114,7 +116,8 @@ view_is s number (Some x) r found is = planned_is s number x (finmap.get s.plans
 
 planned_number : (s : Operator) (number : ℕ) (x : Rental) (o : Option PlanRow) (r : RentalView) → planned_rental s number x o ≡ Some r → number ≡ r.number
 planned_number s number x None r is = absurd cc
-planned_number s number x (Some p) r is = ap (λ (v : RentalView). v.number) (same_Some (record { number = number; rental = x; plan = p; refunded = refunded_of number s.entries; balance = balance_of x.rider s.entries }) r is)
+planned_number s number x (Some p) r is =
+    ap (λ (v : RentalView). v.number) (same_Some (record { number = number; rental = x; plan = p; refunded = refunded_of number s.entries; balance = balance_of x.rider s.entries }) r is)
 
 pub view_number : (s : Operator) (number : ℕ) (o : Option Rental) (r : RentalView) → rental_view s number o ≡ Some r → number ≡ r.number
 view_number s number None r is = absurd cc

@@ -95,11 +95,14 @@ ledger_quiet s x now kept ledger later q riders =
     ledger_same s (at_moment x now kept) ledger (quiet_keeps s x now kept later q) riders q.entries (ap (λ (rs : List Rental). count is_open rs) q.rentals)
 
 -- a rider is added or changed
-pub ledger_rider : (s : Operator) (now : ℕ) (kept : FinMap texts_cmp Kept) (rider : ℕ) (r : Rider) → IsLedgerSound s → s.now ≤ now → IsRiderNumber rider → finmap.len (finmap.insert s.riders rider r) ≤ MOST_RIDERS
+pub ledger_rider : (s : Operator) (now : ℕ) (kept : FinMap texts_cmp Kept) (rider : ℕ) (r : Rider) → IsLedgerSound s → s.now ≤ now → IsRiderNumber rider
+    → finmap.len (finmap.insert s.riders rider r) ≤ MOST_RIDERS
     → IsQuiet s (record s { riders = finmap.insert s.riders rider r }) → IsLedgerSound (at_moment (record s { riders = finmap.insert s.riders rider r }) now kept)
 ledger_rider s now kept rider r ledger later good few q = record {
   riders = λ number x i. each number x i (either number rider);
-  entries = λ number e i. entry_stands s (at_moment (record s { riders = finmap.insert s.riders rider r }) now kept) number e (quiet_keeps s (record s { riders = finmap.insert s.riders rider r }) now kept later q) (ledger.entries number e i);
+  entries =
+      λ number e i. entry_stands s (at_moment (record s { riders = finmap.insert s.riders rider r }) now kept) number e
+      (quiet_keeps s (record s { riders = finmap.insert s.riders rider r }) now kept later q) (ledger.entries number e i);
   few_riders = few;
   few_entries = ledger.few_entries;
 } where
@@ -131,7 +134,8 @@ ledger_charged s x now kept r to_station order later v ongoing riders rentals en
       riders = λ id h. ap (λ m. finmap.contains_key m id) riders ∙ h;
       closed = λ n y d found closed.
           ap (λ (rs : List Rental). item_numbered n rs) changed
-          ∙ number_apart r.number (closed_by c) s.rentals n (λ same. open_apart y r.rental d (same_Some y r.rental (sym found ∙ ap (λ (m : ℕ). item_numbered m s.rentals) same ∙ v.found)) closed ongoing)
+          ∙ number_apart r.number (closed_by c) s.rentals n (λ same. open_apart y r.rental d
+          (same_Some y r.rental (sym found ∙ ap (λ (m : ℕ). item_numbered m s.rentals) same ∙ v.found)) closed ongoing)
           ∙ found;
       later = later;
     }
@@ -183,7 +187,8 @@ ledger_recovered s now kept (Some r) order later is =
     ledger_charged s (after_recovery now (Some r) s) now kept r None order later at.0 at.1 refl refl refl
 
 -- a rental is added
-pub ledger_started : (s : Operator) (now : ℕ) (kept : FinMap texts_cmp Kept) (rider : ℕ) (station : List ℕ) (o : Option DockedBike) → IsSound s → HasRoom s → s.now ≤ now → IsLedgerSound (at_moment (after_start rider station now o s) now kept)
+pub ledger_started : (s : Operator) (now : ℕ) (kept : FinMap texts_cmp Kept) (rider : ℕ) (station : List ℕ) (o : Option DockedBike) → IsSound s → HasRoom s → s.now ≤ now
+    → IsLedgerSound (at_moment (after_start rider station now o s) now kept)
 ledger_started s now kept rider station None order has later = ledger_untouched s now kept order.ledger later
 ledger_started s now kept rider station (Some b) order has later = record {
   riders = order.ledger.riders;
@@ -204,7 +209,8 @@ pub is_payment : (amount : ℕ) → IsPaid amount → IsPayment (pos amount)
 is_payment amount p = record { hundredths = amount; is = refl; low = p.low; high = p.high }
 
 pub ledger_paid : (s : Operator) (now : ℕ) (kept : FinMap texts_cmp Kept) (kind : EntryKind) (rider rental amount : ℕ) → IsSound s → HasRoom s → s.now ≤ now → finmap.contains_key s.riders rider ≡ true
-    → IsBooking (at_moment (with_entry kind rider rental (pos amount) now s) now kept) (record { number = length s.entries + 1; kind = kind; rider = rider; rental = rental; amount = pos amount; at = now }) kind
+    → IsBooking (at_moment (with_entry kind rider rental (pos amount) now s) now kept)
+    (record { number = length s.entries + 1; kind = kind; rider = rider; rental = rental; amount = pos amount; at = now }) kind
     → IsLedgerSound (at_moment (with_entry kind rider rental (pos amount) now s) now kept)
 ledger_paid s now kept kind rider rental amount order has later known booking =
     let room = has.room in
@@ -222,7 +228,8 @@ ledger_refunded s now kept amount (Some r) order has paid later is =
     let of = order.rentals.rentals r.number r.rental v.found in
     of_closing r.rental.closing refl at.1 v of.rider_is
   where
-    of_closing : (c : Option Closing) → r.rental.closing ≡ c → is_open r.rental ≡ false → IsViewOf s r → finmap.contains_key s.riders r.rental.rider ≡ true → IsLedgerSound (at_moment (refunded_by amount now (Some r) s) now kept)
+    of_closing : (c : Option Closing) → r.rental.closing ≡ c → is_open r.rental ≡ false → IsViewOf s r → finmap.contains_key s.riders r.rental.rider ≡ true
+        → IsLedgerSound (at_moment (refunded_by amount now (Some r) s) now kept)
     of_closing None same shut v known = let ongoing : is_open r.rental ≡ true = ap (λ (c : Option Closing). is_none c) same in absurd cc
     of_closing (Some c) same shut v known =
         ledger_paid s now kept Refund r.rental.rider r.number amount order has later known

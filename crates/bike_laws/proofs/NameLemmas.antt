@@ -14,14 +14,17 @@ is_kept : {X : Type 0} (b : Bool) (v : X) (o : Option X) → is_some o ≡ true 
 is_kept true v o e = refl
 is_kept false v o e = e
 
-pub insert_keeps : {K X : Type 0} {R : K → K → Ordering} (total : IsTotalOrder R) (m : finmap.FinMap R X) (k : K) (v : X) (id : K) → is_some (finmap.get m id) ≡ true → is_some (finmap.get (finmap.insert m k v) id) ≡ true
+pub insert_keeps : {K X : Type 0} {R : K → K → Ordering} (total : IsTotalOrder R) (m : finmap.FinMap R X) (k : K) (v : X) (id : K) → is_some (finmap.get m id) ≡ true
+    → is_some (finmap.get (finmap.insert m k v) id) ≡ true
 insert_keeps {R = R} total m k v id e = ap (λ o. is_some o) (finmap.get-insert total m k v id) ∙ is_kept (eq_by_cmp R id k) v (finmap.get m id) e
 
-found_keeps : {K X : Type 0} {R : K → K → Ordering} (total : IsTotalOrder R) (m : finmap.FinMap R X) (k : K) (f : X → X) (o : Option X) (id : K) → is_some (finmap.get m id) ≡ true → is_some (finmap.get (found_changed m k f o) id) ≡ true
+found_keeps : {K X : Type 0} {R : K → K → Ordering} (total : IsTotalOrder R) (m : finmap.FinMap R X) (k : K) (f : X → X) (o : Option X) (id : K) → is_some (finmap.get m id) ≡ true
+    → is_some (finmap.get (found_changed m k f o) id) ≡ true
 found_keeps total m k f None id e = e
 found_keeps total m k f (Some x) id e = insert_keeps total m k (f x) id e
 
-pub changed_keeps : {K X : Type 0} {R : K → K → Ordering} (total : IsTotalOrder R) (m : finmap.FinMap R X) (k : K) (f : X → X) (id : K) → is_some (finmap.get m id) ≡ true → is_some (finmap.get (key_changed m k f) id) ≡ true
+pub changed_keeps : {K X : Type 0} {R : K → K → Ordering} (total : IsTotalOrder R) (m : finmap.FinMap R X) (k : K) (f : X → X) (id : K) → is_some (finmap.get m id) ≡ true
+    → is_some (finmap.get (key_changed m k f) id) ≡ true
 changed_keeps total m k f id e = found_keeps total m k f (finmap.get m k) id e
 
 -- ---- numbers as keys

@@ -64,7 +64,8 @@ none_rentals : AreRentalsSound no_operator
 none_rentals = record { rentals = λ n r e. absurd (no_number n r e); riding = λ a b q r e f p i same. absurd (no_number a q e); few_rentals = omega arith }
 
 none_ledger : IsLedgerSound no_operator
-none_ledger = record { riders = λ n r e. absurd (no_key Rider n r e); entries = λ n e i. absurd (no_number n e i); few_riders = omega (arith, finmap.len-empty nat_cmp Rider); few_entries = omega arith }
+none_ledger =
+    record { riders = λ n r e. absurd (no_key Rider n r e); entries = λ n e i. absurd (no_number n e i); few_riders = omega (arith, finmap.len-empty nat_cmp Rider); few_entries = omega arith }
 
 no_items : {A : Type 0} (xs : List A) → length xs ≡ 0 → xs ≡ []
 no_items [] e = refl

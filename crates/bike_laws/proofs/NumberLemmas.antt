@@ -43,7 +43,8 @@ count_left p zero f (x ∷ xs) y e now then =
 count_left p (suc n) f (x ∷ xs) y e now then = count_later x (filter p (item_changed n f xs)) (filter p xs) (p x) (count_left p n f xs y e now then)
 
 -- an item that passes no longer is one less
-pub count_changed : {A : Type 0} (p : A → Bool) (n : ℕ) (f : A → A) (xs : List A) (y : A) → item_numbered n xs ≡ Some y → p y ≡ true → p (f y) ≡ false → count p (number_changed n f xs) + 1 ≡ count p xs
+pub count_changed : {A : Type 0} (p : A → Bool) (n : ℕ) (f : A → A) (xs : List A) (y : A) → item_numbered n xs ≡ Some y → p y ≡ true → p (f y) ≡ false
+    → count p (number_changed n f xs) + 1 ≡ count p xs
 count_changed p zero f xs y e now then = absurd cc
 count_changed p (suc n) f xs y e now then = count_left p n f xs y e now then
 

@@ -20,10 +20,12 @@ use Rattle.bike_operator.specs.declared.records.Order.{Order}
 use Rattle.bike_operator.specs.Operator.{Operator, item_numbered}
 use Rattle.bike_operator.specs.Names.{is_own_language}
 use Rattle.bike_operator.specs.View.{end_at, view_of}
-use Rattle.bike_operator.specs.Steps.{new_station, dock_marked, tests, refusal_of, place_reported, bike_reported, bike_placed, bike_marked, placed_at_end, with_delivery, after_unload, own_name_set, further_name_set, effect}
+use Rattle.bike_operator.specs.Steps.{new_station, dock_marked, tests, refusal_of, place_reported, bike_reported, bike_placed, bike_marked, placed_at_end, with_delivery, after_unload, own_name_set}
+use Rattle.bike_operator.specs.Steps.{further_name_set, effect}
 use Rattle.bike_laws.proofs.SingleSteps.TestLemmas.{none_holds, none_of}
 use Rattle.bike_laws.proofs.NameLemmas.{insert_keeps}
-use Rattle.bike_laws.proofs.QuietLemmas.{IsQuiet, quiet_fields, quiet_station, quiet_name, quiet_reported, quiet_bike_reported, quiet_marked, quiet_placed, quiet_added, elsewhere_in, loaded_in, quiet_unloaded}
+use Rattle.bike_laws.proofs.QuietLemmas.{IsQuiet, quiet_fields, quiet_station, quiet_name, quiet_reported, quiet_bike_reported, quiet_marked, quiet_placed, quiet_added, elsewhere_in, loaded_in}
+use Rattle.bike_laws.proofs.QuietLemmas.{quiet_unloaded}
 
 -- commands that touch rentals or entries
 abbrev pub moves_money : Command → Bool

@@ -20,7 +20,8 @@ use Rattle.bike_operator.specs.declared.records.Order.{Order}
 use Rattle.bike_operator.specs.Operator.{Operator, Station}
 use Rattle.bike_operator.specs.Counts.{is_on_truck, is_for_order}
 use Rattle.bike_operator.specs.View.{end_at}
-use Rattle.bike_operator.specs.Steps.{on, is_at_end, is_elsewhere, is_not_loaded, key_changed, with_report, place_reported, bike_reported, bike_placed, bike_marked, placed_at_end, with_delivery, after_unload, own_name_set, further_name_set}
+use Rattle.bike_operator.specs.Steps.{on, is_at_end, is_elsewhere, is_not_loaded, key_changed, with_report, place_reported, bike_reported, bike_placed, bike_marked, placed_at_end, with_delivery}
+use Rattle.bike_operator.specs.Steps.{after_unload, own_name_set, further_name_set}
 use Rattle.bike_operator.specs.Sound.{IsOut}
 use Rattle.bike_laws.proofs.SingleSteps.TestLemmas.{holds}
 use Rattle.bike_laws.proofs.NameLemmas.{insert_keeps, changed_keeps, get_other, changed_found, changed_other, Either, either}
@@ -171,7 +172,8 @@ end_is_apart end.Depot number = refl
 end_is_apart (end.Station station) number = refl
 
 -- where a test of the bicycle's place fails in a rental, the bicycle is in none
-in_by_test : (s : Operator) (bike : ℕ) (o : Option Bike) (test : Place → Bool) → ((number : ℕ) → test (place.Rental number) ≡ false) → finmap.get s.bikes bike ≡ o → on o (λ b. not (test b.place)) ≡ false → IsIn s bike
+in_by_test : (s : Operator) (bike : ℕ) (o : Option Bike) (test : Place → Bool) → ((number : ℕ) → test (place.Rental number) ≡ false) → finmap.get s.bikes bike ≡ o
+    → on o (λ b. not (test b.place)) ≡ false → IsIn s bike
 in_by_test s bike None test fails is e = record { not_out = λ number o. let found = o.found in absurd cc }
 in_by_test s bike (Some b) test fails is e = record { not_out = λ number o. apart number o } where
   apart : (number : ℕ) → IsOut s number bike → ⊥

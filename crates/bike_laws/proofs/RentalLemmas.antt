@@ -1,5 +1,6 @@
 -- Rentals stay sound.
-use Rattle.std.proofs.Common.{◌≡◌, ℕ, ℤ, ◌+◌, ◌≤◌, ◌+ℤ◌, ◌-ℤ◌, ◌≤ℤ◌, pos, List, [], ◌∷◌, ◌++◌, length, length-append, Bool, true, false, cond, eqb, Option, Some, None, refl, sym, ap, ◌∙◌, subst, arith}
+use Rattle.std.proofs.Common.{◌≡◌, ℕ, ℤ, ◌+◌, ◌≤◌, ◌+ℤ◌, ◌-ℤ◌, ◌≤ℤ◌, pos, List, [], ◌∷◌, ◌++◌, length, length-append, Bool, true, false, cond, eqb, Option, Some, None, refl, sym, ap, ◌∙◌, subst}
+use Rattle.std.proofs.Common.{arith}
 use Rattle.std.specs.Prelude.{is_none, ◌&&◌, int_lt}
 use Rattle.std.specs.FinMap as finmap
 use Rattle.std.specs.FinMap.{FinMap}
@@ -36,7 +37,8 @@ stop_stands : (s next : Operator) (o : Option (List ℕ)) → KeepsNames s next 
 stop_stands s next None k is = tt
 stop_stands s next (Some station) k is = k.stations station is
 
-closing_stands : (s next : Operator) (number : ℕ) (x : Rental) (o : Option Closing) → KeepsNames s next → (IsOut s number x.bike → IsOut next number x.bike) → IsOpenOrClosed s number x o → IsOpenOrClosed next number x o
+closing_stands : (s next : Operator) (number : ℕ) (x : Rental) (o : Option Closing) → KeepsNames s next → (IsOut s number x.bike → IsOut next number x.bike) → IsOpenOrClosed s number x o
+    → IsOpenOrClosed next number x o
 closing_stands s next number x None k out is = out is
 closing_stands s next number x (Some c) k out is =
     let by_now = is.by_now in
@@ -111,7 +113,8 @@ rentals_paid s now kept e order later no_fare refunded =
       few_rentals = omega (arith, few, more);
     }
 
-pub rentals_topped_up : (s : Operator) (now : ℕ) (kept : FinMap texts_cmp Kept) (rider amount : ℕ) → IsSound s → s.now ≤ now → AreRentalsSound (at_moment (with_entry TopUp rider 0 (pos amount) now s) now kept)
+pub rentals_topped_up : (s : Operator) (now : ℕ) (kept : FinMap texts_cmp Kept) (rider amount : ℕ) → IsSound s → s.now ≤ now
+    → AreRentalsSound (at_moment (with_entry TopUp rider 0 (pos amount) now s) now kept)
 rentals_topped_up s now kept rider amount order later =
     rentals_paid s now kept (record { number = length s.entries + 1; kind = TopUp; rider = rider; rental = 0; amount = pos amount; at = now }) order later refl
     (λ number x i.
@@ -139,7 +142,8 @@ rentals_refunded s now kept amount (Some r) order later is =
     at_most true z y h = h
     at_most false z y h = omega (arith, ints, h)
 
-    within : IsViewOf s r → on r.rental.closing (λ c. int_lt (c.fare -ℤ r.refunded) (pos amount)) ≡ false → is_open r.rental ≡ false → (number : ℕ) (x : Rental) → item_numbered number s.rentals ≡ Some x → Either number r.number
+    within : IsViewOf s r → on r.rental.closing (λ c. int_lt (c.fare -ℤ r.refunded) (pos amount)) ≡ false → is_open r.rental ≡ false → (number : ℕ) (x : Rental)
+        → item_numbered number s.rentals ≡ Some x → Either number r.number
         → (refunded_of number s.entries +ℤ cond (eqb r.number number) (pos amount) (pos 0)) ≤ℤ most_refunded x.closing
     within v e shut number x i (Same same) =
         let is_row : r.rental ≡ x = same_Some r.rental x (sym v.found ∙ ap (λ (n : ℕ). item_numbered n s.rentals) (sym same) ∙ i) in

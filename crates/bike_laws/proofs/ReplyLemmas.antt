@@ -95,7 +95,8 @@ started_good s station dock None order has is = (tt, refl)
 started_good s station dock (Some b) order has is = started_typed s b (finmap.get s.types b.1.type_id) order has (docked_is s station dock b is).found
 
 -- the entries of the next operator have one more, which is the fare
-fare_good : (s : Operator) (now : ℕ) (r : RentalView) (e : Entry) → IsSound s → IsViewOf s r → is_open r.rental ≡ true → e.amount ≡ fare_now r now → IsAnswer (Ended (fare_now r now) (balance_of r.rental.rider (s.entries ++ e ∷ [])))
+fare_good : (s : Operator) (now : ℕ) (r : RentalView) (e : Entry) → IsSound s → IsViewOf s r → is_open r.rental ≡ true → e.amount ≡ fare_now r now
+    → IsAnswer (Ended (fare_now r now) (balance_of r.rental.rider (s.entries ++ e ∷ [])))
 fare_good s now r e order v now_open is =
     let amount = fare_amount s now r order v in
     let low = amount.low in
@@ -107,13 +108,15 @@ fare_good s now r e order v now_open is =
       refl,
     )
 
-ended_good : (s : Operator) (now bike : ℕ) (station : List ℕ) (dock : ℕ) (o : Option RentalView) → IsSound s → ((r : RentalView) → o ≡ Some r → IsRentalOf s bike r) → IsAnswer (ended_reply s now o (after_end bike station dock now o s))
+ended_good : (s : Operator) (now bike : ℕ) (station : List ℕ) (dock : ℕ) (o : Option RentalView) → IsSound s → ((r : RentalView) → o ≡ Some r → IsRentalOf s bike r)
+    → IsAnswer (ended_reply s now o (after_end bike station dock now o s))
 ended_good s now bike station dock None order is = (tt, refl)
 ended_good s now bike station dock (Some r) order is =
     let at = is r refl in
     fare_good s now r _ order at.view at.not_closed refl
 
-recovered_good : (s : Operator) (now : ℕ) (o : Option RentalView) → IsSound s → ((r : RentalView) → o ≡ Some r → IsViewOf s r × (is_open r.rental ≡ true)) → IsAnswer (ended_reply s now o (after_recovery now o s))
+recovered_good : (s : Operator) (now : ℕ) (o : Option RentalView) → IsSound s → ((r : RentalView) → o ≡ Some r → IsViewOf s r × (is_open r.rental ≡ true))
+    → IsAnswer (ended_reply s now o (after_recovery now o s))
 recovered_good s now None order is = (tt, refl)
 recovered_good s now (Some r) order is =
     let at = is r refl in

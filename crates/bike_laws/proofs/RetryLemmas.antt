@@ -67,14 +67,16 @@ other_key s q key k none some = tells (eq_by_cmp texts_cmp key (key_in q)) refl 
   tells true e = let i : key ≡ key_in q = same_key key (key_in q) e in let j : finmap.get s.kept key ≡ None = ap (finmap.get s.kept) i ∙ none in absurd cc
   tells false e = refl
 
-decided_keeps : (s : Operator) (now : ℕ) (q : Request) (o : Option Refusal) (key : Key) (k : Kept) → finmap.get s.kept (key_in q) ≡ None → finmap.get s.kept key ≡ Some k → finmap.get (outcome s now q o).1.kept key ≡ Some k
+decided_keeps : (s : Operator) (now : ℕ) (q : Request) (o : Option Refusal) (key : Key) (k : Kept) → finmap.get s.kept (key_in q) ≡ None → finmap.get s.kept key ≡ Some k
+    → finmap.get (outcome s now q o).1.kept key ≡ Some k
 decided_keeps s now q (Some r) key k none some = some
 decided_keeps s now q None key k none some =
     finmap.get-insert texts_total s.kept (key_in q) (record { command = q.command; reply = reply_of s now q.command }) key
     ∙ ap (λ b. cond b (Some (record { command = q.command; reply = reply_of s now q.command })) (finmap.get s.kept key)) (other_key s q key k none some)
     ∙ some
 
-answered_keeps : (s : Operator) (t : ℕ) (q : Request) (o : Option Kept) (key : Key) (k : Kept) → finmap.get s.kept (key_in q) ≡ o → finmap.get s.kept key ≡ Some k → finmap.get (outcome_with_kept s t q o).1.kept key ≡ Some k
+answered_keeps : (s : Operator) (t : ℕ) (q : Request) (o : Option Kept) (key : Key) (k : Kept) → finmap.get s.kept (key_in q) ≡ o → finmap.get s.kept key ≡ Some k
+    → finmap.get (outcome_with_kept s t q o).1.kept key ≡ Some k
 answered_keeps s t q (Some kept) key k e some = some
 answered_keeps s t q None key k e some = decided_keeps s (max t s.now) q (refusal_of s q.command) key k e some
 

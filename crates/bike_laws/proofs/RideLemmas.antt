@@ -1,5 +1,6 @@
 -- Rentals that begin and end leave rentals sound.
-use Rattle.std.proofs.Common.{◌≡◌, ℕ, zero, suc, ◌+◌, ◌≤◌, pos, List, [], ◌∷◌, ◌++◌, length, length-append, Bool, true, false, cond, eqb, Option, Some, None, refl, sym, ap, ◌∙◌, subst, arith, inl, inr}
+use Rattle.std.proofs.Common.{◌≡◌, ℕ, zero, suc, ◌+◌, ◌≤◌, pos, List, [], ◌∷◌, ◌++◌, length, length-append, Bool, true, false, cond, eqb, Option, Some, None, refl, sym, ap, ◌∙◌, subst, arith, inl}
+use Rattle.std.proofs.Common.{inr}
 use Rattle.std.specs.Prelude.{is_some, ◌&&◌, ◌||◌}
 use Rattle.std.specs.List.{list_any}
 use Rattle.std.specs.FinMap as finmap
@@ -43,7 +44,8 @@ pub record IsDockedView (s : Operator) (station : List ℕ) (dock : ℕ) (b : Do
   pub type_found : finmap.get s.types row.type_id ≡ Some type
   pub plan_is : type.plan_id ≡ b.plan
 
-typed_is : (s : Operator) (station : List ℕ) (dock : ℕ) (x : ℕ × Bike) (o : Option TypeRow) (b : DockedBike) → docked_at s station dock ≡ Some x → finmap.get s.types x.1.type_id ≡ o → typed_bike x o ≡ Some b → IsDockedView s station dock b
+typed_is : (s : Operator) (station : List ℕ) (dock : ℕ) (x : ℕ × Bike) (o : Option TypeRow) (b : DockedBike) → docked_at s station dock ≡ Some x → finmap.get s.types x.1.type_id ≡ o
+    → typed_bike x o ≡ Some b → IsDockedView s station dock b
 typed_is s station dock x None b at types is = absurd cc
 typed_is s station dock x (Some t) b at types is =
     let d = docked_is s station dock x at in
@@ -163,7 +165,8 @@ rentals_started s now kept rider station dock (Some b) order later start is =
           refunded = omega (arith, ints, none);
         }
 
-    one_open : (a c : ℕ) (x y : Rental) → item_numbered a (s.rentals ++ added ∷ []) ≡ Some x → item_numbered c (s.rentals ++ added ∷ []) ≡ Some y → is_open x ≡ true → is_open y ≡ true → x.rider ≡ y.rider → a ≡ c
+    one_open : (a c : ℕ) (x y : Rental) → item_numbered a (s.rentals ++ added ∷ []) ≡ Some x → item_numbered c (s.rentals ++ added ∷ []) ≡ Some y → is_open x ≡ true → is_open y ≡ true
+        → x.rider ≡ y.rider → a ≡ c
     one_open a c x y i j p q same = elim (number_or_last a s.rentals added x i) [
       | inl v ↦ elim (number_or_last c s.rentals added y j) [
         | inl w ↦ order.rentals.riding a c x y v w p q same

@@ -74,7 +74,8 @@ rentals_fit (r ∷ rs) n bikes each = go (is_open r) refl (rentals_fit rs (n + 1
   later : AreInRentals rs (n + 1) bikes
   later i x at now = let next : n + suc i ≡ (n + 1) + i = omega arith in subst (λ (k : ℕ). IsInRental bikes k x.bike) next (each (suc i) x at now)
 
-  go : (now : Bool) → is_open r ≡ now → ((m : FinMap nat_cmp Bike) → AreInRentals rs (n + 1) m → count is_open rs ≤ finmap.len m) → length (cond now (r ∷ filter is_open rs) (filter is_open rs)) ≤ finmap.len bikes
+  go : (now : Bool) → is_open r ≡ now → ((m : FinMap nat_cmp Bike) → AreInRentals rs (n + 1) m → count is_open rs ≤ finmap.len m)
+      → length (cond now (r ∷ filter is_open rs) (filter is_open rs)) ≤ finmap.len bikes
   go false e fit = fit bikes later
   go true e fit =
       let own : IsInRental bikes (n + 0) r.bike = each 0 r refl e in

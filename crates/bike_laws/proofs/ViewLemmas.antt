@@ -70,11 +70,13 @@ refund_bounded s r sound v (Some c) is =
     }
 
 -- a rental in a view: what is booked of it is bounded
-charges_bounded : (s : Operator) (now : ℕ) (o : Option RentalView) → IsSound s → s.now ≤ now → ((r : RentalView) → o ≡ Some r → IsViewOf s r) → IfSome o (λ r. IfNone r.rental.closing (IsChargeable (length s.entries) now r))
+charges_bounded : (s : Operator) (now : ℕ) (o : Option RentalView) → IsSound s → s.now ≤ now → ((r : RentalView) → o ≡ Some r → IsViewOf s r)
+    → IfSome o (λ r. IfNone r.rental.closing (IsChargeable (length s.entries) now r))
 charges_bounded s now o sound later viewed =
     each_some o (λ r. IfNone r.rental.closing (IsChargeable (length s.entries) now r)) (λ r i. charge_bounded s now r sound later (viewed r i) r.rental.closing refl)
 
-refunds_bounded : (s : Operator) (o : Option RentalView) → IsSound s → ((r : RentalView) → o ≡ Some r → IsViewOf s r) → IfSome o (λ r. IfSome r.rental.closing (λ c. IsRefundable (length s.entries) r c.fare))
+refunds_bounded : (s : Operator) (o : Option RentalView) → IsSound s → ((r : RentalView) → o ≡ Some r → IsViewOf s r)
+    → IfSome o (λ r. IfSome r.rental.closing (λ c. IsRefundable (length s.entries) r c.fare))
 refunds_bounded s o sound viewed =
     each_some o (λ r. IfSome r.rental.closing (λ c. IsRefundable (length s.entries) r c.fare)) (λ r i. refund_bounded s r sound (viewed r i) r.rental.closing refl)
 

@@ -49,12 +49,14 @@ answers_given s (x ∷ xs) = take x.answered (replies s x.calls) ∷ answers_giv
 abbrev pub AcceptsOnce : Operator → List Session → Type 0
 AcceptsOnce s xs = (key : Key) → times_accepted s key (history xs) ≤ 1
 
--- once a request was accepted, one with its caller and key and an equal command is answered as it was, and changes nothing
+-- once a request was accepted, one with its caller and key and
+-- an equal command is answered as it was, and changes nothing
 abbrev pub AnswersAgain : Operator → List Session → Type 0
 AnswersAgain s xs = (before between later : List Call) (c d : Call)
     → history xs ≡ before ++ (c ∷ between) ++ later → is_accepted (after s before) c.1 ≡ true → key_in d.1 ≡ key_in c.1
     → is_same c.1.command d.1.command ≡ true
-    → step (after s (before ++ c ∷ between)) d.0 d.1 ≡ ((step (after s before) c.0 c.1).0, after s (before ++ c ∷ between))
+    → step (after s (before ++ c ∷ between)) d.0 d.1
+    ≡ ((step (after s before) c.0 c.1).0, after s (before ++ c ∷ between))
 
 -- and one with its caller and key and another command is refused, and changes nothing
 abbrev pub RefusesOthers : Operator → List Session → Type 0

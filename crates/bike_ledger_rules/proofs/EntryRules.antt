@@ -9,7 +9,7 @@ use Rattle.std.proofs.lemmas.Bool.{le-leb, leb-true, and_right}
 use Rattle.std.proofs.lemmas.Bool.Decides.{Decides-eqb, Decides-int_eq, Decides-ltb, Decides-and, Decides-like}
 use Rattle.std.proofs.lemmas.Option.{same_Some}
 use Rattle.sqlite_value.specs.Order.{Row, column}
-use Rattle.bike_rows.specs.View.{partner, row_with}
+use Rattle.bike_sql.specs.View.{partner, row_with}
 use Rattle.bike_ledger.specs.Entries.{Entry}
 use Rattle.bike_ledger.specs.declared.entry.EntryKind.{EntryKind}
 use Rattle.bike_ledger.specs.declared.entry.EntryKind.TheVariants.{TopUp, Fare, Refund}

@@ -22,9 +22,9 @@ use Rattle.bike_operator.specs.declared.records.Closing.{Closing}
 use Rattle.bike_operator.specs.Operator.{Operator, item_numbered}
 use Rattle.bike_operator.specs.Counts.{open_rentals, count}
 use Rattle.bike_operator.specs.Sound.{IsBooking, IsOfRental, is_fare}
-use Rattle.bike_rows.specs.View.{by_key}
-use Rattle.bike_rows.proofs.OrderLemmas.{Rises, all_has}
-use Rattle.bike_rows.proofs.TreeLemmas.{by_key_total}
+use Rattle.bike_sql.specs.View.{by_key}
+use Rattle.bike_sql.proofs.OrderLemmas.{Rises, all_has}
+use Rattle.bike_sql.proofs.TreeLemmas.{by_key_total}
 use Rattle.bike_book.specs.Tables.{Tables, Riders, Rentals, Entries}
 use Rattle.bike_schema.specs.Tables.{tables_of, IsOurs}
 use Rattle.bike_readings.specs.Bounds.{IsStoredRentalOf, IsStoredAmount}

@@ -1,5 +1,6 @@
 -- The pass over entries counts the fares of those before each.
-use Rattle.std.proofs.Common.{◌≡◌, inl, inr, ℕ, suc, ℤ, pos, ◌+◌, ◌<◌, ◌==◌, ◌&&◌, List, [], ◌∷◌, ◌++◌, append_assoc, length, length-append, map, take, Bool, true, cond, Some, refl, sym, ap, ◌∙◌, arith, replicate}
+use Rattle.std.proofs.Common.{◌≡◌, inl, inr, ℕ, suc, ℤ, pos, ◌+◌, ◌<◌, ◌==◌, ◌&&◌, List, [], ◌∷◌, ◌++◌, append_assoc, length, length-append, map, take, Bool, true, cond, Some, refl, sym, ap, ◌∙◌}
+use Rattle.std.proofs.Common.{arith, replicate}
 use Rattle.std.specs.List.{filter_map}
 use Rattle.std.specs.Ordering.{int_eq}
 use Rattle.std.proofs.lemmas.Bool.Decides.{Decides-int_eq}

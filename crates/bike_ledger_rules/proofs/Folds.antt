@@ -20,7 +20,8 @@ pub rentals_read : (rows : List Row) → map (λ e. e.1) (filter_map rental_in r
 rentals_read [] = refl
 rentals_read (r ∷ rows) = go (rental_read r) (rentals_read rows) where
   go : (o : Option (ℕ × Rental × ℤ)) → map (λ e. e.1) (filter_map rental_in rows) ≡ filter_map rental_of_row rows
-      → map (λ e. e.1) (cons_option (option_map (λ (e : ℕ × Rental × ℤ). (e.0, e.1)) o) (filter_map rental_in rows)) ≡ cons_option (option_map (λ (e : ℕ × Rental × ℤ). e.1) o) (filter_map rental_of_row rows)
+      → map (λ e. e.1) (cons_option (option_map (λ (e : ℕ × Rental × ℤ). (e.0, e.1)) o) (filter_map rental_in rows))
+      ≡ cons_option (option_map (λ (e : ℕ × Rental × ℤ). e.1) o) (filter_map rental_of_row rows)
   go None rest = rest
   go (Some e) rest = ap (λ (rs : List Rental). e.1 ∷ rs) rest
 

@@ -9,9 +9,9 @@ use Rattle.std.proofs.lemmas.Bool.Decides.{not_from_Decides}
 use Rattle.std.proofs.lemmas.Option.{same_Some}
 use Rattle.sqlite_value.specs.Order.{Row, row_cmp}
 use Rattle.sqlite_rules.specs.Lists.{Has}
-use Rattle.bike_rows.specs.View.{row_with}
-use Rattle.bike_rows.proofs.OrderLemmas.{Rises}
-use Rattle.bike_rows.proofs.TreeLemmas.{by_key_total}
+use Rattle.bike_sql.specs.View.{row_with}
+use Rattle.bike_sql.proofs.OrderLemmas.{Rises}
+use Rattle.bike_sql.proofs.TreeLemmas.{by_key_total}
 use Rattle.bike_book.proofs.MapRows.{StoresKeys}
 use Rattle.bike_readings.proofs.Places.{under_has, has_under}
 use Rattle.bike_ledger_rules.specs.Sums.{with_read}

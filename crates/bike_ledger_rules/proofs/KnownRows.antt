@@ -11,7 +11,7 @@ use Rattle.std.proofs.lemmas.List.{take_at}
 use Rattle.std.proofs.lemmas.Slice.Eq.{bytes_eq-Decides}
 use Rattle.sqlite_value.specs.Order.{Row, column}
 use Rattle.sqlite_rules.specs.Lists.{Has}
-use Rattle.bike_rows.specs.View.{partner}
+use Rattle.bike_sql.specs.View.{partner}
 use Rattle.bike_operator.specs.declared.records.Bike.{Bike}
 use Rattle.bike_operator.specs.Operator.{Rider, Station}
 use Rattle.bike_book.specs.Tables.{Tables, Riders, Bikes, Plans, Stations}

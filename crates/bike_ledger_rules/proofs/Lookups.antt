@@ -7,11 +7,12 @@ use Rattle.std.specs.FinMap.{FinMap}
 use Rattle.std.proofs.lemmas.Option.{same_Some}
 use Rattle.sqlite_value.specs.Order.{Row}
 use Rattle.sqlite_rules.specs.Lists.{Has}
-use Rattle.bike_rows.specs.View.{row_with}
+use Rattle.bike_sql.specs.View.{row_with}
 use Rattle.bike_book.proofs.MapRows.{StoresKeys, BeginsWithKey, found_entries}
 use Rattle.bike_readings.proofs.ReadLists.{IsStored, AreRowsOf}
 
-module _ {K X : Type 0} {R : K → K → Ordering} {keys : ℕ} {key_row : K → Row} {IsGood : K → Type 0} (h : StoresKeys R keys key_row IsGood) (every : (k : K) → IsGood k) (row : K × X → Row) (begins : BeginsWithKey h row)
+module _ {K X : Type 0} {R : K → K → Ordering} {keys : ℕ} {key_row : K → Row} {IsGood : K → Type 0} (h : StoresKeys R keys key_row IsGood) (every : (k : K) → IsGood k) (row : K × X → Row)
+    (begins : BeginsWithKey h row)
     (read : Row → Option (K × X)) (rows : List Row) (m : FinMap R X) (are : AreRowsOf h row begins read rows m) (stored : (r : Row) → Has rows r → IsStored read row r) where
   under : (k : K) → row_with keys (key_row k) rows ≡ option_map (λ v. row (k, v)) (fin.get m k)
   under k = ap (row_with keys (key_row k)) are.rows_are ∙ found_entries h row begins k (every k) m (λ q y is. every q)

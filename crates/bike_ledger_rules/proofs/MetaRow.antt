@@ -4,7 +4,7 @@ use Rattle.std.specs.Option.{IsSomeAnd}
 use Rattle.sqlite_value.specs.Order.{Row, column}
 use Rattle.sqlite_rules.specs.Lists.{Has}
 use Rattle.sqlite_tied.specs.Compute.{everything}
-use Rattle.bike_rows.specs.View.{row_with}
+use Rattle.bike_sql.specs.View.{row_with}
 use Rattle.bike_book.specs.Tables.{Tables, Meta}
 use Rattle.bike_book.specs.Rows.{number_value}
 use Rattle.bike_schema.specs.Columns.{moment_in, read_or_failed}

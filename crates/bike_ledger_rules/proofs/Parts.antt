@@ -4,7 +4,7 @@ use Rattle.std.specs.List.{list_any}
 use Rattle.std.proofs.lemmas.List.{take_at, drop_at, take_all}
 use Rattle.sqlite_value.specs.Order.{Row}
 use Rattle.sqlite_sql.specs.Ops.{is_null}
-use Rattle.bike_rows.specs.View.{partner, row_with}
+use Rattle.bike_sql.specs.View.{partner, row_with}
 use Rattle.bike_readings.proofs.Places.{under_has}
 use Rattle.bike_judges.specs.Lines.{nulls, or_nulls, with_one, part}
 use Rattle.bike_ledger_rules.proofs.RiderFolds.{AreWide}

@@ -3,13 +3,13 @@ use Rattle.std.proofs.Common.{◌≡◌, ℕ, List, length, refl, ap, subst, ◌
 use Rattle.sqlite_value.specs.Order.{Row}
 use Rattle.sqlite_rules.specs.Lists.{Has}
 use Rattle.sqlite.specs.Effect.{Database}
-use Rattle.bike_rows.specs.Layout.{Layout, table_of}
-use Rattle.bike_rows.specs.Stands.{rows_of, Stands}
-use Rattle.bike_rows.specs.View.{columns_of}
-use Rattle.bike_rows.proofs.FrameLemmas.{rows_of_is}
-use Rattle.bike_rows.proofs.ListLemmas.{map_has}
-use Rattle.bike_rows.proofs.OrderLemmas.{order_has}
-use Rattle.bike_rows.proofs.TreeLemmas.{by_key_total}
+use Rattle.bike_sql.specs.Layout.{Layout, table_of}
+use Rattle.bike_sql.specs.Stands.{rows_of, Stands}
+use Rattle.bike_sql.specs.View.{columns_of}
+use Rattle.bike_sql.proofs.FrameLemmas.{rows_of_is}
+use Rattle.bike_sql.proofs.RowListLemmas.{map_has}
+use Rattle.bike_sql.proofs.OrderLemmas.{order_has}
+use Rattle.bike_sql.proofs.TreeLemmas.{by_key_total}
 use Rattle.bike_book.specs.Tables.{Stations, Bikes, Rentals, Entries}
 use Rattle.bike_book.specs.declared.columns.stations.TheConstants as stations
 use Rattle.bike_book.specs.declared.columns.bikes.TheConstants as bikes
@@ -19,7 +19,8 @@ use Rattle.bike_schema.specs.Layouts.{layout_of}
 use Rattle.bike_schema.specs.Tables.{tables_of, HasTables}
 use Rattle.bike_ledger_rules.proofs.RiderFolds.{AreWide}
 
-wide : (width keys : ℕ) (layout : Layout) (db : Database) (it : Stands db keys layout) → ((r : Row) → length (columns_of (table_of layout it.tree) r) ≡ width) → AreWide width (rows_of keys layout.name db)
+wide : (width keys : ℕ) (layout : Layout) (db : Database) (it : Stands db keys layout) → ((r : Row) → length (columns_of (table_of layout it.tree) r) ≡ width)
+    → AreWide width (rows_of keys layout.name db)
 wide width keys layout db it each r has =
     let there = subst (λ (rows : List Row). Has rows r) (rows_of_is db keys layout it) has in
     let stored = order_has (by_key_total keys) _ r there in

@@ -1,5 +1,6 @@
 -- What is asked of the lines of entries: of each by itself, with its rental, and with the entries before it.
-use Rattle.std.specs.Prelude.{◌≡◌, ℕ, ℤ, pos, ◌+◌, ◌==◌, ◌&&◌, nat_lt, nat_le, Bool, true, false, if◌then◌else◌, List, [], ◌∷◌, length, take, fold, Option, Some, None, option_map}
+use Rattle.std.specs.Prelude.{◌≡◌, ℕ, ℤ, pos, ◌+◌, ◌==◌, ◌&&◌, nat_lt, nat_le, Bool, true, false, if◌then◌else◌, List}
+use Rattle.std.specs.Prelude.{[], ◌∷◌, length, take, fold, Option, Some, None, option_map}
 use Rattle.std.specs.Ordering.{int_eq}
 use Rattle.sqlite_value.specs.Order.{Row, column}
 use Rattle.bike_ledger.specs.Entries.{Entry}
@@ -10,7 +11,7 @@ use Rattle.bike_operator.specs.declared.records.Rental.{Rental}
 use Rattle.bike_operator.specs.declared.records.Closing.{Closing}
 use Rattle.bike_operator.specs.Counts.{is_open, open_rentals}
 use Rattle.bike_operator.specs.Sound.{is_fare}
-use Rattle.bike_rows.specs.View.{partner}
+use Rattle.bike_sql.specs.View.{partner}
 use Rattle.bike_book.specs.Tables.{Tables}
 use Rattle.bike_book.specs.declared.columns.rentals.TheConstants as rentals
 use Rattle.bike_book.specs.declared.columns.entries.TheConstants as entries
@@ -38,7 +39,8 @@ pub record IsRentalCount (t : Tables) (n : RentalCount) : Type 0 where
 
 -- ---- an entry by itself
 
--- Of so many entries before it it is the next one, there is room for it beside the open rentals, its rider is there, and it is of the past.
+-- Of so many entries before it it is the next one, there is room for it
+-- beside the open rentals, its rider is there, and it is of the past.
 abbrev pub is_next : (ℕ → Bool) → ℕ → ℕ → ℕ → Entry → Bool
 is_next riders now riding before e =
     (e.number == before + 1) && (nat_lt (before + riding) MOST_ENTRIES && (riders e.rider && nat_le e.at now))
@@ -91,7 +93,8 @@ is_first fares e = if is_fare e.kind then int_eq (sum_at fares e.rental) (pos 0)
 module _ (riders : ℕ → Bool) (now riding : ℕ) where
   abbrev pub passes : List ℤ → ℕ → Row → Option Entry → Bool
   passes fares before line None = false
-  passes fares before line (Some e) = is_next riders now riding before e && (is_booked e.kind e (line_rental line) && is_first fares e)
+  passes fares before line (Some e) =
+      is_next riders now riding before e && (is_booked e.kind e (line_rental line) && is_first fares e)
 
   -- of the entry in a line with its rental, before which so many stand with these fares
   abbrev pub entry_holds : List ℤ → ℕ → Row → Bool

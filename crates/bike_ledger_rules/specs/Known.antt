@@ -1,5 +1,6 @@
 -- What is known of numbers and identifiers: what the tables have under each, and the same as it is held in memory.
-use Rattle.std.specs.Prelude.{ℕ, ◌+◌, ◌-◌, List, ◌∷◌, [], ◌++◌, length, get_or, set, replicate, Bool, Option, Some, None, is_some, option_map, option_and_then}
+use Rattle.std.specs.Prelude.{ℕ, ◌+◌, ◌-◌, List, ◌∷◌, [], ◌++◌, length, get_or, set, replicate, Bool, Option, Some}
+use Rattle.std.specs.Prelude.{None, is_some, option_map, option_and_then}
 use Rattle.std.specs.FinSet as set
 use Rattle.sqlite_value.specs.declared.value.Value.TheVariants.{Text}
 use Rattle.sqlite_value.specs.Order.{Row}
@@ -63,7 +64,10 @@ bike_rental t number =
 -- of a line with the bicycle in front
 abbrev pub with_bike : BikeSet → Row → BikeSet
 with_bike a line =
-    record a { rentals = with_read (λ rentals b. with_value rentals b.0 (rental_at b.1.place)) a.rentals (bike_read (part 0 bikes.COLUMNS line)) }
+    record a {
+      rentals = with_read (λ rentals b. with_value rentals b.0 (rental_at b.1.place)) a.rentals
+          (bike_read (part 0 bikes.COLUMNS line));
+    }
 
 -- ---- plans and stations
 
@@ -81,7 +85,10 @@ has_station t id = is_some (option_and_then station_read (row_under t Stations (
 -- of a line with the station in front
 abbrev pub with_station : StationSet → Row → StationSet
 with_station a line =
-    record a { idents = with_read (λ idents e. set.insert idents e.0) a.idents (station_read (part 0 stations.COLUMNS line)) }
+    record a {
+      idents = with_read (λ idents e. set.insert idents e.0) a.idents
+          (station_read (part 0 stations.COLUMNS line));
+    }
 
 -- ---- all that rentals name
 

@@ -20,4 +20,5 @@ MetaGood t = (key : Row) → IsGoodKey t Meta key
 
 -- what was found is the first key of the table whose row fails the test
 abbrev pub FindsFailing : TableName → (Tables → ℕ → Row → Bool) → Database → Option BadKey → Type 0
-FindsFailing name test db found = IsFirstFailing (tables_of db) name (Demands (tables_of db) name (test (tables_of db))) (option_map key_row found)
+FindsFailing name test db found =
+    IsFirstFailing (tables_of db) name (Demands (tables_of db) name (test (tables_of db))) (option_map key_row found)

@@ -1,5 +1,6 @@
 -- What is asked of a rental: of what it names, of how it ended, and of what its entries come to.
-use Rattle.std.specs.Prelude.{◌≡◌, ◌≤◌, ℕ, ℤ, pos, ◌+◌, ◌==◌, ◌&&◌, ◌||◌, nat_le, int_le, Bool, true, false, if◌then◌else◌, List, length, Option, Some, None}
+use Rattle.std.specs.Prelude.{◌≡◌, ◌≤◌, ℕ, ℤ, pos, ◌+◌, ◌==◌, ◌&&◌, ◌||◌, nat_le, int_le, Bool, true, false}
+use Rattle.std.specs.Prelude.{if◌then◌else◌, List, length, Option, Some, None}
 use Rattle.std.specs.Ordering.{int_eq}
 use Rattle.sqlite_value.specs.Order.{Row}
 use Rattle.bike_ledger.specs.Entries.{Entry}
@@ -32,7 +33,8 @@ is_out number r (Some rental) = if is_open r then is_in number rental else true
 -- its rider, its plan, the station where it began and its bicycle are there
 abbrev pub names_test : Known → ℕ × Rental × ℤ → Bool
 names_test known e =
-    (known.riders e.1.rider && known.plans e.1.plan) && (known.stations e.1.from_station && is_out e.0 e.1 (known.bikes e.1.bike))
+    (known.riders e.1.rider && known.plans e.1.plan)
+    && (known.stations e.1.from_station && is_out e.0 e.1 (known.bikes e.1.bike))
 
 -- ---- how it ended
 
@@ -79,7 +81,8 @@ rental_test now t before row = passes (known_in t) now (fare_count t) (refund_su
 
 -- the same by what is held in memory
 abbrev pub held_test : ℕ → Names → RentalEntries → ℕ → Row → Bool
-held_test now names a before row = passes (held_in names) now (sum_at a.fares) (sum_at a.refunds) before (rental_read row)
+held_test now names a before row =
+    passes (held_in names) now (sum_at a.fares) (sum_at a.refunds) before (rental_read row)
 
 -- ---- the sums of entries
 

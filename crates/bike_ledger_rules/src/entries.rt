@@ -2,7 +2,7 @@
 
 ghost use Rattle.std.specs.Prelude.{◌≡◌, Some};
 ghost use Rattle.bike_book.specs.Tables.{Entries};
-ghost use Rattle.bike_rows.specs.Calls.{ReadsWhere};
+ghost use Rattle.bike_sql.specs.Calls.{ReadsWhere};
 ghost use Rattle.bike_schema.specs.Tables.{IsOurs};
 ghost use Rattle.bike_judges.specs.Verdicts.{JudgesTable};
 ghost use Rattle.bike_readings.specs.Views.{rental_of, entry_of};
@@ -14,7 +14,7 @@ use crate::known::read_riders;
 use crate::moment::find_moment;
 use crate::numbers::ByNumber;
 use crate::open_rentals::count_rentals;
-use crate::sums::Sums;
+use crate::sums::NumberedSums;
 use bike_book::columns::{entries, rentals};
 use bike_fixed::Moment;
 use bike_judges::{BadKey, Judge, Query, judge_lines};
@@ -68,7 +68,7 @@ struct EntryJudge {
     /// How many rentals are open.
     riding: u64,
     /// How many fares each rental had so far.
-    fares: Sums,
+    fares: NumberedSums,
     /// How many entries there were so far.
     before: u64,
 }
@@ -139,7 +139,7 @@ pub fn judge_entries<S: Alter>(
     let moment = find_moment(conn)?;
     let rentals = count_rentals(conn)?;
     let riders = read_riders(alloc, conn)?;
-    let fares = Sums::zeros(alloc, rentals.next)?;
+    let fares = NumberedSums::zeros(alloc, rentals.next)?;
     let judge = EntryJudge {
         riders,
         moment,

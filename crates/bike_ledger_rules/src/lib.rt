@@ -5,7 +5,7 @@
 //!
 //! Each query walks one table in the order of its key, alone or with one partner beside each row, so the database holds
 //! no table in memory. What each rental or entry names is read once, into sets of numbers and identifiers (`known`),
-//! which the limits of a city bound. What is summed over another table stands in `Sums`, an array by number.
+//! which the limits of a city bound. What is summed over another table stands in `NumberedSums`, an array by number.
 #![tactic(auto)]
 
 mod columns;

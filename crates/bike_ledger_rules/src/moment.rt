@@ -2,16 +2,16 @@
 
 ghost use Rattle.std.specs.Prelude.{◌≡◌, [], ◌∷◌};
 ghost use Rattle.bike_book.specs.Rows.{number_value};
-ghost use Rattle.bike_rows.specs.Calls.{ReadsWhere};
-ghost use Rattle.bike_rows.specs.View.{row_with};
+ghost use Rattle.bike_sql.specs.Calls.{ReadsWhere};
+ghost use Rattle.bike_sql.specs.View.{row_with};
 ghost use Rattle.bike_readings.specs.ReadOff.{moment_of};
 ghost use Rattle.bike_schema.specs.Tables.{IsOurs, tables_of};
 ghost use Rattle.bike_ledger_rules.specs.Lines.{MetaGood};
 
 use bike_book::columns::meta;
 use bike_fixed::Moment;
-use bike_rows::lookup::first_row;
 use bike_schema::{StatementFault, moment_at};
+use bike_sql::lookup::first_row;
 use sqlite::{Alter, Connection, Row, params};
 
 /// Row 1 of `meta`.

@@ -1,14 +1,14 @@
 //! What the entries of rentals come to, by the rental's number.
 
 ghost use Rattle.std.specs.Prelude.{◌≡◌, IfOk, replicate, pos};
-ghost use Rattle.bike_rows.specs.Calls.{ReadsWhere};
+ghost use Rattle.bike_sql.specs.Calls.{ReadsWhere};
 ghost use Rattle.bike_schema.specs.Tables.{IsOurs, tables_of};
 ghost use Rattle.bike_readings.specs.Views.{rental_of};
 ghost use Rattle.bike_ledger_rules.specs.Sums.{sum_at};
 ghost use Rattle.bike_ledger_rules.specs.Rentals.{is_booked, books_test, with_line, AreSums};
 
 use crate::open_rentals::count_rentals;
-use crate::sums::Sums;
+use crate::sums::NumberedSums;
 use bike_judges::{LineFold, Query, fold_lines};
 use bike_ledger::EntryKind;
 use bike_readings::{Part, StoredRental, read_entry, read_rental};
@@ -20,9 +20,9 @@ use std::alloc::Global;
 #[derive(Debug, Drop)]
 pub(crate) struct RentalEntries {
     /// How many of them are fares.
-    fares: Sums,
+    fares: NumberedSums,
     /// The sum of its refunds, in hundredths.
-    refunds: Sums,
+    refunds: NumberedSums,
 }
 
 impl LineFold for RentalEntries {
@@ -74,8 +74,8 @@ fn no_entries(alloc: Global, next: usize) -> Result<RentalEntries, StatementFaul
     ensures fares { IfOk result (λ sums. sums.fares ≡ replicate next (pos 0)) }
     ensures refunds { IfOk result (λ sums. sums.refunds ≡ replicate next (pos 0)) }
 {
-    let fares = Sums::zeros(alloc, next)?;
-    let refunds = Sums::zeros(alloc, next)?;
+    let fares = NumberedSums::zeros(alloc, next)?;
+    let refunds = NumberedSums::zeros(alloc, next)?;
     Ok(RentalEntries { fares, refunds })
 }
 

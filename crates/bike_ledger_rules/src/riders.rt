@@ -2,7 +2,7 @@
 
 ghost use Rattle.std.specs.Prelude.{◌≡◌, fold};
 ghost use Rattle.bike_book.specs.Tables.{Riders};
-ghost use Rattle.bike_rows.specs.Calls.{ReadsWhere};
+ghost use Rattle.bike_sql.specs.Calls.{ReadsWhere};
 ghost use Rattle.bike_schema.specs.Tables.{IsOurs, tables_of};
 ghost use Rattle.bike_readings.specs.ReadOff.{operator_of};
 ghost use Rattle.bike_judges.specs.Verdicts.{JudgesTable};
@@ -11,7 +11,7 @@ ghost use Rattle.bike_ledger_rules.specs.Riders.{with_number, with_entry, with_r
 ghost use Rattle.bike_ledger_rules.specs.Riders.{rider_test, ArePast};
 
 use crate::columns::number_key;
-use crate::sums::Sums;
+use crate::sums::NumberedSums;
 use bike_judges::{BadKey, LineFold, LineJudge, LineTest, Query, fold_lines, judge_lines};
 use bike_ledger::EntryKind;
 use bike_operator::MOST_RIDERS;
@@ -42,7 +42,7 @@ impl LineFold for RiderNumbers {
 #[derive(Debug, Drop)]
 struct Balances {
     /// By the rider's number, in hundredths.
-    sums: Sums,
+    sums: NumberedSums,
 }
 
 impl LineFold for Balances {
@@ -65,7 +65,7 @@ impl LineFold for Balances {
 #[derive(Debug, Drop)]
 struct OpenRides {
     /// By the rider's number.
-    counts: Sums,
+    counts: NumberedSums,
 }
 
 impl LineFold for OpenRides {
@@ -84,9 +84,9 @@ impl LineFold for OpenRides {
 #[derive(Debug, Drop)]
 struct RiderTest {
     /// What the entries of each rider come to, in hundredths.
-    balances: Sums,
+    balances: NumberedSums,
     /// How many rentals of each rider are open.
-    rides: Sums,
+    rides: NumberedSums,
 }
 
 impl LineTest for RiderTest {
@@ -120,7 +120,10 @@ fn past_riders<S: Alter>(conn: &mut Connection<S>) -> Result<usize, StatementFau
 }
 
 /// The sums with what each entry adds to its rider's.
-fn add_entries<S: Alter>(conn: &mut Connection<S>, sums: Sums) -> Result<Sums, StatementFault>
+fn add_entries<S: Alter>(
+    conn: &mut Connection<S>,
+    sums: NumberedSums,
+) -> Result<NumberedSums, StatementFault>
     ensures { ReadsWhere S.Store IsOurs conn.old conn.new result
         (λ db balances. balances ≡ fold with_credit sums (operator_of (tables_of db)).entries) }
 {
@@ -129,7 +132,10 @@ fn add_entries<S: Alter>(conn: &mut Connection<S>, sums: Sums) -> Result<Sums, S
 }
 
 /// The counts with one more of its rider for each open rental.
-fn count_rides<S: Alter>(conn: &mut Connection<S>, counts: Sums) -> Result<Sums, StatementFault>
+fn count_rides<S: Alter>(
+    conn: &mut Connection<S>,
+    counts: NumberedSums,
+) -> Result<NumberedSums, StatementFault>
     ensures { ReadsWhere S.Store IsOurs conn.old conn.new result
         (λ db rides. rides ≡ fold with_ride counts (operator_of (tables_of db)).rentals) }
 {
@@ -140,8 +146,8 @@ fn count_rides<S: Alter>(conn: &mut Connection<S>, counts: Sums) -> Result<Sums,
 /// The first rider that fails the test with these sums and counts.
 fn judge_rows<S: Alter>(
     conn: &mut Connection<S>,
-    balances: Sums,
-    rides: Sums,
+    balances: NumberedSums,
+    rides: NumberedSums,
 ) -> Result<Option<BadKey>, StatementFault>
     ensures { ReadsWhere S.Store IsOurs conn.old conn.new result
         (FindsFailing Riders (λ t. rider_test balances rides)) }
@@ -163,7 +169,7 @@ pub fn judge_riders<S: Alter>(
     ensures { ReadsWhere S.Store IsOurs conn.old conn.new result (JudgesTable Riders) }
 {
     let past = past_riders(conn)?;
-    let balances = add_entries(conn, Sums::zeros(alloc, past)?)?;
-    let rides = count_rides(conn, Sums::zeros(alloc, past)?)?;
+    let balances = add_entries(conn, NumberedSums::zeros(alloc, past)?)?;
+    let rides = count_rides(conn, NumberedSums::zeros(alloc, past)?)?;
     judge_rows(conn, balances, rides)
 }

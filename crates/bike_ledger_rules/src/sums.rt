@@ -11,22 +11,22 @@ use std::marker::Model;
 
 /// A sum for each number below a length, in hundredths or as a count.
 #[derive(Debug, Drop)]
-pub(crate) struct Sums {
+pub(crate) struct NumberedSums {
     sums: Vec<i64>,
 }
 
-impl Model for Sums {
+impl Model for NumberedSums {
     ghost Value = { List ℤ };
 
     ghost view = { λ s. s.sums.items };
 }
 
-impl Sums {
+impl NumberedSums {
     /// So many sums of nothing. It is an error where memory is refused.
-    pub(crate) fn zeros(alloc: Global, length: usize) -> Result<Sums, AllocError>
+    pub(crate) fn zeros(alloc: Global, length: usize) -> Result<NumberedSums, AllocError>
         ensures { IfOk result (λ sums. sums ≡ replicate length (pos 0)) }
     {
-        Ok(Sums {
+        Ok(NumberedSums {
             sums: vec![in alloc; 0; length]?,
         })
     }

@@ -7,8 +7,9 @@ use Rattle.sqlite_value.specs.Order.{Row}
 use Rattle.sqlite_schema.specs.declared.schema.Schema.{Schema}
 use Rattle.sqlite_schema.specs.Names.{table_named}
 use Rattle.sqlite.specs.Effect.{Database, IsDatabase}
-use Rattle.bike_rows.specs.Stands.{rows_of, Stands, Indexes}
-use Rattle.bike_book.specs.Tables.{TableName, keys_of, rows_in, tables_by, with_rows, Meta, System, Plans, Segments, Types, Regions, Stations, Docks, Bikes, Trucks, Riders, Rentals, Orders, Entries, Kept, Counts, MoreNames}
+use Rattle.bike_sql.specs.Stands.{rows_of, Stands, Indexes}
+use Rattle.bike_book.specs.Tables.{TableName, keys_of, rows_in, tables_by, with_rows, Meta, System, Plans, Segments, Types, Regions, Stations, Docks, Bikes, Trucks, Riders, Rentals, Orders, Entries}
+use Rattle.bike_book.specs.Tables.{Kept, Counts, MoreNames}
 use Rattle.bike_schema.specs.Layouts.{layout_of, layout_in, has_primary, name_of}
 use Rattle.bike_schema.proofs.LayoutLemmas.{all_by}
 use Rattle.bike_schema.specs.Makes.{OthersStay}

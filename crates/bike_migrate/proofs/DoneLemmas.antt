@@ -6,7 +6,7 @@ use Rattle.std.proofs.lemmas.Bool.{or_parts}
 use Rattle.std.proofs.lemmas.List.Folds.{list_any-append}
 use Rattle.sqlite_value.specs.Order.{Row}
 use Rattle.sqlite.specs.Effect.{Database}
-use Rattle.bike_rows.specs.Stands.{is_same_text, Stands, Stays}
+use Rattle.bike_sql.specs.Stands.{is_same_text, Stands, Stays}
 use Rattle.bike_book.specs.Tables.{TableName, Tables, Kept, MoreNames, keys_of, tables_by}
 use Rattle.bike_schema.specs.Layouts.{layout_in, has_primary, name_of, every_table}
 use Rattle.bike_schema.proofs.LayoutLemmas.{all_by}
@@ -26,7 +26,8 @@ use Rattle.bike_migrate.proofs.SpareLemmas.{spares_then, spares_less, among_firs
 
 -- ---- the verdict
 
-pub verdict_raised : (e : Earlier) (a b : Database) (rows : List Row) (bad : Option (TableName × Row)) → IsEarlier e a → rows ≡ old_stations e a → Fills e a b → (AreCopies rows (tables_of b).stations → IsVerdictBefore (tables_of b) bad)
+pub verdict_raised : (e : Earlier) (a b : Database) (rows : List Row) (bad : Option (TableName × Row)) → IsEarlier e a → rows ≡ old_stations e a → Fills e a b
+    → (AreCopies rows (tables_of b).stations → IsVerdictBefore (tables_of b) bad)
     → IsVerdictBefore (tables_raised e a) bad
 verdict_raised e a b rows bad was are filled verdict =
     let copies : AreCopies rows (tables_of b).stations =
@@ -55,7 +56,9 @@ none_mapped p (t ∷ ts) = ap (λ b. p (name_of t) || b) (none_mapped p ts)
 
 module _ (name : List ℕ) (other : is_product_name name ≡ false) where
   parts : (list_any (is_same_text name) (map name_of every_table) ≡ false) × (list_any (is_same_text name) other_names ≡ false)
-  parts = or_parts (list_any (is_same_text name) (map name_of every_table)) (list_any (is_same_text name) other_names) (sym (list_any-append (is_same_text name) (map name_of every_table) other_names) ∙ other)
+  parts =
+      or_parts (list_any (is_same_text name) (map name_of every_table)) (list_any (is_same_text name) other_names)
+      (sym (list_any-append (is_same_text name) (map name_of every_table) other_names) ∙ other)
 
   not_ours : is_our_name name ≡ false
   not_ours = sym (none_mapped (is_same_text name) every_table) ∙ parts.0

@@ -4,13 +4,13 @@ use Rattle.std.proofs.lemmas.List.{take_more, map-append}
 use Rattle.sqlite_value.specs.Order.{Row, row_cmp}
 use Rattle.sqlite_rules.specs.Lists.{Has}
 use Rattle.sqlite.specs.Effect.{Database}
-use Rattle.bike_rows.specs.Layout.{Layout, table_of}
-use Rattle.bike_rows.specs.Stands.{rows_of, Stands}
-use Rattle.bike_rows.specs.View.{columns_of, by_key, put_row_by}
-use Rattle.bike_rows.proofs.FrameLemmas.{rows_of_is}
-use Rattle.bike_rows.proofs.ListLemmas.{map_has}
-use Rattle.bike_rows.proofs.OrderLemmas.{Rises, rises, order_has, all_has, all_from}
-use Rattle.bike_rows.proofs.TreeLemmas.{by_key_total}
+use Rattle.bike_sql.specs.Layout.{Layout, table_of}
+use Rattle.bike_sql.specs.Stands.{rows_of, Stands}
+use Rattle.bike_sql.specs.View.{columns_of, by_key, put_row_by}
+use Rattle.bike_sql.proofs.FrameLemmas.{rows_of_is}
+use Rattle.bike_sql.proofs.RowListLemmas.{map_has}
+use Rattle.bike_sql.proofs.OrderLemmas.{Rises, rises, order_has, all_has, all_from}
+use Rattle.bike_sql.proofs.TreeLemmas.{by_key_total}
 use Rattle.bike_book.specs.Tables.{Tables, Stations, MoreNames, with_rows}
 use Rattle.bike_book.specs.Writes.{Add, tables_after, tables_after_all}
 use Rattle.bike_schema.specs.Layouts.{name_of}
@@ -26,18 +26,24 @@ use Rattle.bike_migrate.proofs.SpareLemmas.{spares_then, spares_all, index_spare
 use Rattle.bike_migrate.specs.Stations.{station_row, AreCopies}
 
 -- one station more
-writes_more : (rows : List Row) (i : ℕ) (row : Row) → i < length rows → row ≡ get_or rows i row → station_writes (take (i + 1) rows) ≡ station_writes (take i rows) ++ Add Stations (station_row row) ∷ []
+writes_more : (rows : List Row) (i : ℕ) (row : Row) → i < length rows → row ≡ get_or rows i row
+    → station_writes (take (i + 1) rows) ≡ station_writes (take i rows) ++ Add Stations (station_row row) ∷ []
 writes_more rows i row within is =
-    ap station_writes (take_more rows i row within) ∙ map-append (λ r. Add Stations (station_row r)) (take i rows) (get_or rows i row ∷ []) ∙ ap (λ r. station_writes (take i rows) ++ Add Stations (station_row r) ∷ []) (sym is)
+    ap station_writes (take_more rows i row within) ∙ map-append (λ r. Add Stations (station_row r)) (take i rows) (get_or rows i row ∷ [])
+    ∙ ap (λ r. station_writes (take i rows) ++ Add Stations (station_row r) ∷ []) (sym is)
 
-makes_more : (rows : List Row) (i : ℕ) (row : Row) → i < length rows → row ≡ get_or rows i row → (a b c : Database) → Makes (version_write ∷ station_writes (take i rows)) a b → Makes (Add Stations (station_row row) ∷ []) b c
+makes_more : (rows : List Row) (i : ℕ) (row : Row) → i < length rows → row ≡ get_or rows i row → (a b c : Database) → Makes (version_write ∷ station_writes (take i rows)) a b
+    → Makes (Add Stations (station_row row) ∷ []) b c
     → Makes (version_write ∷ station_writes (take (i + 1) rows)) a c
 makes_more rows i row within is a b c first second =
-    subst (λ ws. Makes (version_write ∷ ws) a c) (sym (writes_more rows i row within is)) (makes_then (version_write ∷ station_writes (take i rows)) (Add Stations (station_row row) ∷ []) a b c first second)
+    subst (λ ws. Makes (version_write ∷ ws) a c) (sym (writes_more rows i row within is))
+    (makes_then (version_write ∷ station_writes (take i rows)) (Add Stations (station_row row) ∷ []) a b c first second)
 
-pub more_only : (rows : List Row) (i : ℕ) (row : Row) → i < length rows → row ≡ get_or rows i row → (a b c : Database) → WritesOnly (version_write ∷ station_writes (take i rows)) a b → WritesOnly (Add Stations (station_row row) ∷ []) b c
+pub more_only : (rows : List Row) (i : ℕ) (row : Row) → i < length rows → row ≡ get_or rows i row → (a b c : Database) → WritesOnly (version_write ∷ station_writes (take i rows)) a b
+    → WritesOnly (Add Stations (station_row row) ∷ []) b c
     → WritesOnly (version_write ∷ station_writes (take (i + 1) rows)) a c
-more_only rows i row within is a b c first second = record { makes = makes_more rows i row within is a b c first.makes second.makes; spares = spares_then filled_names a b c first.spares second.spares }
+more_only rows i row within is a b c first second =
+    record { makes = makes_more rows i row within is a b c first.makes second.makes; spares = spares_then filled_names a b c first.spares second.spares }
 
 -- ---- rows put one after another, in the order of their keys
 
@@ -81,7 +87,8 @@ map_same_in f g (x ∷ xs) same = ap₂ ◌∷◌ (same x (inl refl)) (map_same_
 rising_map : (f : Row → Row) (xs : List Row) → ((a b : Row) → Has xs a → Has xs b → by_key 1 (f a) (f b) ≡ by_key 1 a b) → Rises (by_key_total 1) xs → Rises (by_key_total 1) (map f xs)
 rising_map f [] same up = tt
 rising_map f (x ∷ xs) same up = (
-  all_from (λ y. by_key 1 (f x) y ≡ Less) (map f xs) (λ y h. let it = map_has f xs y h in subst (λ z. by_key 1 (f x) z ≡ Less) (sym it.2) (same x it.0 (inl refl) (inr it.1) ∙ all_has (λ z. by_key 1 x z ≡ Less) xs it.0 up.0 it.1)),
+  all_from (λ y. by_key 1 (f x) y ≡ Less) (map f xs) (λ y h. let it = map_has f xs y h in subst (λ z. by_key 1 (f x) z ≡ Less) (sym it.2)
+      (same x it.0 (inl refl) (inr it.1) ∙ all_has (λ z. by_key 1 x z ≡ Less) xs it.0 up.0 it.1)),
   rising_map f xs (λ a b p q. same a b (inr p) (inr q)) up.1,
 )
 
@@ -96,7 +103,8 @@ first_copied tree r = record { whole = refl; key = refl }
 second_copied : (tree : ℕ) (r : Row) → IsCopied Second (columns_of (table_of (stations_layout Second) tree) r)
 second_copied tree r = record { whole = refl; key = refl }
 
-shown : (keys : ℕ) (layout : Layout) (db : Database) (was : Stands db keys layout) (P : Row → Type 0) → ((r : Row) → P (columns_of (table_of layout was.tree) r)) → (row : Row) → Has (rows_of keys layout.name db) row → P row
+shown : (keys : ℕ) (layout : Layout) (db : Database) (was : Stands db keys layout) (P : Row → Type 0) → ((r : Row) → P (columns_of (table_of layout was.tree) r)) → (row : Row)
+    → Has (rows_of keys layout.name db) row → P row
 shown keys layout db was P each row has =
     let f = columns_of (table_of layout was.tree) in
     let there = subst (λ rows. Has rows row) (rows_of_is db keys layout was) has in
@@ -108,7 +116,8 @@ copied First db was = shown 1 (stations_layout First) db was (IsCopied First) (f
 copied Second db was = shown 1 (stations_layout Second) db was (IsCopied Second) (second_copied was.tree)
 
 in_order_there : (keys : ℕ) (layout : Layout) (db : Database) → Stands db keys layout → Rises (by_key_total keys) (rows_of keys layout.name db)
-in_order_there keys layout db was = subst (Rises (by_key_total keys)) (sym (rows_of_is db keys layout was)) (rises (by_key_total keys) (map (columns_of (table_of layout was.tree)) (db.trees was.tree)))
+in_order_there keys layout db was =
+    subst (Rises (by_key_total keys)) (sym (rows_of_is db keys layout was)) (rises (by_key_total keys) (map (columns_of (table_of layout was.tree)) (db.trees was.tree)))
 
 old_rise : (e : Earlier) (db : Database) → Stands db 1 (stations_layout e) → Rises (by_key_total 1) (old_stations e db)
 old_rise First db was = in_order_there 1 (stations_layout First) db was
@@ -171,7 +180,9 @@ fills e a b c rows at are made only = record {
   raised = record {
     sound = only.makes.sound;
     has = only.makes.has;
-    tables = only.makes.tables ∙ ap (tables_after_all (version_write ∷ station_writes rows)) made.tables ∙ ap (λ rs. tables_after_all (version_write ∷ station_writes rs) (with_rows Stations [] (tables_at e a))) are ∙ filled_are e a at;
+    tables =
+        only.makes.tables ∙ ap (tables_after_all (version_write ∷ station_writes rows)) made.tables
+        ∙ ap (λ rs. tables_after_all (version_write ∷ station_writes rs) (with_rows Stations [] (tables_at e a))) are ∙ filled_are e a at;
   };
   indexes = still_indexed b c only.spares made.indexes;
   others = stay_then a b c made.others only.makes.others;

@@ -1,5 +1,6 @@
 -- What was found of a database, and what came of it.
-use Rattle.std.proofs.Common.{◌≡◌, ◌==◌, inl, inr, ℕ, Bool, true, false, Option, Some, None, Result, Ok, Err, IfOk, OnOk, IsErr, Ordering, Less, Equal, Greater, if◌then◌else◌, refl, sym, ap, subst, ◌∙◌, arith}
+use Rattle.std.proofs.Common.{◌≡◌, ◌==◌, inl, inr, ℕ, Bool, true, false, Option, Some, None, Result, Ok, Err, IfOk, OnOk, IsErr, Ordering, Less, Equal, Greater, if◌then◌else◌, refl, sym, ap, subst}
+use Rattle.std.proofs.Common.{◌∙◌, arith}
 use Rattle.std.specs.Prelude.{option_map}
 use Rattle.std.specs.Ordering.{nat_cmp}
 use Rattle.std.proofs.lemmas.Bool.{eqb-true}
@@ -8,16 +9,16 @@ use Rattle.sqlite.specs.Effect.{Database}
 use Rattle.sqlite.specs.Held.{Held, state}
 use Rattle.sqlite.specs.State.{HasCleanDisk, IsUnchanged, Survives}
 use Rattle.sqlite.proofs.StateLemmas.{survives_then}
-use Rattle.bike_rows.proofs.ChainLaws.{quiet_survives}
+use Rattle.bike_sql.proofs.ChainLaws.{quiet_survives}
 use Rattle.bike_book.specs.declared.version.TheConstants.{NEWEST}
 use Rattle.bike_schema.specs.declared.fault.StatementFault.{StatementFault}
 use Rattle.bike_schema.specs.Tables.{HasTables, HasNone}
 use Rattle.bike_recognition.specs.Recognition.{ReadsAny, meta_version}
 use Rattle.bike_recognition.specs.declared.version.MetaVersion.{MetaVersion}
 use Rattle.bike_recognition.specs.declared.version.MetaVersion.TheVariants.{Missing, Version, NotOurs}
-use Rattle.bike_adoption.specs.Audit.{row_name, IsAudited, IsBadIn}
-use Rattle.bike_adoption.specs.Finding.TheVariants as finding
-use Rattle.bike_adoption.specs.BadRow.{BadRow}
+use Rattle.bike_audit.specs.Audit.{row_name, IsAudited, IsBadIn}
+use Rattle.bike_audit.specs.declared.finding.Finding.TheVariants as finding
+use Rattle.bike_audit.specs.declared.tables.BadRow.{BadRow}
 use Rattle.bike_recognition.specs.declared.earlier_versions.earlier.Earlier.{Earlier}
 use Rattle.bike_recognition.specs.declared.earlier_versions.earlier.Earlier.TheVariants.{First, Second}
 use Rattle.bike_recognition.specs.declared.earlier_versions.found.Found.{Found}
@@ -117,7 +118,8 @@ module _ (db : Database) where
 
 -- ---- what came of it, where it is of the newest version
 
-module _ {S : Type 0} (g : Ghosts S) (old mid : Held S) {E : Type 0} (read : ReadsAny {E = E} g old mid (Ok found.Newest) IsFoundAs) (new : Held S) (bad : Option BadRow) {F : Type 0} (audited : ReadsAny {E = F} g mid new (Ok bad) IsOnNewest) (outside : old.in_transaction ≡ false) where
+module _ {S : Type 0} (g : Ghosts S) (old mid : Held S) {E : Type 0} (read : ReadsAny {E = E} g old mid (Ok found.Newest) IsFoundAs) (new : Held S) (bad : Option BadRow) {F : Type 0}
+    (audited : ReadsAny {E = F} g mid new (Ok bad) IsOnNewest) (outside : old.in_transaction ≡ false) where
   first_clean : HasCleanDisk (state g new) → HasCleanDisk (state g mid)
   first_clean clean = omega (arith, clean, audited.quiet.survives.clean)
 
@@ -128,7 +130,13 @@ module _ {S : Type 0} (g : Ghosts S) (old mid : Held S) {E : Type 0} (read : Rea
   both_before clean =
       let first = (first_same clean).0 in
       let second = (audited.same clean tt).0 in
-      record { was_open = first.was_open; is_open = second.is_open; now_is = second.now_is ∙ first.now_is; committed_is = second.committed_is ∙ first.committed_is; mode = second.mode ∙ first.mode ∙ outside }
+      record {
+        was_open = first.was_open;
+        is_open = second.is_open;
+        now_is = second.now_is ∙ first.now_is;
+        committed_is = second.committed_is ∙ first.committed_is;
+        mode = second.mode ∙ first.mode ∙ outside;
+      }
 
   newest_outcome : (b : Option BadRow) → HasCleanDisk (state g new) → IsOnNewest (state g mid).now b → IsOutcome g old new (cause_of None b)
   newest_outcome None clean is =
@@ -148,7 +156,8 @@ module _ {S : Type 0} (g : Ghosts S) (old mid : Held S) {E : Type 0} (read : Rea
 -- ---- what came of it, where it was raised
 
 module _ {S : Type 0} (g : Ghosts S) (old : Held S) where
-  module _ (mid : Held S) (e : Earlier) {E : Type 0} (read : ReadsAny {E = E} g old mid (Ok (found.Of e)) IsFoundAs) (new : Held S) {told : Result (Option BadRow) StatementFault} (it : RaisesInPlace g e mid new told) (ended : HasCleanDisk (state g new) → new.in_transaction ≡ false) where
+  module _ (mid : Held S) (e : Earlier) {E : Type 0} (read : ReadsAny {E = E} g old mid (Ok (found.Of e)) IsFoundAs) (new : Held S) {told : Result (Option BadRow) StatementFault}
+      (it : RaisesInPlace g e mid new told) (ended : HasCleanDisk (state g new) → new.in_transaction ≡ false) where
     early : HasCleanDisk (state g new) → HasCleanDisk (state g mid)
     early clean = omega (arith, clean, it.survives.clean)
 
@@ -166,7 +175,8 @@ module _ {S : Type 0} (g : Ghosts S) (old : Held S) where
     comes_survives = survives_then (state g old) (state g mid) (state g new) _ _ _ (λ clean db none. absurd none)
         (λ clean db may. (e, found_there clean, subst (λ d. MayCommit e d db) (same_there clean).0.now_is (may (was_there clean)))) (quiet_survives read.quiet tt) it.survives
 
-    raised_outcome : (bad : Option BadRow) → HasCleanDisk (state g new) → IsVerdictBefore (tables_raised e (state g mid).now) (option_map row_name bad) × BecomesAt g e mid new bad → IsOutcome g old new (cause_of (Some e) bad)
+    raised_outcome : (bad : Option BadRow) → HasCleanDisk (state g new) → IsVerdictBefore (tables_raised e (state g mid).now) (option_map row_name bad) × BecomesAt g e mid new bad
+        → IsOutcome g old new (cause_of (Some e) bad)
     raised_outcome None clean at =
         let same = same_there clean in
         inr (record {
@@ -188,7 +198,9 @@ module _ {S : Type 0} (g : Ghosts S) (old : Held S) where
 
     pub comes_raised : (bad : Option BadRow) → told ≡ Ok bad → ComesTo g old new (Ok (cause_of (Some e) bad))
     comes_raised bad is = record {
-      comes = λ clean. raised_outcome bad clean (subst (λ r. IfOk r (λ b. IsVerdictBefore (tables_raised e (state g mid).now) (option_map row_name b) × BecomesAt g e mid new b)) is (it.ends clean (was_there clean)));
+      comes =
+          λ clean. raised_outcome bad clean (subst (λ r. IfOk r (λ b. IsVerdictBefore (tables_raised e (state g mid).now) (option_map row_name b) × BecomesAt g e mid new b)) is
+          (it.ends clean (was_there clean)));
       outside = subst (λ r. OnOk r (new.in_transaction ≡ false)) is it.outside;
       ended = ended;
       survives = comes_survives;

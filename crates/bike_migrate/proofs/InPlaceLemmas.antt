@@ -9,12 +9,12 @@ use Rattle.sqlite.specs.Effect.{Database}
 use Rattle.sqlite.specs.Held.{Held, state}
 use Rattle.sqlite.specs.State.{HasCleanDisk, IsLive, Shows, Survives}
 use Rattle.sqlite.proofs.StateLemmas.{survives_weaker, survives_then}
-use Rattle.bike_rows.specs.Calls.{ReadsWhere}
-use Rattle.bike_rows.specs.Stands.{Stands}
+use Rattle.bike_sql.specs.Calls.{ReadsWhere}
+use Rattle.bike_sql.specs.Stands.{Stands}
 use Rattle.bike_schema.specs.Makes.{Continues}
 use Rattle.bike_schema.specs.declared.fault.StatementFault.{StatementFault}
-use Rattle.bike_adoption.specs.Audit.{row_name}
-use Rattle.bike_adoption.specs.BadRow.{BadRow}
+use Rattle.bike_audit.specs.Audit.{row_name}
+use Rattle.bike_audit.specs.declared.tables.BadRow.{BadRow}
 use Rattle.bike_recognition.specs.declared.earlier_versions.earlier.Earlier.{Earlier}
 use Rattle.bike_recognition.specs.EarlierVersions.Earlier.{stations_layout}
 use Rattle.bike_migrate.specs.Calls.{DoesInside}
@@ -33,7 +33,8 @@ module _ {S : Type 0} (g : Ghosts S) (e : Earlier) where
   has_old db was = old_table e db was.is_at
 
   -- it failed before anything was done
-  pub attempt_failed : {X E : Type 0} {old new : Held S} {result : Result X E} {told : Result (Option BadRow) StatementFault} {says : Database → X → Type 0} → ReadsWhere g HasOld old new result says → IsErr told → Attempts g e old new told
+  pub attempt_failed : {X E : Type 0} {old new : Held S} {result : Result X E} {told : Result (Option BadRow) StatementFault} {says : Database → X → Type 0} → ReadsWhere g HasOld old new result says
+      → IsErr told → Attempts g e old new told
   attempt_failed {old = old} {new = new} {told = Ok x} it is = absurd (let never = is in cc)
   attempt_failed {old = old} {new = new} {told = Err f} it is = record {
     judged = λ clean was. tt;
@@ -52,8 +53,10 @@ module _ {S : Type 0} (g : Ghosts S) (e : Earlier) where
       survives = survives_weaker (state g old) (state g new) _ _ (λ clean db either was. elim either [ inl none ↦ none (has_old (state g old).now was) | inr never ↦ never ]) (read_survives new calm);
     }
 
-    module _ (begun new : Held S) (begins : HasCleanDisk (state g begun) → Shows (state g mid) (state g begun) (state g mid).now (state g mid).committed true) (calm : Survives (state g mid) (state g begun) (λ _. ⊥))
-        {told : Result (Option BadRow) StatementFault} (does : DoesInside g (λ db. IsEarlier e db × (rows ≡ old_stations e db)) begun new told (λ a b bad. IsJudged e a b (option_map row_name bad))) where
+    module _ (begun new : Held S) (begins : HasCleanDisk (state g begun) → Shows (state g mid) (state g begun) (state g mid).now (state g mid).committed true)
+        (calm : Survives (state g mid) (state g begun) (λ _. ⊥))
+        {told : Result (Option BadRow) StatementFault} (does : DoesInside g (λ db. IsEarlier e db × (rows ≡ old_stations e db)) begun new told
+        (λ a b bad. IsJudged e a b (option_map row_name bad))) where
       -- what is so as it begins
       record Starts : Type 0 where
         inside : IsTrue begun.in_transaction
@@ -89,7 +92,8 @@ module _ {S : Type 0} (g : Ghosts S) (e : Earlier) where
               subst (λ db. IsJudged e db (state g new).now (option_map row_name bad)) it.now_is at.1,
             )) (does.done clean it.inside (has_begun early was));
         survives = survives_then (state g old) (state g begun) (state g new) _ _ _ (λ clean db either was. elim either [ inl none ↦ none (has_old (state g old).now was) | inr never ↦ never ])
-            (λ clean db none was. let early : HasCleanDisk (state g begun) = omega (arith, clean, does.survives.clean) in none ((starts early was).inside, has_begun early was)) (read_survives begun calm) does.survives;
+            (λ clean db none was. let early : HasCleanDisk (state g begun) = omega (arith, clean, does.survives.clean) in none ((starts early was).inside, has_begun early was))
+            (read_survives begun calm) does.survives;
       }
 
   -- ---- the end
@@ -104,7 +108,8 @@ module _ {S : Type 0} (g : Ghosts S) (e : Earlier) where
       survives = survives_weaker (state g old) (state g mid) _ _ (λ clean db none was. absurd (none was)) it.survives;
     }
 
-    module _ (new : Held S) (bad : Option BadRow) (settled : IsTrue (state g old).is_open → (state g old).now ≡ (state g old).committed) (live : IsLive (state g old)) (it : Attempts g e old mid (Ok bad)) {result : Result (Option BadRow) StatementFault} (ended : EndsTransaction g mid new bad result) where
+    module _ (new : Held S) (bad : Option BadRow) (settled : IsTrue (state g old).is_open → (state g old).now ≡ (state g old).committed) (live : IsLive (state g old))
+        (it : Attempts g e old mid (Ok bad)) {result : Result (Option BadRow) StatementFault} (ended : EndsTransaction g mid new bad result) where
       early : HasCleanDisk (state g new) → HasCleanDisk (state g mid)
       early clean = omega (arith, clean, ended.survives.clean)
 
@@ -128,20 +133,25 @@ module _ {S : Type 0} (g : Ghosts S) (e : Earlier) where
         },
       )
 
-      commits : (b : Option BadRow) (trees : Trees) → CommitsBy g mid b trees → Continues (state g old) (state g mid) × IsJudged e (state g old).now (state g mid).now (option_map row_name b) → MayCommit e (state g old).now trees
+      commits : (b : Option BadRow) (trees : Trees) → CommitsBy g mid b trees → Continues (state g old) (state g mid) × IsJudged e (state g old).now (state g mid).now (option_map row_name b)
+          → MayCommit e (state g old).now trees
       commits None trees is at = record { sound = (live at.0.was_open).0; db = (state g mid).now; raises = at.1.becomes; good = at.1.verdict; trees_are = is }
       commits (Some row) trees is at = absurd is
 
       pub ends_in_place : RaisesInPlace g e old new result
       ends_in_place = record {
         ends = λ clean was. let at = it.judged (early clean) was in
-            IfOk-weaker result _ _ (λ b is. subst (λ o. IsVerdictBefore (tables_raised e (state g old).now) (option_map row_name o) × BecomesAt g e old new o) (sym is.0) (ends_as bad at is.1)) (ended.ended clean);
+            IfOk-weaker result _ _ (λ b is. subst (λ o. IsVerdictBefore (tables_raised e (state g old).now) (option_map row_name o) × BecomesAt g e old new o) (sym is.0) (ends_as bad at is.1))
+            (ended.ended clean);
         outside = ended.outside;
-        survives = survives_then (state g old) (state g mid) (state g new) _ _ _ (λ clean db none was. absurd (none was)) (λ clean db by was. commits bad db by (it.judged (early clean) was)) it.survives ended.survives;
+        survives =
+            survives_then (state g old) (state g mid) (state g new) _ _ _ (λ clean db none was. absurd (none was))
+            (λ clean db by was. commits bad db by (it.judged (early clean) was)) it.survives ended.survives;
       }
 
   -- a transaction that is undone after a failure
-  pub undone_in_place : (old mid new : Held S) {told result : Result (Option BadRow) StatementFault} → RaisesInPlace g e old mid told → IsErr result → Survives (state g mid) (state g new) (λ _. ⊥) → RaisesInPlace g e old new result
+  pub undone_in_place : (old mid new : Held S) {told result : Result (Option BadRow) StatementFault} → RaisesInPlace g e old mid told → IsErr result → Survives (state g mid) (state g new) (λ _. ⊥)
+      → RaisesInPlace g e old new result
   undone_in_place old mid new {result = Ok x} it is calm = absurd (let never = is in cc)
   undone_in_place old mid new {result = Err f} it is calm = record {
     ends = λ clean was. tt;

@@ -11,7 +11,7 @@ use Rattle.sqlite.specs.Calls.{IsWrite}
 use Rattle.sqlite.specs.Held.{Held, state}
 use Rattle.sqlite.specs.State.{State, HasCleanDisk, Shows, Survives, Runs as RunsAs, ExecutesIn, Executes, ExecutesInside, CommitsBy, MayCommit, shows_rows}
 use Rattle.sqlite.proofs.StateLemmas.{survives_weaker}
-use Rattle.bike_rows.specs.Inside.{IsWriteIn}
+use Rattle.bike_sql.specs.Inside.{IsWriteIn}
 use Rattle.bike_migrate.specs.Calls.{Runs}
 
 -- ---- it commits nothing
@@ -64,9 +64,11 @@ run_survives : {S : Type 0} (g : Ghosts S) (old new : Held S) (text : List ℕ) 
 run_survives g old new text params s = survives_weaker (state g old) (state g new) _ _ (λ clean db h both. write_commits (state g old) both.0 text params db both.1 h) s
 
 module _ {S : Type 0} {g : Ghosts S} {old new : Held S} {text : List ℕ} {params : Row} where
-  pub run_done : {E : Type 0} (count : ℕ) → (HasCleanDisk (state g new) → Executes text params (state g old) (state g new) (Ok count)) → Survives (state g old) (state g new) (CommitsBy text params (state g old))
+  pub run_done : {E : Type 0} (count : ℕ) → (HasCleanDisk (state g new) → Executes text params (state g old) (state g new) (Ok count))
+      → Survives (state g old) (state g new) (CommitsBy text params (state g old))
       → Runs g old new text params {X = Unit {0}} {E = E} (Ok tt)
-  run_done count ran s = record { ran = λ clean inside write. (count, inside_of (state g old) inside (state g new) text params count write (ran clean)); survives = run_survives g old new text params s }
+  run_done count ran s =
+      record { ran = λ clean inside write. (count, inside_of (state g old) inside (state g new) text params count write (ran clean)); survives = run_survives g old new text params s }
 
   pub run_failed : {X E : Type 0} {result : Result X E} → IsErr result → Survives (state g old) (state g new) (CommitsBy text params (state g old)) → Runs g old new text params result
   run_failed {result = Ok x} is s = absurd (let never = is in cc)

@@ -5,10 +5,10 @@ use Rattle.sqlite_value.specs.Order.{Row}
 use Rattle.sqlite_trees.specs.declared.store.Store.{Ghosts}
 use Rattle.sqlite.specs.Effect.{Database}
 use Rattle.sqlite.specs.Held.{Held}
-use Rattle.bike_rows.specs.Calls.{ReadsWhere}
+use Rattle.bike_sql.specs.Calls.{ReadsWhere}
 use Rattle.bike_schema.specs.Tables.{IsOurs, tables_of}
-use Rattle.bike_adoption.specs.Audit.{row_name}
-use Rattle.bike_adoption.specs.BadRow.{BadRow}
+use Rattle.bike_audit.specs.Audit.{row_name}
+use Rattle.bike_audit.specs.declared.tables.BadRow.{BadRow}
 use Rattle.bike_recognition.specs.declared.earlier_versions.earlier.Earlier.{Earlier}
 use Rattle.bike_recognition.specs.EarlierVersions.Earlier.{IsAt}
 use Rattle.bike_migrate.specs.Calls.{DoesInside}
@@ -32,7 +32,8 @@ module _ (e : Earlier) (rows : List Row) where
   abbrev pub Judged : Database → Database → Option BadRow → Type 0
   Judged old new bad = Fills e old new × IsVerdictBefore (tables_raised e old) (option_map row_name bad)
 
-  pub judged_does : {S E F : Type 0} {g : Ghosts S} {old mid new : Held S} {result : Result (Option BadRow) F} → DoesInside g (λ db. IsAt e db × (rows ≡ old_stations e db)) old mid {X = Unit {0}} {E = E} (Ok tt) (λ a b _. Fills e a b)
+  pub judged_does : {S E F : Type 0} {g : Ghosts S} {old mid new : Held S} {result : Result (Option BadRow) F}
+      → DoesInside g (λ db. IsAt e db × (rows ≡ old_stations e db)) old mid {X = Unit {0}} {E = E} (Ok tt) (λ a b _. Fills e a b)
       → ReadsWhere g IsOurs mid new result (λ db bad. AreCopies rows (tables_of db).stations → IsVerdictBefore (tables_of db) (option_map row_name bad)) → DoesInside g Has old new result Judged
   judged_does built read = does_then (does_under is_at built) filled_ours (reads_does read)
       (λ a b c bad has filled it. (subst (Fills e a) (sym it.0) filled, verdict_raised e a b rows (option_map row_name bad) has.0 has.1 filled it.1))

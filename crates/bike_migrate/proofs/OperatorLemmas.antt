@@ -6,8 +6,8 @@ use Rattle.std.proofs.lemmas.Bool.{leb-true, le-leb}
 use Rattle.sqlite_value.specs.declared.value.Value.TheVariants.{Text}
 use Rattle.sqlite_value.specs.Order.{Row}
 use Rattle.sqlite.specs.Effect.{Database}
-use Rattle.bike_rows.specs.View.{row_with}
-use Rattle.bike_rows.proofs.ListLemmas.{map_has}
+use Rattle.bike_sql.specs.View.{row_with}
+use Rattle.bike_sql.proofs.RowListLemmas.{map_has}
 use Rattle.bike_ledger.specs.Ledger.{cash_of, revenue_of}
 use Rattle.bike_operator.specs.Operator.{Operator, Station}
 use Rattle.bike_operator.specs.Counts.{docks_available, docks_broken}
@@ -54,7 +54,8 @@ module _ (s : Operator) (m : Listed) where
   bound_kept few name key = tt
 
   -- and where they do, it has few docks
-  module _ (found : (id : List ℕ) → row_with 1 (Text id ∷ []) (tables_for s m).stations ≡ option_map (λ x. station_row id x (pos (docks_available s id x.row.docks)) (docks_broken s id x.row.docks)) (fin.get s.stations id)) where
+  module _ (found : (id : List ℕ) → row_with 1 (Text id ∷ []) (tables_for s m).stations
+      ≡ option_map (λ x. station_row id x (pos (docks_available s id x.row.docks)) (docks_broken s id x.row.docks)) (fin.get s.stations id)) where
     pub few_of : ((key : Row) → KeepsBound (tables_for s m) Stations key) → HasFewDocks s
     few_of bound id x there =
         let row = station_row id x (pos (docks_available s id x.row.docks)) (docks_broken s id x.row.docks) in
@@ -71,7 +72,8 @@ raised_for e db s m are =
     ∙ ap (λ rows. with_rows Meta rows (tables_for s m)) (meta_raised (number_of e) s.now (cash_of s.entries) (revenue_of s.entries))
 
 -- and back
-lowered_meta : (e : Earlier) (db : Database) (s : Operator) (m : Listed) → IsEarlier e db → tables_raised e db ≡ tables_for s m → (tables_at e db).meta ≡ meta_row (number_of e) s.now (cash_of s.entries) (revenue_of s.entries) ∷ []
+lowered_meta : (e : Earlier) (db : Database) (s : Operator) (m : Listed) → IsEarlier e db → tables_raised e db ≡ tables_for s m
+    → (tables_at e db).meta ≡ meta_row (number_of e) s.now (cash_of s.entries) (revenue_of s.entries) ∷ []
 lowered_meta First db s m it are = meta_lowered 1 s.now (cash_of s.entries) (revenue_of s.entries) (tables_at First db).meta it.version (ap (λ (t : Tables). t.meta) are)
 lowered_meta Second db s m it are = meta_lowered 2 s.now (cash_of s.entries) (revenue_of s.entries) (tables_at Second db).meta it.version (ap (λ (t : Tables). t.meta) are)
 
@@ -107,4 +109,5 @@ module _ (e : Earlier) (old new : Database) (raised : IsRaised e old new) where
 
 -- where it stands for an operator, all keys are good
 pub stored_all_good : (e : Earlier) (old : Database) (s : Operator) → StoresAt e old s → (AllGood (tables_raised e old)) → AllGoodBefore (tables_raised e old)
-stored_all_good e old s it good name key = record { good = good name key; few = subst (λ t. KeepsBound t name key) (sym (raised_for e old s it.listed it.tables)) (bound_kept s it.listed it.few_docks name key) }
+stored_all_good e old s it good name key =
+    record { good = good name key; few = subst (λ t. KeepsBound t name key) (sym (raised_for e old s it.listed it.tables)) (bound_kept s it.listed it.few_docks name key) }

@@ -14,17 +14,18 @@ use Rattle.bike_schema.specs.declared.fault.StatementFault.TheVariants as statem
 use Rattle.bike_readings.specs.ReadOff.{operator_of}
 use Rattle.bike_readings.specs.Rules.{AllGood}
 use Rattle.bike_readings.proofs.RulesLaws.{of_are_good, stored_good, stored_bad}
-use Rattle.bike_adoption.specs.Audit.{row_name, IsBadIn}
+use Rattle.bike_audit.specs.Audit.{row_name, IsBadIn}
 use Rattle.bike_recognition.specs.declared.earlier_versions.earlier.Earlier.{Earlier}
 use Rattle.bike_recognition.specs.declared.earlier_versions.found.Found.{Found}
 use Rattle.bike_recognition.specs.declared.earlier_versions.found.Found.TheVariants as found
 use Rattle.bike_recognition.specs.EarlierVersions.Found.{IsFoundAs}
 use Rattle.bike_recognition.specs.EarlierVersions.Stores.{StoresAt, StandsForAt, TreesStandForAt}
 use Rattle.bike_recognition.specs.declared.recognition.Recognition.TheVariants as recognition
-use Rattle.bike_adoption.proofs.KeepLemmas.{Settles, stands_in}
-use Rattle.bike_adoption.proofs.FoundLemmas.{ours_there}
+use Rattle.bike_audit.proofs.KeepLemmas.{Settles, stands_in}
+use Rattle.bike_audit.proofs.FoundLemmas.{ours_there}
 use Rattle.bike_migrate.specs.Raised.{OthersKept, tables_raised, Raises}
-use Rattle.bike_migrate.specs.Raising.{Holds, IsUnsoundAt, IsUnsound, MayCommitAny, TreesStandSince, failed, IsAsBefore, IsRaisedFrom, IsReady, IsToldBy, IsOutcome, ComesTo, IsWantFor, IsOutsideFor, IsRaise}
+use Rattle.bike_migrate.specs.Raising.{Holds, IsUnsoundAt, IsUnsound, MayCommitAny, TreesStandSince, failed, IsAsBefore, IsRaisedFrom, IsReady, IsToldBy, IsOutcome, ComesTo, IsWantFor, IsOutsideFor}
+use Rattle.bike_migrate.specs.Raising.{IsRaise}
 use Rattle.bike_migrate.specs.declared.fault.RaiseCause.{RaiseCause}
 use Rattle.bike_migrate.specs.declared.fault.RaiseCause.TheVariants as cause
 use Rattle.bike_migrate.specs.declared.fault.UnsoundRow.{UnsoundRow}
@@ -59,7 +60,8 @@ unsound_never db v s stands bad = by bad.earlier
             let here : StoresAt e db s = subst (λ x. StoresAt x db s) (sym (same_of e f is)) stores in
             it.1.bad (stored_all_good e db s here (all_good e db s here) (row_name bad.row).0 (row_name bad.row).1)
 
-module _ {S : Type 0} (g : Ghosts S) (settles : Settles g) (old : Held S) (settled : IsTrue (state g old).is_open → (state g old).now ≡ (state g old).committed) (live : IsLive (state g old)) (new : Held S) where
+module _ {S : Type 0} (g : Ghosts S) (settles : Settles g) (old : Held S) (settled : IsTrue (state g old).is_open → (state g old).now ≡ (state g old).committed) (live : IsLive (state g old))
+    (new : Held S) where
   abbrev db : Database
   db = (state g old).now
 
@@ -151,7 +153,8 @@ module _ {S : Type 0} (g : Ghosts S) (settles : Settles g) (old : Held S) (settl
   -- ---- what the database is
 
   -- it is found to be nothing of the product's
-  not_found : (f : Found) → IsAsBefore g old new → IsFoundAs db f → (f ≡ found.Empty → ⊥) → (f ≡ found.Newest → ⊥) → ((e : Earlier) → f ≡ found.Of e → ⊥) → (v : Option Earlier) (s : Operator) → TreesStandForAt v s db.trees → ⊥
+  not_found : (f : Found) → IsAsBefore g old new → IsFoundAs db f → (f ≡ found.Empty → ⊥) → (f ≡ found.Newest → ⊥) → ((e : Earlier) → f ≡ found.Of e → ⊥) → (v : Option Earlier) (s : Operator)
+      → TreesStandForAt v s db.trees → ⊥
   not_found f before is empty newest earlier v s stands = by (found_there db f v s (stands_here db (live before.was_open).0 v s stands) is)
     where
       by : IsFoundOf db f s → ⊥

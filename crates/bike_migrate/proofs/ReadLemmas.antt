@@ -8,20 +8,26 @@ use Rattle.sqlite.specs.Held.{Held, state}
 use Rattle.sqlite.specs.State.{HasCleanDisk, Survives, Shown, FailsToQuery, CommitsShowing}
 use Rattle.sqlite.proofs.Callers.{never_commits}
 use Rattle.sqlite.proofs.StateLemmas.{survives_weaker}
-use Rattle.bike_rows.specs.Answer.{HasOneAnswer}
-use Rattle.bike_rows.specs.Calls.{IsQuiet, ReadsWhere}
-use Rattle.bike_rows.proofs.ReadLemmas.{query_stopped}
-use Rattle.bike_rows.proofs.WalkLaw.{answers_all}
-use Rattle.bike_rows.specs.Stands.{Stands}
+use Rattle.bike_sql.specs.Answer.{HasOneAnswer}
+use Rattle.bike_sql.specs.Calls.{IsQuiet, ReadsWhere}
+use Rattle.bike_sql.proofs.ReadLemmas.{query_stopped}
+use Rattle.bike_sql.proofs.WalkLaw.{answers_all}
+use Rattle.bike_sql.specs.Stands.{Stands}
 use Rattle.bike_recognition.specs.declared.earlier_versions.earlier.Earlier.{Earlier}
 use Rattle.bike_recognition.specs.declared.earlier_versions.earlier.Earlier.TheVariants.{First, Second}
 use Rattle.bike_recognition.specs.EarlierVersions.Earlier.{stations_layout}
 use Rattle.bike_migrate.specs.Raised.{old_stations}
 use Rattle.bike_migrate.specs.Stations.{AsksRows}
 
-module _ {S : Type 0} (g : Ghosts S) (P : Database → Type 0) (all : Database → List Row) (text : List ℕ) (params : Row) (one : (db : Database) → P db → HasOneAnswer db text params (all db)) (old new : Held S) where
+module _ {S : Type 0} (g : Ghosts S) (P : Database → Type 0) (all : Database → List Row) (text : List ℕ) (params : Row) (one : (db : Database) → P db → HasOneAnswer db text params (all db))
+    (old new : Held S) where
   quiet : (old.in_transaction ≡ false → new.in_transaction ≡ false) → Survives (state g old) (state g new) (CommitsShowing text params (state g old)) → IsQuiet g P old new
-  quiet mode s = record { mode = mode; survives = survives_weaker (state g old) (state g new) _ _ (λ clean db commits has. never_commits text params (state g old) db (one (state g old).now has).means.1 commits) s }
+  quiet mode s =
+      record {
+        mode = mode;
+        survives = survives_weaker (state g old) (state g new) _ _
+            (λ clean db commits has. never_commits text params (state g old) db (one (state g old).now has).means.1 commits) s;
+      }
 
   -- the text's answer was read
   pub reads_all : {E : Type 0} (rows : List Row) → (HasCleanDisk (state g new) → Shown text params (state g old) (state g new) rows) → (old.in_transaction ≡ false → new.in_transaction ≡ false)
@@ -34,7 +40,8 @@ module _ {S : Type 0} (g : Ghosts S) (P : Database → Type 0) (all : Database �
   }
 
   -- or it was refused
-  pub reads_none : {X E : Type 0} {result : Result X E} {says : Database → X → Type 0} (e : Error) → IsErr result → (HasCleanDisk (state g new) → FailsToQuery text params (state g old) (state g new) e) → (old.in_transaction ≡ false → new.in_transaction ≡ false)
+  pub reads_none : {X E : Type 0} {result : Result X E} {says : Database → X → Type 0} (e : Error) → IsErr result
+      → (HasCleanDisk (state g new) → FailsToQuery text params (state g old) (state g new) e) → (old.in_transaction ≡ false → new.in_transaction ≡ false)
       → Survives (state g old) (state g new) (CommitsShowing text params (state g old)) → ReadsWhere g P old new result says
   reads_none {result = Ok x} e is fails mode s = absurd (let never = is in cc)
   reads_none {result = Err f} e is fails mode s = record {

@@ -1,5 +1,6 @@
 -- What each statement leaves as it was.
-use Rattle.std.proofs.Common.{◌≡◌, ◌≢◌, ◌==◌, ◌⊎◌, inl, inr, not, zero, suc, ℕ, ◌+◌, Bool, true, false, List, [], ◌∷◌, ◌++◌, filter, find, slice_get, Option, Some, None, option_map, unwrap_or, Ok, Err, Result, refl, sym, ap, subst, ◌∙◌, arith}
+use Rattle.std.proofs.Common.{◌≡◌, ◌≢◌, ◌==◌, ◌⊎◌, inl, inr, not, zero, suc, ℕ, ◌+◌, Bool, true, false, List, [], ◌∷◌, ◌++◌, filter, find, slice_get, Option, Some, None, option_map, unwrap_or, Ok}
+use Rattle.std.proofs.Common.{Err, Result, refl, sym, ap, subst, ◌∙◌, arith}
 use Rattle.std.specs.List.{AllByRecursion, position_from}
 use Rattle.std.proofs.lemmas.Bool.{cases_Bool, or_parts, or_from, ne_eqb}
 use Rattle.sqlite_value.specs.Order.{Row}
@@ -21,13 +22,13 @@ use Rattle.sqlite.proofs.Callers.{runs_as}
 use Rattle.bike_sql.specs.Has.{HasTable}
 use Rattle.bike_sql.specs.Laws.{Means}
 use Rattle.bike_sql.proofs.GrowLemmas.{created_keeps, indexed_keeps, same_has}
-use Rattle.bike_rows.specs.Drops.{Drops}
-use Rattle.bike_rows.specs.Layout.{Layout, table_of}
-use Rattle.bike_rows.specs.Stands.{is_same_text, Stands}
-use Rattle.bike_rows.proofs.DropListLemmas.{first_kept, find_kept}
-use Rattle.bike_rows.proofs.EffectLemmas.{inserts, updates}
-use Rattle.bike_rows.proofs.FrameLemmas.{trees_apart}
-use Rattle.bike_rows.proofs.ListLemmas.{all_at, filter_has}
+use Rattle.bike_sql.specs.Drops.{Drops}
+use Rattle.bike_sql.specs.Layout.{Layout, table_of}
+use Rattle.bike_sql.specs.Stands.{is_same_text, Stands}
+use Rattle.bike_sql.proofs.DropListLemmas.{first_kept, find_kept}
+use Rattle.bike_sql.proofs.EffectLemmas.{inserts, updates}
+use Rattle.bike_sql.proofs.FrameLemmas.{trees_apart}
+use Rattle.bike_sql.proofs.RowListLemmas.{all_at, filter_has}
 use Rattle.bike_schema.specs.Layouts.{name_of}
 use Rattle.bike_schema.specs.Indexes.{TableIndex, HasIndex}
 use Rattle.bike_schema.proofs.IndexLemmas.{AddsIndex}
@@ -129,7 +130,8 @@ index_spared names a b i it other was =
 -- ---- INSERT and UPDATE
 
 module _ (layout : Layout) (keys : ℕ) (old new : State) (was : Stands old.now keys layout) (text : List ℕ) (params : Row) (count : ℕ) where
-  spares_written : new.now.schema ≡ old.now.schema → AllByRecursion (λ t. t.tree ≢ was.tree → new.now.trees t.tree ≡ old.now.trees t.tree) old.now.schema.tables → Spares (layout.name ∷ []) old.now new.now
+  spares_written : new.now.schema ≡ old.now.schema → AllByRecursion (λ t. t.tree ≢ was.tree → new.now.trees t.tree ≡ old.now.trees t.tree) old.now.schema.tables
+      → Spares (layout.name ∷ []) old.now new.now
   spares_written same rows = record {
     tables = λ at t has other. record {
       at = at;
@@ -141,13 +143,15 @@ module _ (layout : Layout) (keys : ℕ) (old new : State) (was : Stands old.now 
     views = ap (λ (s : Schema). s.views) same;
   }
 
-  pub spares_inserting : (width : ℕ) (terms : List Term) → Means old.now.schema text (Insert was.at (Values terms width)) → Executes text params old new (Ok count) → Spares (layout.name ∷ []) old.now new.now
+  pub spares_inserting : (width : ℕ) (terms : List Term) → Means old.now.schema text (Insert was.at (Values terms width)) → Executes text params old new (Ok count)
+      → Spares (layout.name ∷ []) old.now new.now
   spares_inserting width terms means ran =
       let w = runs_as text params old new old.now.schema refl (Insert was.at (Values terms width)) means.0 means.1 count ran in
       let done = inserts layout was.tree old new was.at was.has.there _ params count width terms w in
       spares_written done.0 done.1.tables
 
-  pub spares_updating : (query : Query) → Means old.now.schema text (Update was.at (record { lets = []; body = query })) → Executes text params old new (Ok count) → Spares (layout.name ∷ []) old.now new.now
+  pub spares_updating : (query : Query) → Means old.now.schema text (Update was.at (record { lets = []; body = query })) → Executes text params old new (Ok count)
+      → Spares (layout.name ∷ []) old.now new.now
   spares_updating query means ran =
       let w = runs_as text params old new old.now.schema refl (Update was.at (record { lets = []; body = query })) means.0 means.1 count ran in
       let done = updates layout was.tree old new was.at was.has.there _ params count query was.unreferred w in
@@ -180,7 +184,9 @@ module _ (layout : Layout) (keys : ℕ) (old new : Database) (was : Stands old k
           by_tree = ap (find in_tree) tables_are ∙ find_kept in_tree stay old.schema.tables found ∙ has.by_tree;
           stored = has.stored;
         };
-        rows = all_at (λ (u : Table). new.trees u.tree ≡ old.trees u.tree) fewer place.0 t (subst (λ ts. AllByRecursion (λ (u : Table). new.trees u.tree ≡ old.trees u.tree) ts) tables_are it.rows) place.2;
+        rows =
+            all_at (λ (u : Table). new.trees u.tree ≡ old.trees u.tree) fewer place.0 t
+            (subst (λ ts. AllByRecursion (λ (u : Table). new.trees u.tree ≡ old.trees u.tree) ts) tables_are it.rows) place.2;
         indexes = λ i listed on. subst (λ (s : Schema). Has s.indexes i) (sym it.schema)
             (filter_has (λ (j : Index). not (j.table == was.tree)) old.schema.indexes i listed (ap (λ n. not (n == was.tree)) on ∙ kept));
       }

@@ -6,9 +6,9 @@ use Rattle.sqlite_trees.specs.Tree.{Trees}
 use Rattle.sqlite_schema.specs.declared.schema.Schema.{Schema}
 use Rattle.sqlite_schema.specs.declared.schema.Table.{Table}
 use Rattle.sqlite.specs.Effect.{Database, IsDatabase}
-use Rattle.bike_rows.specs.Layout.{Layout}
-use Rattle.bike_rows.specs.Stands.{rows_of, Stands}
-use Rattle.bike_rows.specs.View.{row_with}
+use Rattle.bike_sql.specs.Layout.{Layout}
+use Rattle.bike_sql.specs.Stands.{rows_of, Stands}
+use Rattle.bike_sql.specs.View.{row_with}
 use Rattle.bike_ledger.specs.Ledger.{cash_of, revenue_of}
 use Rattle.bike_operator.specs.Operator.{Operator, no_operator}
 use Rattle.bike_book.specs.declared.version.TheConstants.{NEWEST}
@@ -28,8 +28,8 @@ use Rattle.bike_recognition.specs.declared.earlier_versions.found.Found.TheVaria
 use Rattle.bike_recognition.specs.EarlierVersions.Earlier.{layout_at, tables_at, AreNewerFree, IsAt}
 use Rattle.bike_recognition.specs.EarlierVersions.Found.{IsNewest, IsOfEarlier, IsByVersion, IsFoundAs}
 use Rattle.bike_recognition.specs.EarlierVersions.Stores.{StoresAt, StandsForAt, TreesStandForAt}
-use Rattle.bike_adoption.proofs.KeepLemmas.{no_meta}
-use Rattle.bike_adoption.proofs.AdoptLemmas.{same_tables}
+use Rattle.bike_audit.proofs.KeepLemmas.{no_meta}
+use Rattle.bike_audit.proofs.AdoptLemmas.{same_tables}
 
 -- ---- what a database has is told by its tables and trees
 
@@ -41,10 +41,12 @@ with_schema schema trees = record { schema = schema; trees = trees }
 
 module _ (a b : Schema) (trees : Trees) (same : a.tables ≡ b.tables) where
   to_bare : (s : Schema) (keys : ℕ) (layout : Layout) → Stands (with_schema s trees) keys layout → Stands (bare s.tables trees) keys layout
-  to_bare s keys layout it = record { at = it.at; tree = it.tree; has = record { found = it.has.found; there = it.has.there; by_tree = it.has.by_tree; stored = it.has.stored }; keyed = it.keyed; unreferred = it.unreferred }
+  to_bare s keys layout it =
+      record { at = it.at; tree = it.tree; has = record { found = it.has.found; there = it.has.there; by_tree = it.has.by_tree; stored = it.has.stored }; keyed = it.keyed; unreferred = it.unreferred }
 
   of_bare : (s : Schema) (keys : ℕ) (layout : Layout) → Stands (bare s.tables trees) keys layout → Stands (with_schema s trees) keys layout
-  of_bare s keys layout it = record { at = it.at; tree = it.tree; has = record { found = it.has.found; there = it.has.there; by_tree = it.has.by_tree; stored = it.has.stored }; keyed = it.keyed; unreferred = it.unreferred }
+  of_bare s keys layout it =
+      record { at = it.at; tree = it.tree; has = record { found = it.has.found; there = it.has.there; by_tree = it.has.by_tree; stored = it.has.stored }; keyed = it.keyed; unreferred = it.unreferred }
 
   across : (keys : ℕ) (layout : Layout) → Stands (with_schema a trees) keys layout → Stands (with_schema b trees) keys layout
   across keys layout it = of_bare b keys layout (subst (λ ts. Stands (bare ts trees) keys layout) same (to_bare a keys layout it))

@@ -35,21 +35,21 @@ use Rattle.sqlite.specs.Values.{bound, bound_value}
 use Rattle.sqlite.proofs.Callers.{command_of, statement_of, runs_as}
 use Rattle.bike_sql.specs.Inserts.{IsInsert}
 use Rattle.bike_sql.proofs.InsertLaws.{insert_is}
-use Rattle.bike_rows.specs.Inside.{IsWriteIn}
-use Rattle.bike_rows.specs.Drops.{IsDrop}
-use Rattle.bike_rows.proofs.DropTextLemmas.{drop_means}
-use Rattle.bike_rows.proofs.DropLaw.{table_dropped}
-use Rattle.bike_rows.specs.Layout.{table_of}
-use Rattle.bike_rows.specs.Queries.{table_query, key_tests, by_columns}
-use Rattle.bike_rows.specs.Stands.{Stands}
-use Rattle.bike_rows.proofs.CallLaws.{Does}
-use Rattle.bike_rows.proofs.CastLemmas.{suits, suit_all}
-use Rattle.bike_rows.proofs.IndexLaw.{IsOnlyIndex}
-use Rattle.bike_rows.proofs.SetLaw.{some_terms}
-use Rattle.bike_rows.proofs.TextLemmas.{IsUpdate, update_means, IsSelect}
-use Rattle.bike_rows.proofs.SelectLaws.{every_column, ordered_rows}
-use Rattle.bike_rows.proofs.KeyLemmas.{IsKeyAt}
-use Rattle.bike_rows.proofs.WriteLaws.{row_put, row_updated, row_terms, width}
+use Rattle.bike_sql.specs.Inside.{IsWriteIn}
+use Rattle.bike_sql.specs.Drops.{IsDrop}
+use Rattle.bike_sql.proofs.DropTextLemmas.{drop_means}
+use Rattle.bike_sql.proofs.DropLaw.{table_dropped}
+use Rattle.bike_sql.specs.Layout.{table_of}
+use Rattle.bike_sql.specs.Queries.{table_query, key_tests, by_columns}
+use Rattle.bike_sql.specs.Stands.{Stands}
+use Rattle.bike_sql.proofs.CallLaws.{Does}
+use Rattle.bike_sql.proofs.CastLemmas.{suits, suit_all}
+use Rattle.bike_sql.proofs.IndexLaw.{IsOnlyIndex}
+use Rattle.bike_sql.proofs.SetLaw.{some_terms}
+use Rattle.bike_sql.proofs.TextLemmas.{IsUpdate, update_means, IsSelect}
+use Rattle.bike_sql.proofs.SelectLaws.{every_column, ordered_rows}
+use Rattle.bike_sql.proofs.KeyLemmas.{IsKeyAt}
+use Rattle.bike_sql.proofs.WriteLaws.{row_put, row_updated, row_terms, width}
 use Rattle.bike_book.specs.declared.columns.stations.TheConstants as stations
 use Rattle.bike_book.specs.declared.version.TheConstants.{NEWEST}
 use Rattle.bike_book.specs.Tables.{TableName, Meta, Stations, MoreNames, keys_of}
@@ -72,7 +72,7 @@ use Rattle.bike_migrate.specs.Raised.{MakesTable, MakesIndex, filled_names, Writ
 use Rattle.bike_migrate.specs.Stations.{station_row, may_hold, IsStationRow, AsksRows}
 use Rattle.bike_schema.proofs.MakeLemmas.{adds}
 use Rattle.bike_schema.proofs.GrowthLemmas.{still_unnamed, made_stands, made_empty, all_stay}
-use Rattle.bike_rows.proofs.IndexLaw as index
+use Rattle.bike_sql.proofs.IndexLaw as index
 use Rattle.bike_schema.specs.declared.indexes.TheConstants.{MORE_NAMES_BY_LANGUAGE, MORE_NAMES_BY_THING}
 use Rattle.bike_schema.specs.Indexes.{TableIndex, more_names_by_language, more_names_by_thing}
 use Rattle.bike_schema.proofs.IndexLemmas.{Tells, index_added, index_there}
@@ -128,7 +128,8 @@ pub index_writes : (text : List ℕ) → IsOnlyIndex (first text) → (s : Schem
 index_writes text only s c is = subst IsWrite (sym (index.understood_as text only s c is).makes.1) tt
 
 -- the index is made, and nothing else
-makes_index : (text : List ℕ) (i : TableIndex) → IsOnlyIndex (first text) → Tells text i → (old new : State) → Stands old.now (keys_of i.table) (layout_of i.table) → (count : ℕ) → Executes text [] old new (Ok count) → MakesIndex i old.now new.now
+makes_index : (text : List ℕ) (i : TableIndex) → IsOnlyIndex (first text) → Tells text i → (old new : State) → Stands old.now (keys_of i.table) (layout_of i.table) → (count : ℕ)
+    → Executes text [] old new (Ok count) → MakesIndex i old.now new.now
 makes_index text i only tells old new was count ran =
     let it = index_added (name_of i.table) text tells.only old new count ran in
     record {
@@ -163,13 +164,15 @@ unfolding everything
 sets_version = sets_columns Meta _ _ (λ s. row_updated (unique_key Meta) 0 ((2, 1) ∷ []) _ (λ tree. (refl, refl, refl), refl) refl refl refl (λ r. refl) (λ r. refl))
 
 -- the version is set, and nothing else
-pub version_set : (old new : State) → IsOurs old.now → (count : ℕ) → ExecutesInside 0 version_text (number_value 1 ∷ number_value NEWEST ∷ []) old new (Ok count) → WritesOnly (version_write ∷ []) old.now new.now
+pub version_set : (old new : State) → IsOurs old.now → (count : ℕ) → ExecutesInside 0 version_text (number_value 1 ∷ number_value NEWEST ∷ []) old new (Ok count)
+    → WritesOnly (version_write ∷ []) old.now new.now
 version_set old new ours count ran =
     let it = ours.has Meta in
     record {
       makes = (sets_version.does old new (ours, tt) (Ok count) ran).0.makes;
       spares = spares_less filled_names (name_of Meta ∷ []) old.now new.now (among_first (name_of Meta) (name_of Stations ∷ []))
-          (spares_updating (layout_of Meta) (keys_of Meta) old new it version_text _ count _ (update_means version_query (layout_of Meta) version_text updates_version old.now.schema it.at it.tree it.has) ran.0);
+          (spares_updating (layout_of Meta) (keys_of Meta) old new it version_text _ count _
+          (update_means version_query (layout_of Meta) version_text updates_version old.now.schema it.at it.tree it.has) ran.0);
     }
 
 -- ---- INSERT of a station
@@ -184,7 +187,8 @@ inserts_station s tree = (refl, refl, refl, λ base. refl)
 pub station_writes : (db : Database) → IsOurs db → IsWriteIn db.schema station_text
 station_writes db ours =
     let it = ours.has Stations in
-    means_writes db.schema station_text _ (insert_is db.schema it.at (table_of (layout_of Stations) it.tree) it.has station_text (Values (row_terms (layout_of Stations)) (width (layout_of Stations))) (inserts_station db.schema it.tree)).0 tt
+    means_writes db.schema station_text _ (insert_is db.schema it.at (table_of (layout_of Stations) it.tree) it.has station_text (Values (row_terms (layout_of Stations)) (width (layout_of Stations)))
+    (inserts_station db.schema it.tree)).0 tt
 
 -- what it may hold, a column stores as it is
 kind_suits : (k : Kind) (v : Value) → may_hold k v ≡ true → suits k v ≡ true
@@ -203,7 +207,8 @@ station_suits : (row : Row) → IsStationRow row → suit_all (layout_of Station
 station_suits row it = all_suit (layout_of Stations).columns row 0 it
 
 -- .. reads that leave the reader as it is give its values in order ..
-module _ {F : Type 0} {g : Mut F (ℕ × Unit {0}) ValueRef} (row : Row) (f : F) (reads : (i : ℕ) (y : ValueRef) (q : F) → Called g f (i, tt) y q → (q ≡ f) × (owned y ≡ column row i)) (values : List ValueRef) where
+module _ {F : Type 0} {g : Mut F (ℕ × Unit {0}) ValueRef} (row : Row) (f : F) (reads : (i : ℕ) (y : ValueRef) (q : F) → Called g f (i, tt) y q → (q ≡ f) × (owned y ≡ column row i))
+    (values : List ValueRef) where
   value_is : (n i : ℕ) → IsFromFnResultFrom g f values i n → (k : ℕ) (d : ValueRef) → i ≤ k → k < i + n → owned (get_or values k d) ≡ column row k
   value_is zero i each k d from to = absurd (omega (arith, from, to))
   value_is (suc n) i (q, y, at, called, rest) k d from to = elim (cases_eq k i) [
@@ -233,12 +238,14 @@ bound_all cs vs h = absurd (let e = h in cc)
 pub station_bound : (row : Row) → IsStationRow row → map bound_value (station_row row) ≡ station_row row
 station_bound row it = bound_all (layout_of Stations).columns (station_row row) (station_suits row it)
 
-pub adds_station : (row : Row) → IsStationRow row → Does (Admits (Add Stations (station_row row))) (λ db. WasFree (Add Stations (station_row row)) (tables_of db)) (Puts (Add Stations (station_row row) ∷ [])) station_text (station_row row)
+pub adds_station : (row : Row) → IsStationRow row → Does (Admits (Add Stations (station_row row))) (λ db. WasFree (Add Stations (station_row row)) (tables_of db))
+    (Puts (Add Stations (station_row row) ∷ [])) station_text (station_row row)
 unfolding everything
 adds_station row it = let suit = station_suits row it in adds_row Stations (λ s. row_put (unique_key Stations) inserts_station refl suit (λ rows. refl))
 
 -- the station is added, and nothing else
-pub station_added : (row : Row) → IsStationRow row → (old new : State) → IsOurs old.now → (count : ℕ) → ExecutesInside 0 station_text (station_row row) old new (Ok count) → WritesOnly (Add Stations (station_row row) ∷ []) old.now new.now
+pub station_added : (row : Row) → IsStationRow row → (old new : State) → IsOurs old.now → (count : ℕ) → ExecutesInside 0 station_text (station_row row) old new (Ok count)
+    → WritesOnly (Add Stations (station_row row) ∷ []) old.now new.now
 station_added row suits old new ours count ran =
     let it = ours.has Stations in
     let values = Values (row_terms (layout_of Stations)) (width (layout_of Stations)) in
@@ -261,7 +268,8 @@ drop_writes e text is db was c understood_is = elim (drop_means db.schema was.at
     found First was = was.has.found
     found Second was = was.has.found
 
-pub drops : (e : Earlier) (text : List ℕ) → IsDrop (first text) (stations_name e) → (old new : State) → IsDatabase old.now → Stands old.now 1 (stations_layout e) → (count : ℕ) → Executes text [] old new (Ok count) → DropsStations e old.now new.now
+pub drops : (e : Earlier) (text : List ℕ) → IsDrop (first text) (stations_name e) → (old new : State) → IsDatabase old.now → Stands old.now 1 (stations_layout e) → (count : ℕ)
+    → Executes text [] old new (Ok count) → DropsStations e old.now new.now
 drops First text is old new sound was count ran =
     let it = table_dropped text 1 (stations_layout First) is old new sound was count ran in
     record { sound = it.sound; gone = it.free; others = it.others; spares = spares_dropping (stations_layout First) 1 old.now new.now was it }

@@ -1,5 +1,6 @@
 -- The first bad row is the lesser of the audit's and of the first station over the bound.
-use Rattle.std.proofs.Common.{◌≡◌, ◌<◌, ◌⊎◌, inl, inr, ℕ, zero, suc, true, false, List, [], ◌∷◌, ◌++◌, map, Option, Some, None, slice_get, Ordering, Less, Equal, Greater, if◌then◌else◌, refl, sym, ap, subst, ◌∙◌, arith}
+use Rattle.std.proofs.Common.{◌≡◌, ◌<◌, ◌⊎◌, inl, inr, ℕ, zero, suc, true, false, List, [], ◌∷◌, ◌++◌, map, Option, Some, None, slice_get, Ordering, Less, Equal, Greater, if◌then◌else◌, refl, sym, ap}
+use Rattle.std.proofs.Common.{subst, ◌∙◌, arith}
 use Rattle.std.specs.Prelude.{take, option_map, IfSome}
 use Rattle.std.specs.Ordering.{is_lt}
 use Rattle.std.specs.Cmp.{ranked}
@@ -8,10 +9,10 @@ use Rattle.std.proofs.lemmas.List.{map-append}
 use Rattle.sqlite_value.specs.Order.{Row, row_cmp}
 use Rattle.sqlite_value.proofs.OrderLemmas.{row_cmp_total}
 use Rattle.sqlite_rules.specs.Lists.{Has}
-use Rattle.bike_rows.specs.View.{by_key}
-use Rattle.bike_rows.proofs.ListLemmas.{map_has, has_map, same_some}
-use Rattle.bike_rows.proofs.OrderLemmas.{Rises, all_has}
-use Rattle.bike_rows.proofs.TreeLemmas.{by_key_total}
+use Rattle.bike_sql.specs.View.{by_key}
+use Rattle.bike_sql.proofs.RowListLemmas.{map_has, has_map, same_some}
+use Rattle.bike_sql.proofs.OrderLemmas.{Rises, all_has}
+use Rattle.bike_sql.proofs.TreeLemmas.{by_key_total}
 use Rattle.bike_book.specs.Tables.{TableName, Tables, keys_of, table_place, Stations}
 use Rattle.bike_schema.proofs.TableLemmas.{same_table}
 use Rattle.bike_readings.specs.Rules.{AreInOrder, row_under, IsGoodKey, IsFirstBad, IsVerdict}
@@ -152,7 +153,8 @@ module _ (t : Tables) (up : AreInOrder t) (rows : List Row) (copies : AreCopies 
     earlier_keeps table other less = bound_other t table other (apart table (λ same. omega (arith, less, same)))
 
     -- it is the first bad row
-    over_first : ((other : Row) → row_cmp other key ≡ Less → IsGoodKey t Stations other) → ((table : TableName) (other : Row) → table_place table < table_place Stations → IsGoodKey t table other) → IsFirstBadBefore t Stations key
+    over_first : ((other : Row) → row_cmp other key ≡ Less → IsGoodKey t Stations other) → ((table : TableName) (other : Row) → table_place table < table_place Stations → IsGoodKey t table other)
+        → IsFirstBadBefore t Stations key
     over_first below earlier = record {
       bad = λ good. too_many good.few;
       own = own_key;
@@ -161,7 +163,8 @@ module _ (t : Tables) (up : AreInOrder t) (rows : List Row) (copies : AreCopies 
     }
 
     -- the audit's is
-    audit_first : (name : TableName) (bad : Row) → IsFirstBad t name bad → ((other : Row) → row_cmp other bad ≡ Less → KeepsBound t name other) → ((table : TableName) (other : Row) → table_place table < table_place name → KeepsBound t table other)
+    audit_first : (name : TableName) (bad : Row) → IsFirstBad t name bad → ((other : Row) → row_cmp other bad ≡ Less → KeepsBound t name other)
+        → ((table : TableName) (other : Row) → table_place table < table_place name → KeepsBound t table other)
         → IsFirstBadBefore t name bad
     audit_first name bad first below earlier = record {
       bad = λ good. first.bad good.good;
@@ -196,7 +199,8 @@ module _ (t : Tables) (up : AreInOrder t) (rows : List Row) (copies : AreCopies 
         by : (o : Ordering) → o ≡ against_stations bad.0 → IsVerdictBefore t (lesser_of o bad key)
         by Less is =
             let less : table_place bad.0 < table_place Stations = ranked (table_place bad.0) (table_place Stations) Less is in
-            audit_first bad.0 bad.1 first (λ other below. bound_other t bad.0 other (apart bad.0 (λ same. omega (arith, less, same)))) (λ table other before. earlier_keeps table other (omega (arith, less, before)))
+            audit_first bad.0 bad.1 first (λ other below. bound_other t bad.0 other (apart bad.0 (λ same. omega (arith, less, same))))
+            (λ table other before. earlier_keeps table other (omega (arith, less, before)))
         by Equal is =
             let place : table_place bad.0 ≡ table_place Stations = ranked (table_place bad.0) (table_place Stations) Equal is in
             let same : bad.0 ≡ Stations = same_table bad.0 Stations (eq-eqb (table_place bad.0) (table_place Stations) place) in

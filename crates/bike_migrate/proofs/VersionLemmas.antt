@@ -5,10 +5,10 @@ use Rattle.std.specs.Ordering.{is_eq, match_ordering}
 use Rattle.sqlite_value.specs.declared.value.Value.{Value}
 use Rattle.sqlite_value.specs.declared.value.Value.TheVariants.{Null, Int, Real, Text, Blob}
 use Rattle.sqlite_value.specs.Order.{Row, row_cmp}
-use Rattle.bike_rows.specs.Keyed.{put_in}
-use Rattle.bike_rows.specs.View.{by_key, row_with, put_row_by, rows_after_update, with_values}
-use Rattle.bike_rows.proofs.OrderLemmas.{has_put}
-use Rattle.bike_rows.proofs.TreeLemmas.{by_key_total}
+use Rattle.bike_sql.specs.Keyed.{put_in}
+use Rattle.bike_sql.specs.View.{by_key, row_with, put_row_by, rows_after_update, with_values}
+use Rattle.bike_sql.proofs.OrderLemmas.{has_put}
+use Rattle.bike_sql.proofs.TreeLemmas.{by_key_total}
 use Rattle.bike_book.specs.declared.version.TheConstants.{NEWEST}
 use Rattle.bike_book.specs.Rows.{number_value, meta_row}
 use Rattle.bike_book.proofs.CatalogueBooks.{one_key}
@@ -31,7 +31,8 @@ meta_put version now cash revenue = rw one_key refl
 
 pub meta_raised : (version now : ℕ) (cash revenue : ℤ) → rows_after_update 1 key newest (meta_row version now cash revenue ∷ []) ≡ meta_row NEWEST now cash revenue ∷ []
 meta_raised version now cash revenue =
-    ap (λ (o : Option Row). unwrap_or (option_map (λ x. put_row_by 1 (newest x) (meta_row version now cash revenue ∷ [])) o) (meta_row version now cash revenue ∷ [])) (meta_found version now cash revenue)
+    ap (λ (o : Option Row). unwrap_or (option_map (λ x. put_row_by 1 (newest x) (meta_row version now cash revenue ∷ [])) o) (meta_row version now cash revenue ∷ []))
+    (meta_found version now cash revenue)
     ∙ meta_put version now cash revenue
 
 -- ---- and back
@@ -93,12 +94,15 @@ lowered v now cash revenue (a ∷ b ∷ c ∷ rest) made told =
     let first : a ≡ Int (pos 1) = cc in
     let app : b ≡ Text (codes "bikeshare") = cc in
     let others : rest ≡ number_value now ∷ Int cash ∷ Int revenue ∷ [] = cc in
-    ap (λ x. x ∷ b ∷ c ∷ rest) first ∙ ap (λ x. Int (pos 1) ∷ x ∷ c ∷ rest) app ∙ ap (λ x. Int (pos 1) ∷ Text (codes "bikeshare") ∷ x ∷ rest) version ∙ ap (λ xs. Int (pos 1) ∷ Text (codes "bikeshare") ∷ number_value v ∷ xs) others
+    ap (λ x. x ∷ b ∷ c ∷ rest) first ∙ ap (λ x. Int (pos 1) ∷ x ∷ c ∷ rest) app ∙ ap (λ x. Int (pos 1) ∷ Text (codes "bikeshare") ∷ x ∷ rest) version
+    ∙ ap (λ xs. Int (pos 1) ∷ Text (codes "bikeshare") ∷ number_value v ∷ xs) others
 
-pub meta_lowered : (v now : ℕ) (cash revenue : ℤ) (rows : List Row) → version_in (row_with 1 key rows) ≡ Version v → rows_after_update 1 key newest rows ≡ meta_row NEWEST now cash revenue ∷ [] → rows ≡ meta_row v now cash revenue ∷ []
+pub meta_lowered : (v now : ℕ) (cash revenue : ℤ) (rows : List Row) → version_in (row_with 1 key rows) ≡ Version v → rows_after_update 1 key newest rows ≡ meta_row NEWEST now cash revenue ∷ []
+    → rows ≡ meta_row v now cash revenue ∷ []
 meta_lowered v now cash revenue rows = by (row_with 1 key rows) refl
   where
-    by : (o : Option Row) → row_with 1 key rows ≡ o → version_in o ≡ Version v → unwrap_or (option_map (λ row. put_row_by 1 (newest row) rows) o) rows ≡ meta_row NEWEST now cash revenue ∷ [] → rows ≡ meta_row v now cash revenue ∷ []
+    by : (o : Option Row) → row_with 1 key rows ≡ o → version_in o ≡ Version v → unwrap_or (option_map (λ row. put_row_by 1 (newest row) rows) o) rows ≡ meta_row NEWEST now cash revenue ∷ []
+        → rows ≡ meta_row v now cash revenue ∷ []
     by None found told is = absurd (let none : Missing ≡ Version v = told in cc)
     by (Some row) found told is =
         let one = updated_one rows (meta_row NEWEST now cash revenue) row found is in

@@ -5,7 +5,7 @@ use Rattle.sqlite_trees.specs.declared.store.Store.{Ghosts}
 use Rattle.sqlite.specs.Effect.{Database}
 use Rattle.sqlite.specs.Held.{Held, state}
 use Rattle.sqlite.specs.State.{HasCleanDisk, ExecutesInside, Survives}
-use Rattle.bike_rows.specs.Inside.{IsWriteIn}
+use Rattle.bike_sql.specs.Inside.{IsWriteIn}
 use Rattle.bike_schema.specs.Makes.{Continues}
 
 module _ {S : Type 0} (g : Ghosts S) where
@@ -16,7 +16,8 @@ module _ {S : Type 0} (g : Ghosts S) where
     pub survives : Survives (state g old) (state g new)
         (λ _. ¬ (IsTrue old.in_transaction × IsWriteIn (state g old).now.schema text))
 
-  -- On databases of which `P` holds: the transaction goes on, and this is so of what it saw and what it sees. Nothing is committed.
+  -- On databases of which `P` holds: the transaction goes on, and
+  -- this is so of what it saw and what it sees. Nothing is committed.
   pub record DoesInside (P : Database → Type 0) (old new : Held S) {X E : Type 0} (result : Result X E)
       (does : Database → Database → X → Type 0) : Type 0 where
     pub done : HasCleanDisk (state g new) → IsTrue old.in_transaction → P (state g old).now

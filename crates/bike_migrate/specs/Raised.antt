@@ -5,8 +5,8 @@ use Rattle.sqlite_value.specs.Order.{Row}
 use Rattle.sqlite_schema.specs.declared.schema.Schema.{Schema}
 use Rattle.sqlite.specs.Effect.{Database, IsDatabase}
 use Rattle.bike_sql.specs.Makes.{IsFree}
-use Rattle.bike_rows.specs.Layout.{Layout}
-use Rattle.bike_rows.specs.Stands.{is_same_text, rows_of, Stands, Stays, Indexes}
+use Rattle.bike_sql.specs.Layout.{Layout}
+use Rattle.bike_sql.specs.Stands.{is_same_text, rows_of, Stands, Stays, Indexes}
 use Rattle.bike_book.specs.declared.version.TheConstants.{NEWEST}
 use Rattle.bike_book.specs.Tables.{TableName, Tables, Meta, Stations, MoreNames, keys_of, with_rows}
 use Rattle.bike_book.specs.Rows.{number_value}
@@ -15,7 +15,7 @@ use Rattle.bike_schema.specs.Layouts.{layout_of, name_of}
 use Rattle.bike_schema.specs.Indexes.{TableIndex, HasIndex, more_names_by_language, more_names_by_thing}
 use Rattle.bike_schema.specs.Makes.{Makes, OthersStay}
 use Rattle.bike_schema.specs.Tables.{tables_of, HasTables, is_parent, product_names}
-use Rattle.bike_rows.specs.Drops as drops
+use Rattle.bike_sql.specs.Drops as drops
 use Rattle.bike_recognition.specs.Recognition.{meta_version}
 use Rattle.bike_recognition.specs.declared.version.MetaVersion.TheVariants.{Version}
 use Rattle.bike_recognition.specs.declared.earlier_versions.earlier.Earlier.{Earlier}
@@ -160,7 +160,8 @@ is_product_name name = list_any (is_same_text name) product_names
 -- each table of another name stands as it did, with the rows that it had
 abbrev pub OthersKept : Database → Database → Type 0
 OthersKept old new =
-    (keys : ℕ) (layout : Layout) → is_product_name layout.name ≡ false → Stands old keys layout → Stays old new keys layout
+    (keys : ℕ) (layout : Layout) → is_product_name layout.name ≡ false → Stands old keys layout
+    → Stays old new keys layout
 
 -- the tables that a raise changes or drops
 abbrev pub changed_names : Earlier → List (List ℕ)

@@ -1,5 +1,6 @@
 -- What `raise` owes.
-use Rattle.std.specs.Prelude.{◌≡◌, ◌≤◌, ◌⊎◌, ℕ, false, List, codes, Option, Some, None, Result, IfOk, IfErr, OnOk, MatchResult, option_map, IsTrue, if◌then◌else◌}
+use Rattle.std.specs.Prelude.{◌≡◌, ◌≤◌, ◌⊎◌, ℕ, false, List, codes, Option, Some, None, Result, IfOk, IfErr, OnOk}
+use Rattle.std.specs.Prelude.{MatchResult, option_map, IsTrue, if◌then◌else◌}
 use Rattle.sqlite_value.specs.Order.{Row}
 use Rattle.sqlite_trees.specs.View.{doubt}
 use Rattle.sqlite_trees.specs.declared.store.Store.{Ghosts}
@@ -16,9 +17,9 @@ use Rattle.bike_schema.specs.Tables.{HasNone}
 use Rattle.bike_schema.specs.Indexes.{HasRoom}
 use Rattle.bike_schema.specs.declared.fault.StatementFault.{StatementFault}
 use Rattle.bike_schema.specs.declared.fault.StatementFault.TheVariants as statement
-use Rattle.bike_adoption.specs.Audit.{row_name, IsAudited, IsBadIn}
-use Rattle.bike_adoption.specs.Finding.TheVariants as finding
-use Rattle.bike_adoption.specs.BadRow.{BadRow}
+use Rattle.bike_audit.specs.Audit.{row_name, IsAudited, IsBadIn}
+use Rattle.bike_audit.specs.declared.finding.Finding.TheVariants as finding
+use Rattle.bike_audit.specs.declared.tables.BadRow.{BadRow}
 use Rattle.bike_recognition.specs.declared.earlier_versions.earlier.Earlier.{Earlier}
 use Rattle.bike_recognition.specs.declared.earlier_versions.found.Found.TheVariants as found
 use Rattle.bike_recognition.specs.EarlierVersions.Earlier.{stations_name}
@@ -41,7 +42,8 @@ name_at v t = name_of t
 -- the database is of the version, and this is the first bad row of its tables; at the newest the audit says which
 abbrev pub IsUnsoundAt : Database → Option Earlier → BadRow → Type 0
 IsUnsoundAt db None bad = IsFoundAs db found.Newest × IsBadIn db bad
-IsUnsoundAt db (Some e) bad = IsFoundAs db (found.Of e) × IsFirstBadBefore (tables_raised e db) (row_name bad).0 (row_name bad).1
+IsUnsoundAt db (Some e) bad =
+    IsFoundAs db (found.Of e) × IsFirstBadBefore (tables_raised e db) (row_name bad).0 (row_name bad).1
 
 abbrev pub IsUnsound : Database → UnsoundRow → Type 0
 IsUnsound db bad = IsUnsoundAt db bad.earlier bad.row
@@ -147,7 +149,8 @@ module _ {S : Type 0} (g : Ghosts S) where
   -- raised and committed, or as before where a row is bad
   abbrev pub BecomesAt : Earlier → Held S → Held S → Option BadRow → Type 0
   BecomesAt e old new None =
-      Shows (state g old) (state g new) (state g new).now (state g new).now false × Raises e (state g old).now (state g new).now
+      Shows (state g old) (state g new) (state g new).now (state g new).now false
+      × Raises e (state g old).now (state g new).now
   BecomesAt e old new (Some bad) = IsAsBefore old new
 
   -- WHAT RAISING IN PLACE DOES to a database of the version, on which nothing is pending
@@ -230,8 +233,8 @@ module _ {S : Type 0} where
   abbrev pub Leaves : Ghosts S → (Trees → Type 0) → Held S → Type 0
   Leaves g P c = HasCleanDisk (state g c) → AllLeft (state g c) P
 
-  -- WHAT A RAISE OWES: the connection to a database that stands, at the newest version, for the operator for which it stood at its own, or a fault
-  -- that hands the connection back
+  -- WHAT A RAISE OWES: the connection to a database that stands, at the newest version, for the operator for which it
+  -- stood at its own, or a fault that hands the connection back
   pub record IsRaise (g : Ghosts S) (old : Held S) (result : Result (Held S) (RaiseFault S)) : Type 0 where
     pub clean : MatchResult result (λ c. doubt (state g old).is_clean ≤ doubt (state g c).is_clean)
         (λ e. doubt (state g old).is_clean ≤ doubt (state g (handed e)).is_clean)
@@ -256,7 +259,8 @@ module _ {S : Type 0} where
     pub told : IfErr result (λ e. HasCleanDisk (state g (handed e)) → IsToldOf g old e)
     pub autocommit : MatchResult result (λ c. c.in_transaction ≡ false) IsOutside
     pub ended : IfErr result (λ e. HasCleanDisk (state g (handed e)) → (handed e).in_transaction ≡ false)
-    -- what a crash may leave after a fault; of a connection that was shut, too: what it might leave before, or tables that stand for the operator
+    -- what a crash may leave after a fault; of a connection that was shut,
+    -- too: what it might leave before, or tables that stand for the operator
     pub crash : (v : Option Earlier) (s : Operator) → TreesStandForAt v s (state g old).now.trees
         → IfErr result (λ e. Leaves g (λ trees. (state g old).may_leave trees ⊎ TreesStandFor s trees) e.conn)
     pub left : (v : Option Earlier) (s : Operator) → TreesStandForAt v s (state g old).now.trees

@@ -6,7 +6,7 @@ use Rattle.sqlite_schema.specs.declared.schema.Index.{Index}
 use Rattle.sqlite_rules.specs.Lists.{Has}
 use Rattle.sqlite.specs.Effect.{Database}
 use Rattle.bike_sql.specs.Has.{HasTable}
-use Rattle.bike_rows.specs.Stands.{is_same_text}
+use Rattle.bike_sql.specs.Stands.{is_same_text}
 
 -- The table is there as it was, whatever its columns, keys and rules, with the rows and the indexes that it had.
 pub record IsSpared (old new : Database) (t : Table) : Type 0 where

@@ -1,5 +1,6 @@
 -- The rows of an old table of stations.
-use Rattle.std.specs.Prelude.{◌≡◌, ℕ, ◌<◌, pos, int_le, Bool, true, false, List, [], map, length, take, slice_get, Option, Some, None}
+use Rattle.std.specs.Prelude.{◌≡◌, ℕ, ◌<◌, pos, int_le, Bool, true, false, List, [], map, length, take, slice_get}
+use Rattle.std.specs.Prelude.{Option, Some, None}
 use Rattle.std.specs.List.{range_with_len, list_all, zip}
 use Rattle.sqlite_value.specs.declared.value.Value.{Value}
 use Rattle.sqlite_value.specs.declared.value.Value.TheVariants.{Null, Int, Text}
@@ -7,9 +8,9 @@ use Rattle.sqlite_value.specs.Order.{Row, column}
 use Rattle.sqlite_rules.specs.Lists.{Has}
 use Rattle.sqlite_schema.specs.declared.schema.Kind.{Kind}
 use Rattle.sqlite_schema.specs.declared.schema.Kind.TheVariants.{Integer, Text as Words}
-use Rattle.bike_rows.specs.Answer.{HasOneAnswer}
-use Rattle.bike_rows.specs.Layout.{Layout}
-use Rattle.bike_rows.specs.Stands.{rows_of, Stands}
+use Rattle.bike_sql.specs.Answer.{HasOneAnswer}
+use Rattle.bike_sql.specs.Layout.{Layout}
+use Rattle.bike_sql.specs.Stands.{rows_of, Stands}
 use Rattle.bike_book.specs.Tables.{Stations}
 use Rattle.bike_book.specs.declared.columns.stations.TheConstants as stations
 use Rattle.bike_schema.specs.Layouts.{layout_of}
@@ -30,7 +31,8 @@ may_hold _ _ = false
 
 -- each column of the row holds what one of its kind may hold
 abbrev pub has_kinds : Row → List Kind → Bool
-has_kinds row kinds = list_all (λ (x : ℕ × Kind). may_hold x.1 (column row x.0)) (zip (range_with_len 0 (length kinds)) kinds)
+has_kinds row kinds =
+    list_all (λ (x : ℕ × Kind). may_hold x.1 (column row x.0)) (zip (range_with_len 0 (length kinds)) kinds)
 
 -- each column of it holds what it may hold in the newest table
 abbrev pub IsStationRow : Row → Type 0

@@ -22,7 +22,8 @@ pub record IsGoodBefore (t : Tables) (name : TableName) (key : Row) : Type 0 whe
 abbrev pub AllGoodBefore : Tables → Type 0
 AllGoodBefore t = (name : TableName) (key : Row) → IsGoodBefore t name key
 
--- The key is the first bad one, by the order of the tables and then of the keys of the table. Where it has a row, it is written as the row has it.
+-- The key is the first bad one, by the order of the tables and then of the
+-- keys of the table. Where it has a row, it is written as the row has it.
 pub record IsFirstBadBefore (t : Tables) (name : TableName) (key : Row) : Type 0 where
   pub bad : IsGoodBefore t name key → ⊥
   pub own : IfSome (row_under t name key) (λ row. take (keys_of name) row ≡ key)

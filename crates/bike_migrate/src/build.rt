@@ -2,7 +2,7 @@
 
 ghost use Rattle.bike_book.specs.Tables.{Regions, Stations, MoreNames};
 ghost use Rattle.sqlite_resolve.specs.Compile.{first};
-ghost use Rattle.bike_rows.specs.Drops.{IsDrop};
+ghost use Rattle.bike_sql.specs.Drops.{IsDrop};
 ghost use Rattle.bike_recognition.specs.EarlierVersions.Earlier.{newer_names, stations_name, IsAt};
 ghost use Rattle.bike_recognition.specs.declared.earlier_versions.earlier.Earlier.TheVariants.{Second};
 ghost use Rattle.bike_recognition.specs.Recognition.{TableStands};

@@ -1,10 +1,10 @@
 //! Why a connection wasn't raised.
 
 ghost use Rattle.std.specs.Prelude.{◌≡◌};
-ghost use Rattle.bike_adoption.specs.Audit.{row_name};
+ghost use Rattle.bike_audit.specs.Audit.{row_name};
 ghost use Rattle.bike_migrate.specs.Raising.{failed, name_at};
 
-use bike_adoption::BadRow;
+use bike_audit::BadRow;
 use bike_recognition::{Earlier, TableName};
 use bike_schema::StatementFault;
 use sqlite::{Alter, Connection};

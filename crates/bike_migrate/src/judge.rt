@@ -1,8 +1,8 @@
 //! The verdict on the tables of an earlier version, once they are raised.
 
 ghost use Rattle.std.specs.Prelude.{◌≡◌, take, option_map};
-ghost use Rattle.bike_adoption.specs.Audit.{row_name};
-ghost use Rattle.bike_rows.specs.Calls.{ReadsWhere};
+ghost use Rattle.bike_audit.specs.Audit.{row_name};
+ghost use Rattle.bike_sql.specs.Calls.{ReadsWhere};
 ghost use Rattle.bike_schema.specs.Tables.{IsOurs, tables_of};
 ghost use Rattle.bike_recognition.specs.Names.{table_named};
 ghost use Rattle.bike_migrate.specs.Stations.{AreCopies};
@@ -11,7 +11,7 @@ ghost use Rattle.bike_book.specs.Tables.{Stations};
 ghost use Rattle.bike_migrate.specs.Verdicts.{IsVerdictBefore, first_of, lesser_of, against_stations};
 
 use crate::stations::first_over;
-use bike_adoption::{BadRow, Watch, first_bad_row};
+use bike_audit::{BadRow, Watch, first_bad_row};
 use bike_judges::{BadKey, least};
 use bike_recognition::TableName;
 use bike_schema::StatementFault;

@@ -13,6 +13,6 @@ mod judge;
 mod raising;
 mod stations;
 
-pub use bike_adoption::{AdoptCause, AdoptFault, Watch, adopt};
+pub use bike_audit::{AdoptCause, AdoptFault, Watch, adopt};
 pub use fault::{RaiseCause, RaiseFault, UnsoundRow};
 pub use raising::{raise, raise_watched};

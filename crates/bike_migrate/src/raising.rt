@@ -3,7 +3,7 @@
 ghost use Rattle.std.specs.Prelude.{◌≡◌, false, None, option_map, OnOk};
 ghost use Rattle.sqlite.specs.Held.{state};
 ghost use Rattle.sqlite.specs.State.{HasCleanDisk, Survives};
-ghost use Rattle.bike_adoption.specs.Audit.{row_name};
+ghost use Rattle.bike_audit.specs.Audit.{row_name};
 ghost use Rattle.bike_recognition.specs.Recognition.{ReadsAny};
 ghost use Rattle.bike_migrate.specs.Calls.{DoesInside};
 ghost use Rattle.bike_migrate.specs.Raised.{WasRead};
@@ -15,10 +15,10 @@ use crate::build::{build, drop_stations};
 use crate::fault::{RaiseCause, RaiseFault, UnsoundRow};
 use crate::judge::judge;
 use crate::stations::read_stations;
-use bike_adoption::{BadRow, Finding, Unwatched, Watch, audit};
+use bike_audit::{BadRow, Finding, NoWatch, Watch, audit};
 use bike_recognition::{Earlier, Found, check_open, find_version_of};
-use bike_rows::inside::{begin, commit, is_at_rest, undo};
 use bike_schema::{StatementFault, has_room};
+use bike_sql::inside::{begin, commit, is_at_rest, undo};
 use sqlite::{Alter, Connection, Row};
 use std::alloc::Global;
 
@@ -204,7 +204,7 @@ pub fn raise<S: Alter>(alloc: Global, conn: Connection<S>) -> Result<Connection<
     requires { conn.in_transaction ≡ false }
     ensures { IsRaise S.Store conn result }
 {
-    raise_watched(alloc, conn, &mut Unwatched)
+    raise_watched(alloc, conn, &mut NoWatch)
 }
 
 /// Raises the database as `raise` does, and tells `watch` of each table before it is audited, so that a caller can show

@@ -3,7 +3,7 @@
 ghost use Rattle.std.specs.Prelude.{◌≡◌, IfOk};
 ghost use Rattle.sqlite_value.specs.Order.{column};
 ghost use Rattle.sqlite_value.specs.Value.{owned};
-ghost use Rattle.bike_rows.specs.Calls.{ReadsWhere};
+ghost use Rattle.bike_sql.specs.Calls.{ReadsWhere};
 ghost use Rattle.bike_recognition.specs.EarlierVersions.Earlier.{stations_layout};
 ghost use Rattle.bike_migrate.specs.Raised.{old_stations, HasOld};
 ghost use Rattle.bike_migrate.specs.Stations.{AsksRows, may_hold, has_kinds, has_few, IsOver};

@@ -10,10 +10,10 @@ use Rattle.sqlite.specs.Effect.{Database}
 use Rattle.sqlite.specs.Held.{Held, state}
 use Rattle.sqlite.specs.State.{HasCleanDisk, IsUnchanged, Survives}
 use Rattle.sqlite.proofs.StateLemmas.{survives_weaker}
-use Rattle.bike_rows.specs.Calls.{ReadsWhere, WalksWhere}
-use Rattle.bike_rows.specs.Outcome.{IsLeft}
-use Rattle.bike_rows.specs.Walk.{IsWalking, GoesOn}
-use Rattle.bike_rows.proofs.ChainLaws.{reads_as, reads_both, reads_failed, reads_refused}
+use Rattle.bike_sql.specs.Calls.{ReadsWhere, WalksWhere}
+use Rattle.bike_sql.specs.Outcome.{IsLeft}
+use Rattle.bike_sql.specs.Walk.{IsWalking, GoesOn}
+use Rattle.bike_sql.proofs.ChainLaws.{reads_as, reads_both, reads_failed, reads_refused}
 use Rattle.bike_book.specs.Tables.{Tables}
 use Rattle.bike_book.specs.Stored.{tables_for}
 use Rattle.bike_schema.specs.Answers.{Answers}
@@ -29,8 +29,10 @@ module _ {S X : Type 0} (g : Ghosts S) (Reads : Row → X → Type 0) where
   pub one_read : (new : Held S) (row : Row) (x : X) → Reads row x → (left : List Row) → GoesOn g new left (Some row) → ReadsNext g Reads new left (Some x)
   one_read new row x read left on = (row, on.0, on.1, read, on.2)
 
-  pub next_read : (old new : Held S) (result : Result (Option X) StatementFault) → (HasCleanDisk (state g new) → IfOk result (λ x. (left : List Row) → IsWalking g old left → ReadsNext g Reads new left x))
-      → (HasCleanDisk (state g new) → OnOk result (IsUnchanged (state g old) (state g new))) → (HasCleanDisk (state g new) → OnErr result (IsLeft (state g old) (state g new))) → (old.in_transaction ≡ false → new.in_transaction ≡ false)
+  pub next_read : (old new : Held S) (result : Result (Option X) StatementFault)
+      → (HasCleanDisk (state g new) → IfOk result (λ x. (left : List Row) → IsWalking g old left → ReadsNext g Reads new left x))
+      → (HasCleanDisk (state g new) → OnOk result (IsUnchanged (state g old) (state g new))) → (HasCleanDisk (state g new) → OnErr result (IsLeft (state g old) (state g new)))
+      → (old.in_transaction ≡ false → new.in_transaction ≡ false)
       → Survives (state g old) (state g new) (λ _. ⊥) → ReadsWhere g IsOurs old new result (λ db x. (left : List Row) → IsWalking g old left → ReadsNext g Reads new left x)
   next_read old new result next same failed mode survives = record {
     found = λ clean ours. next clean;
@@ -51,12 +53,14 @@ module _ {S X : Type 0} (g : Ghosts S) (Reads : Row → X → Type 0) where
 
   -- so far, wherever the walk began
   abbrev pub ReadSoFar : Held S → Held S → List X → Type 0
-  ReadSoFar begun now xs = (first : Held S) (all : Database → List Row) → WalksOver g first begun all → ReadsWhere g IsOurs first now {X = Unit {0}} {E = StatementFault} (Ok tt) (λ db _. HaveRead (all db) now xs)
+  ReadSoFar begun now xs =
+      (first : Held S) (all : Database → List Row) → WalksOver g first begun all → ReadsWhere g IsOurs first now {X = Unit {0}} {E = StatementFault} (Ok tt) (λ db _. HaveRead (all db) now xs)
 
   pub none_read : (now : Held S) → ReadSoFar now now []
   none_read now first all begun = reads_as begun (λ db it. record { taken = []; rest = all db; split = refl; read = tt; walking = it })
 
-  one_more : (all : List Row) (old new : Held S) (xs : List X) (x : X) → HaveRead all old xs → ((left : List Row) → IsWalking g old left → ReadsNext g Reads new left (Some x)) → HaveRead all new (xs ++ x ∷ [])
+  one_more : (all : List Row) (old new : Held S) (xs : List X) (x : X) → HaveRead all old xs → ((left : List Row) → IsWalking g old left → ReadsNext g Reads new left (Some x))
+      → HaveRead all new (xs ++ x ∷ [])
   one_more all old new xs x was next =
       let on = next was.rest was.walking in
       let split : all ≡ was.taken ++ on.0 ∷ on.1 = was.split ∙ ap (λ (rest : List Row). was.taken ++ rest) on.2 in
@@ -88,7 +92,8 @@ module _ {S X : Type 0} (g : Ghosts S) (Reads : Row → X → Type 0) where
 
       pub ends : (x : Option X) → Steps (Ok x) → x ≡ None → (y : Y) → items y ≡ xs → Collects (Ok y)
       ends x step is y same =
-          reads_as (reads_both (so_far first all it) step) (λ db both. subst (AllZip Reads (all db)) (sym same) (all_read (all db) old new xs both.0 (λ left walks. subst (ReadsNext g Reads new left) is (both.1 left walks))))
+          reads_as (reads_both (so_far first all it) step) (λ db both. subst (AllZip Reads (all db)) (sym same)
+          (all_read (all db) old new xs both.0 (λ left walks. subst (ReadsNext g Reads new left) is (both.1 left walks))))
 
       -- a row couldn't be read, or found no room
       pub fails : (step : Result (Option X) StatementFault) → Steps step → (result : Result Y StatementFault) → IsErr result → Collects result
@@ -97,12 +102,15 @@ module _ {S X : Type 0} (g : Ghosts S) (Reads : Row → X → Type 0) where
 
       -- the walk ended at no row
       pub gives_up : (result : Result Y StatementFault) → IsErr result → (old ≡ new) → Collects result
-      gives_up result is same = reads_refused {X = Unit {0}} {E = StatementFault} (subst (λ now. ReadsWhere g IsOurs first now {X = Unit {0}} {E = StatementFault} (Ok tt) (λ db _. Unit {0})) same (reads_as (so_far first all it) (λ db _. tt))) is
+      gives_up result is same =
+          reads_refused {X = Unit {0}} {E = StatementFault} (subst (λ now. ReadsWhere g IsOurs first now {X = Unit {0}} {E = StatementFault} (Ok tt) (λ db _. Unit {0})) same
+          (reads_as (so_far first all it) (λ db _. tt))) is
 
 -- ---- the whole walk
 
 -- What began as a walk over these rows is read to its end.
-pub begins : {S E : Type 0} {g : Ghosts S} {conn : MutBor (Held S)} {rows : Rows S g} {all : Database → List Row} → WalksWhere g IsOurs conn {E = E} (Ok rows) all → WalksOver g conn.now rows.conn.now all
+pub begins : {S E : Type 0} {g : Ghosts S} {conn : MutBor (Held S)} {rows : Rows S g} {all : Database → List Row} → WalksWhere g IsOurs conn {E = E} (Ok rows) all
+    → WalksOver g conn.now rows.conn.now all
 begins walks = record { found = walks.begun; same = walks.same; failed = λ clean ours. tt; quiet = walks.quiet }
 
 -- Where each row was read as it stands, these are the rows of the operator's tables.

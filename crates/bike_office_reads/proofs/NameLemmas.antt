@@ -1,5 +1,6 @@
 -- The rows of further names, and what is read of them.
-use Rattle.std.proofs.Common.{◌≡◌, ◌+◌, ◌<◌, ℕ, List, [], ◌∷◌, ◌++◌, length, take, get_or, map, filter, Bool, true, false, cond, ◌&&◌, codes, negsuc, Option, Some, None, refl, sym, ap, ap₂, subst, ◌∙◌}
+use Rattle.std.proofs.Common.{◌≡◌, ◌+◌, ◌<◌, ℕ, List, [], ◌∷◌, ◌++◌, length, take, get_or, map, filter, Bool, true, false, cond, ◌&&◌, codes, negsuc, Option, Some, None, refl, sym, ap, ap₂, subst}
+use Rattle.std.proofs.Common.{◌∙◌}
 use Rattle.std.specs.Prelude.{option_map}
 use Rattle.std.specs.List.{AllZip}
 use Rattle.std.specs.Ordering.{is_eq}
@@ -11,9 +12,9 @@ use Rattle.sqlite_value.specs.Order.{Row, column}
 use Rattle.sqlite_value.proofs.OrderLemmas.{value_cmp-Text}
 use Rattle.sqlite_sql.specs.Term.{Term, lit, col}
 use Rattle.sqlite_tied.specs.Compute.{everything}
-use Rattle.bike_rows.specs.Queries.{key_test}
-use Rattle.bike_rows.proofs.SelectLaws.{rows_passing}
-use Rattle.bike_rows.proofs.TestLemmas.{eq_test}
+use Rattle.bike_sql.specs.Queries.{key_test}
+use Rattle.bike_sql.proofs.SelectLaws.{rows_passing}
+use Rattle.bike_sql.proofs.TestLemmas.{eq_test}
 use Rattle.bike_catalogue.specs.Rows.{MoreNameRow, SystemRow}
 use Rattle.bike_fields.specs.Bytes.{kept_if, is_language, is_name, language_of, name_of}
 use Rattle.bike_fields.specs.declared.name_kind.NameKind.{NameKind}
@@ -38,7 +39,9 @@ pub lists_names : (kind : NameKind) (first last : List ℕ)
     (λ t. map owned_name (filter (is_name_within kind first last) t.more_names))
 unfolding everything
 lists_names kind first last = record {
-  lists = λ db has. rows_passing (table_key MoreNames) (has MoreNames) name_columns owned_name (λ r. refl) (key_test 1 0 ∷ within_tests 2 1 2) (lit (Int (negsuc 0))) (is_name_within kind first last) (λ tree. refl, refl)
+  lists =
+      λ db has. rows_passing (table_key MoreNames) (has MoreNames) name_columns owned_name (λ r. refl) (key_test 1 0 ∷ within_tests 2 1 2) (lit (Int (negsuc 0))) (is_name_within kind first last)
+      (λ tree. refl, refl)
       (λ r. ap₂ (λ (a b : Bool). a && b) (eq_test (column r 1) (Text (kind_text kind)) refl) (within_test (column r 2) (Text first) (Text last) refl refl));
 }
 
@@ -58,13 +61,15 @@ module _ (kind : NameKind) (id : List ℕ) where
   its_rows [] = refl
   its_rows (e ∷ es) = rw (is_its_name e) (go (is_name_of kind id e.0) (its_rows es)) where
     go : (b : Bool) → filter is_its_row (map stored_name es) ≡ map stored_name (filter (λ x. is_name_of kind id x.0) es)
-        → cond b (stored_name e ∷ filter is_its_row (map stored_name es)) (filter is_its_row (map stored_name es)) ≡ map stored_name (cond b (e ∷ filter (λ x. is_name_of kind id x.0) es) (filter (λ x. is_name_of kind id x.0) es))
+        → cond b (stored_name e ∷ filter is_its_row (map stored_name es)) (filter is_its_row (map stored_name es))
+        ≡ map stored_name (cond b (e ∷ filter (λ x. is_name_of kind id x.0) es) (filter (λ x. is_name_of kind id x.0) es))
     go true rest = ap (λ (rows : List Row). stored_name e ∷ rows) rest
     go false rest = rest
 
 -- ---- what is read of the rows
 
-pub next_named : (rows : List Row) (names : List MoreNameRow) (i : ℕ) (row : Row) (x : MoreNameRow) → i < length rows → row ≡ get_or rows i row → IsOwnedName row x → AllZip IsOwnedName (take i rows) names
+pub next_named : (rows : List Row) (names : List MoreNameRow) (i : ℕ) (row : Row) (x : MoreNameRow) → i < length rows → row ≡ get_or rows i row → IsOwnedName row x
+    → AllZip IsOwnedName (take i rows) names
     → AllZip IsOwnedName (take (i + 1) rows) (names ++ x ∷ [])
 next_named rows names i row x below is named so =
     subst (λ front. AllZip IsOwnedName front (names ++ x ∷ [])) (ap (λ r. take i rows ++ r ∷ []) is ∙ sym (take_more rows i row below)) (all_zipped_more IsOwnedName (take i rows) names row x so named)
@@ -77,7 +82,8 @@ names_read (e ∷ es) [] named = absurd named
 names_read (e ∷ es) (x ∷ names) named = ap₂ (λ (n : MoreNameRow) (ns : List MoreNameRow). n ∷ ns) (named.0 e refl) (names_read es names named.1)
 
 -- the system's identifier and language, of its row
-pub key_found : (o : Option SystemRow) {row : Row} {x : List ℕ × List ℕ} → ((r : SystemRow) → row ≡ system_row r → x ≡ system_key r) → Some row ≡ option_map system_row o → Some x ≡ option_map system_key o
+pub key_found : (o : Option SystemRow) {row : Row} {x : List ℕ × List ℕ} → ((r : SystemRow) → row ≡ system_row r → x ≡ system_key r) → Some row ≡ option_map system_row o
+    → Some x ≡ option_map system_key o
 key_found None reads is = absurd cc
 key_found (Some r) reads is = ap Some (reads r cc)
 
@@ -91,7 +97,8 @@ kept_is : (is_kind : Bool) (text x : List ℕ) → kept_if is_kind text ≡ Some
 kept_is true text x kept = cc
 kept_is false text x kept = absurd cc
 
-pub name_of_row : (id language name : List ℕ) (row : Row) (x : MoreNameRow) → row ≡ Text id ∷ Text language ∷ Text name ∷ [] → language_of language ≡ Some x.language → name_of name ≡ Some x.name → IsOwnedName row x
+pub name_of_row : (id language name : List ℕ) (row : Row) (x : MoreNameRow) → row ≡ Text id ∷ Text language ∷ Text name ∷ [] → language_of language ≡ Some x.language → name_of name ≡ Some x.name
+    → IsOwnedName row x
 unfolding language_of name_of
 name_of_row id language name row x is spoken called e stored =
     let same = sym is ∙ stored in

@@ -65,7 +65,8 @@ module _ (rider : ℕ) where
       most y (inr later) same = absurd (none y later same)
 
   -- what is found is the newest of these, or what was there before them
-  found_newest : (n : ℕ) (xs : List Rental) (so_far : Option (ℕ × Rental)) (e : ℕ × Rental) → fold (later_of rider) so_far (numbers_from n xs) ≡ Some e → IsNewest (numbers_from n xs) e ⊎ ((so_far ≡ Some e) × NoneHis (numbers_from n xs))
+  found_newest : (n : ℕ) (xs : List Rental) (so_far : Option (ℕ × Rental)) (e : ℕ × Rental) → fold (later_of rider) so_far (numbers_from n xs) ≡ Some e
+      → IsNewest (numbers_from n xs) e ⊎ ((so_far ≡ Some e) × NoneHis (numbers_from n xs))
   found_newest n [] so_far e is = inr (is, λ x has. elim has [ ])
   found_newest n (x ∷ xs) so_far e is = by (x.rider == rider) refl (found_newest (suc n) xs (later_of rider so_far (n, x)) e is)
     where
@@ -120,7 +121,8 @@ module _ (test : ℕ × Rental → Bool) where
         least y (inl same) also = absurd (true≢false (sym also ∙ ap test same ∙ other))
         least y (inr later) also = it.least y later also
 
-      by : (b : Bool) → test (n, x) ≡ b → cond b (Some (n, x)) (find test (numbers_from (suc n) xs)) ≡ Some e → (find test (numbers_from (suc n) xs) ≡ Some e → IsFirst (numbers_from (suc n) xs) e) → IsFirst (numbers_from n (x ∷ xs)) e
+      by : (b : Bool) → test (n, x) ≡ b → cond b (Some (n, x)) (find test (numbers_from (suc n) xs)) ≡ Some e → (find test (numbers_from (suc n) xs) ≡ Some e → IsFirst (numbers_from (suc n) xs) e)
+          → IsFirst (numbers_from n (x ∷ xs)) e
       by true passes same rest = subst (IsFirst (numbers_from n (x ∷ xs))) (same_Some (n, x) e same) (here passes)
       by false other later rest = after other (rest later)
 
@@ -128,7 +130,8 @@ module _ (test : ℕ × Rental → Bool) where
   none_passes n [] x is has = elim has [ ]
   none_passes n (y ∷ ys) x is has = by (test (n, y)) refl is has (λ later more. none_passes (suc n) ys x later more)
     where
-      by : (b : Bool) → test (n, y) ≡ b → cond b (Some (n, y)) (find test (numbers_from (suc n) ys)) ≡ None → Has (numbers_from n (y ∷ ys)) x → (find test (numbers_from (suc n) ys) ≡ None → Has (numbers_from (suc n) ys) x → test x ≡ false) → test x ≡ false
+      by : (b : Bool) → test (n, y) ≡ b → cond b (Some (n, y)) (find test (numbers_from (suc n) ys)) ≡ None → Has (numbers_from n (y ∷ ys)) x
+          → (find test (numbers_from (suc n) ys) ≡ None → Has (numbers_from (suc n) ys) x → test x ≡ false) → test x ≡ false
       by true passes found has rest = absurd cc
       by false other later (inl same) rest = ap test same ∙ other
       by false other later (inr more) rest = rest later more

@@ -1,5 +1,6 @@
 -- The statements that look for newest rentals, and whose rows they find. WHERE tests ORDER BY the key DESC LIMIT 1 answers the row with the last key of those that pass.
-use Rattle.std.proofs.Common.{◌≡◌, ◌<◌, inl, inr, ℕ, suc, ℤ, pos, negsuc, List, [], ◌∷◌, codes, length, map, filter, find, take, slice_get, Bool, true, false, cond, ◌&&◌, ◌==◌, Option, Some, None, Ordering, Less, Equal, Greater, refl, sym, ap, ap₂, subst, ◌∙◌, arith}
+use Rattle.std.proofs.Common.{◌≡◌, ◌<◌, inl, inr, ℕ, suc, ℤ, pos, negsuc, List, [], ◌∷◌, codes, length, map, filter, find, take, slice_get, Bool, true, false, cond, ◌&&◌, ◌==◌, Option, Some, None}
+use Rattle.std.proofs.Common.{Ordering, Less, Equal, Greater, refl, sym, ap, ap₂, subst, ◌∙◌, arith}
 use Rattle.std.specs.Prelude.{fold, nat_lt, option_map}
 use Rattle.std.specs.Ordering.{nat_cmp, is_eq, is_lt, is_gt, MatchOrdering}
 use Rattle.std.specs.Cmp.{ranks, unsigned_tied}
@@ -26,25 +27,25 @@ use Rattle.sqlite_sql.proofs.QueryLemmas.{output_cmp_total}
 use Rattle.sqlite_rules.specs.Lists.{Has}
 use Rattle.sqlite_tied.specs.Compute.{everything}
 use Rattle.sqlite.specs.Effect.{Database}
-use Rattle.bike_rows.specs.Keyed.{in_order}
-use Rattle.bike_rows.specs.Layout.{Layout, table_of}
-use Rattle.bike_rows.specs.View.{columns_of, by_key, rows_where, last_of}
-use Rattle.bike_rows.specs.Stands.{rows_of, Stands}
-use Rattle.bike_rows.specs.Queries.{table_query, limit_query, only_one, key_tests, key_in, null_tests}
-use Rattle.bike_rows.specs.Answer.{MeansQuery, HasOneAnswer}
-use Rattle.bike_rows.proofs.OrderLemmas.{AreApart, all_has, rises, order_has, has_order}
-use Rattle.bike_rows.proofs.KeyLemmas.{IsKeyAt}
-use Rattle.bike_rows.proofs.ListLemmas.{map_map, has_map, map_has, has_filter, permuted, no_list, same_some}
-use Rattle.bike_rows.proofs.TreeLemmas.{by_key_total, shown_apart}
-use Rattle.bike_rows.proofs.AnswerLemmas.{passes, out, Answered, answered_page, out_from}
-use Rattle.bike_rows.proofs.FrameLemmas.{rows_of_is}
-use Rattle.bike_rows.proofs.PageLaw.{map_same_list, tests_null}
-use Rattle.bike_rows.proofs.RangeLaw.{order_filter, filter_has_same}
-use Rattle.bike_rows.proofs.SelectLaws.{AreShown, places_of, every_column, rows_passing}
-use Rattle.bike_rows.proofs.SortLemmas.{ascends}
-use Rattle.bike_rows.proofs.TestLemmas.{tests_key, truth_of}
-use Rattle.bike_rows.proofs.TextLemmas.{IsSelect, select_means}
-use Rattle.bike_rows.proofs.WalkLaw.{Finds, one_answer}
+use Rattle.bike_sql.specs.Keyed.{in_order}
+use Rattle.bike_sql.specs.Layout.{Layout, table_of}
+use Rattle.bike_sql.specs.View.{columns_of, by_key, rows_where, last_of}
+use Rattle.bike_sql.specs.Stands.{rows_of, Stands}
+use Rattle.bike_sql.specs.Queries.{table_query, limit_query, only_one, key_tests, key_in, null_tests}
+use Rattle.bike_sql.specs.Answer.{MeansQuery, HasOneAnswer}
+use Rattle.bike_sql.proofs.OrderLemmas.{AreApart, all_has, rises, order_has, has_order}
+use Rattle.bike_sql.proofs.KeyLemmas.{IsKeyAt}
+use Rattle.bike_sql.proofs.RowListLemmas.{map_map, has_map, map_has, has_filter, permuted, no_list, same_some}
+use Rattle.bike_sql.proofs.TreeLemmas.{by_key_total, shown_apart}
+use Rattle.bike_sql.proofs.AnswerLemmas.{passes, out, Answered, answered_page, out_from}
+use Rattle.bike_sql.proofs.FrameLemmas.{rows_of_is}
+use Rattle.bike_sql.proofs.PageLaw.{map_same_list, tests_null}
+use Rattle.bike_sql.proofs.RangeLaw.{order_filter, filter_has_same}
+use Rattle.bike_sql.proofs.SelectLaws.{AreShown, places_of, every_column, rows_passing}
+use Rattle.bike_sql.proofs.SortLemmas.{ascends}
+use Rattle.bike_sql.proofs.TestLemmas.{tests_key, truth_of}
+use Rattle.bike_sql.proofs.TextLemmas.{IsSelect, select_means}
+use Rattle.bike_sql.proofs.WalkLaw.{Finds, one_answer}
 use Rattle.bike_ledger.specs.Entries.{Entry}
 use Rattle.bike_ledger.specs.Ledger.{refunded_of}
 use Rattle.bike_operator.specs.declared.records.Rental.{Rental}
@@ -80,7 +81,8 @@ down = (col 1 0, record { collation = Binary; descending = true }) ∷ []
 -- The key is an INTEGER PRIMARY KEY, the query shows each column, and its tests decide of a stored row what `test` does of the row that shows.
 module _ (layout : Layout) (db : Database) (was : Stands db 1 layout) (text : List ℕ) (params : Row) (tests : List Term) (project : List Term) (names : List (List ℕ))
     (means : MeansQuery db.schema text (limit_query only_one (table_query was.tree tests down project)) names) (first : (r : Row) → take 1 (columns_of (table_of layout was.tree) r) ≡ rowid r ∷ [])
-    (shows : (r : Row) → eval_all project (params ∷ r ∷ []) ≡ columns_of (table_of layout was.tree) r) (test : Row → Bool) (decides : (r : Row) → list_all (holds (params ∷ r ∷ [])) tests ≡ test (columns_of (table_of layout was.tree) r)) where
+    (shows : (r : Row) → eval_all project (params ∷ r ∷ []) ≡ columns_of (table_of layout was.tree) r) (test : Row → Bool)
+    (decides : (r : Row) → list_all (holds (params ∷ r ∷ [])) tests ≡ test (columns_of (table_of layout was.tree) r)) where
   abbrev f : Row → Row
   f = columns_of (table_of layout was.tree)
 
@@ -150,19 +152,23 @@ shows_every layout tree params r = map_map _ (λ term. eval term (params ∷ r �
 
 -- SELECT * FROM the table WHERE the columns equal the parameters from one on ORDER BY its key DESC LIMIT 1
 module _ {layout : Layout} (key : IsKeyAt 1 layout (0 ∷ [])) {db : Database} (was : Stands db 1 layout) {text : List ℕ} {params : Row} where
-  last_with : (at : ℕ) (columns : List ℕ) → IsSelect (limit_query only_one (table_query 0 (key_tests at (places_of layout columns)) down (every_column layout))) layout text → list_any is_null (key_in at (places_of layout columns) params) ≡ false → AreShown layout columns
+  last_with : (at : ℕ) (columns : List ℕ) → IsSelect (limit_query only_one (table_query 0 (key_tests at (places_of layout columns)) down (every_column layout))) layout text
+      → list_any is_null (key_in at (places_of layout columns) params) ≡ false → AreShown layout columns
       → Finds db text params (slice_get (last_of (rows_where columns (key_in at (places_of layout columns) params) (rows_of 1 layout.name db))) 0)
   last_with at columns is solid same =
       let it = select_means (limit_query only_one (table_query 0 (key_tests at (places_of layout columns)) down (every_column layout))) layout text is db.schema was.at was.tree was.has in
       let values = key_in at (places_of layout columns) params in
       record {
         all = _;
-        one = last_passing layout db was text params (key_tests at (places_of layout columns)) (every_column layout) it.0 it.1 key.first (shows_every layout was.tree params) (λ row. is_eq (row_cmp (map (column row) columns) values))
+        one =
+            last_passing layout db was text params (key_tests at (places_of layout columns)) (every_column layout) it.0 it.1 key.first (shows_every layout was.tree params)
+            (λ row. is_eq (row_cmp (map (column row) columns) values))
             (λ r. tests_key at (places_of layout columns) params r solid ∙ ap (λ k. is_eq (row_cmp k values)) (sym (same r)));
         first = refl;
       }
 
-pub finds_newest : (rider : ℕ) → FindsIn (codes "SELECT * FROM rentals WHERE rider = ?1 ORDER BY rental DESC LIMIT 1") (number_value rider ∷ []) (λ t. slice_get (last_of (rows_where (1 ∷ []) (number_value rider ∷ []) t.rentals)) 0)
+pub finds_newest : (rider : ℕ) → FindsIn (codes "SELECT * FROM rentals WHERE rider = ?1 ORDER BY rental DESC LIMIT 1") (number_value rider ∷ [])
+    (λ t. slice_get (last_of (rows_where (1 ∷ []) (number_value rider ∷ []) t.rentals)) 0)
 unfolding everything
 finds_newest rider = record { finds = λ db has. last_with (table_key Rentals) (has Rentals) 0 (1 ∷ []) (λ tree. refl, refl) refl (λ r. refl) }
 
@@ -194,7 +200,8 @@ pub lists_open_after : (number : ℕ) → ListsIn behind_text (number_value numb
 unfolding everything
 lists_open_after number = record {
   lists = λ db has. subst (HasOneAnswer db behind_text (number_value number ∷ [])) (map_same_list _)
-      (rows_passing (table_key Rentals) (has Rentals) (every_column (layout_of Rentals)) (λ row. row) (λ r. refl) behind_tests (lit (Int (negsuc 0))) (is_open_behind number) (λ tree. refl, refl) (decides_behind number));
+      (rows_passing (table_key Rentals) (has Rentals) (every_column (layout_of Rentals)) (λ row. row) (λ r. refl) behind_tests (lit (Int (negsuc 0))) (is_open_behind number) (λ tree. refl, refl)
+      (decides_behind number));
 }
 
 -- ---- the rentals whose rows they are
@@ -242,12 +249,15 @@ behind_is a b = by (nat_cmp a b) (ranks a b) where
   by Equal h = sym (le-ltb b a (omega (arith, h)))
   by Greater h = sym (lt-ltb b a h)
 
-pub newest_found : (s : Operator) (rider : ℕ) → slice_get (last_of (rows_where (1 ∷ []) (number_value rider ∷ []) (map (stored_rental s.entries) (with_numbers s.rentals)))) 0 ≡ option_map (stored_rental s.entries) (newest_rental s rider)
+pub newest_found : (s : Operator) (rider : ℕ) → slice_get (last_of (rows_where (1 ∷ []) (number_value rider ∷ []) (map (stored_rental s.entries) (with_numbers s.rentals)))) 0
+    ≡ option_map (stored_rental s.entries) (newest_rental s rider)
 newest_found s rider =
     let passes = λ (row : Row). is_eq (row_cmp (map (column row) (1 ∷ [])) (number_value rider ∷ [])) in
-    none_before (filter passes (map (stored_rental s.entries) (with_numbers s.rentals))) ∙ last_passed (stored_rental s.entries) passes (λ e. e.1.rider == rider) (λ e. same_number e.1.rider rider) None (with_numbers s.rentals)
+    none_before (filter passes (map (stored_rental s.entries) (with_numbers s.rentals)))
+    ∙ last_passed (stored_rental s.entries) passes (λ e. e.1.rider == rider) (λ e. same_number e.1.rider rider) None (with_numbers s.rentals)
 
-pub open_found : (s : Operator) (number : ℕ) → slice_get (filter (is_open_behind number) (map (stored_rental s.entries) (with_numbers s.rentals))) 0 ≡ option_map (stored_rental s.entries) (open_after s number)
+pub open_found : (s : Operator) (number : ℕ) → slice_get (filter (is_open_behind number) (map (stored_rental s.entries) (with_numbers s.rentals))) 0
+    ≡ option_map (stored_rental s.entries) (open_after s number)
 open_found s number =
     first_passed (stored_rental s.entries) (is_open_behind number) (λ e. nat_lt number e.0 && is_open e.1)
     (λ e. ap₂ (λ (a b : Bool). a && b) (ap is_gt (value_cmp-number_value e.0 number) ∙ behind_is e.0 number) (finish_null s.entries e.0 e.1 e.1.closing)) (with_numbers s.rentals)
@@ -268,7 +278,8 @@ pub newest_last : (es : List Entry) (o : Option (ℕ × Rental)) → IsLast (num
 newest_last es None = refl
 newest_last es (Some e) = refl
 
-pub open_told : (es : List Entry) (o : Option (ℕ × Rental)) {row : Row} {x : Option ℕ} → Some row ≡ option_map (stored_rental es) o → ((number : ℕ) (r : Rental) (refunded : ℤ) → row ≡ rental_row number r refunded → x ≡ number_if_open (number, r)) → x ≡ open_number_in o
+pub open_told : (es : List Entry) (o : Option (ℕ × Rental)) {row : Row} {x : Option ℕ} → Some row ≡ option_map (stored_rental es) o
+    → ((number : ℕ) (r : Rental) (refunded : ℤ) → row ≡ rental_row number r refunded → x ≡ number_if_open (number, r)) → x ≡ open_number_in o
 open_told es None is reads = absurd cc
 open_told es (Some e) is reads = reads e.0 e.1 (refunded_of e.0 es) (same_some is)
 
@@ -276,7 +287,8 @@ pub none_told : (es : List Entry) (o : Option (ℕ × Rental)) → None ≡ opti
 none_told es None is = refl
 none_told es (Some e) is = absurd cc
 
-pub ride_told : (es : List Entry) (o : Option (ℕ × Rental)) {row : Row} {x : Ride} → Some row ≡ option_map (stored_rental es) o → ((number : ℕ) (r : Rental) (refunded : ℤ) → row ≡ rental_row number r refunded → x ≡ ride_of (number, r))
+pub ride_told : (es : List Entry) (o : Option (ℕ × Rental)) {row : Row} {x : Ride} → Some row ≡ option_map (stored_rental es) o
+    → ((number : ℕ) (r : Rental) (refunded : ℤ) → row ≡ rental_row number r refunded → x ≡ ride_of (number, r))
     → Some x ≡ option_map ride_of o
 ride_told es None is reads = absurd cc
 ride_told es (Some e) is reads = ap Some (reads e.0 e.1 (refunded_of e.0 es) (same_some is))

@@ -14,7 +14,8 @@ use Rattle.bike_book.proofs.FoundColumns.{found_by_columns}
 use Rattle.bike_office_reads.specs.Newest.{open_number, HoldsRental}
 
 -- the number in the row of the open rental
-pub open_found : (s : Operator) (m : Listed) → IsSound s → IsListing s m → (rider : ℕ) (row : Option Row) (rental : Option ℕ) → row ≡ open_row s m rider → HoldsRental row rental → rental ≡ open_number s rider
+pub open_found : (s : Operator) (m : Listed) → IsSound s → IsListing s m → (rider : ℕ) (row : Option Row) (rental : Option ℕ) → row ≡ open_row s m rider → HoldsRental row rental
+    → rental ≡ open_number s rider
 open_found s m sound listing rider row rental is held = by (open_rental s rider) row rental (is ∙ (found_by_columns s m sound listing).open_rental_is rider) held
   where
     by : (o : Option (ℕ × Rental)) (row : Option Row) (rental : Option ℕ) → row ≡ option_map (stored_rental s.entries) o → HoldsRental row rental → rental ≡ option_map (λ e. e.0) o

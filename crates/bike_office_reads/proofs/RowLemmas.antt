@@ -1,5 +1,6 @@
 -- What the rows that are found say of the operator.
-use Rattle.std.proofs.Common.{◌≡◌, ◌+◌, ◌<◌, ◌≤◌, inl, ℕ, ℤ, List, [], ◌∷◌, map, length, slice_get, nat_le, ◌&&◌, Bool, true, false, T, Option, Some, None, Result, Ok, if◌then◌else◌, refl, sym, ap, subst, ◌∙◌, arith}
+use Rattle.std.proofs.Common.{◌≡◌, ◌+◌, ◌<◌, ◌≤◌, inl, ℕ, ℤ, List, [], ◌∷◌, map, length, slice_get, nat_le, ◌&&◌, Bool, true, false, T, Option, Some, None, Result, Ok, if◌then◌else◌, refl, sym, ap}
+use Rattle.std.proofs.Common.{subst, ◌∙◌, arith}
 use Rattle.std.specs.Prelude.{option_map, IfOk}
 use Rattle.std.specs.Option.{ok_or}
 use Rattle.std.proofs.lemmas.Bool.{leb-true}
@@ -12,7 +13,7 @@ use Rattle.std.specs.FinMap.Entries.{is_sorted, below_all}
 use Rattle.sqlite_value.specs.declared.value.Value.TheVariants.{Int}
 use Rattle.sqlite_value.specs.Order.{Row, column}
 use Rattle.sqlite_rules.specs.Lists.{Has}
-use Rattle.bike_rows.specs.View.{last_of}
+use Rattle.bike_sql.specs.View.{last_of}
 use Rattle.bike_fields.specs.Values.{SegmentRow}
 use Rattle.bike_catalogue.specs.Rows.{PlanRow}
 use Rattle.bike_commands.specs.Commands.{text_of}
@@ -44,7 +45,8 @@ use Rattle.bike_office_reads.specs.ReadRows.{HasClosing, KeepsRow}
 pub rider_found : (rider : ℕ) → WhereListed (λ s m. row_under s m Riders (number_value rider ∷ []) ≡ option_map (λ (v : RiderView). rider_row rider v.is_blocked v.balance) (rider_at s rider))
 rider_found rider s m sound listing = (found_by_key s m sound listing).riders rider ∙ shown (fin.get s.riders rider)
   where
-    shown : (o : Option Rider) → option_map (λ (r : Rider). rider_row rider r.is_blocked (balance_of rider s.entries)) o ≡ option_map (λ (v : RiderView). rider_row rider v.is_blocked v.balance) (rider_view s rider o)
+    shown : (o : Option Rider) → option_map (λ (r : Rider). rider_row rider r.is_blocked (balance_of rider s.entries)) o
+        ≡ option_map (λ (v : RiderView). rider_row rider v.is_blocked v.balance) (rider_view s rider o)
     shown None = refl
     shown (Some r) = refl
 
@@ -83,7 +85,8 @@ riders_at_most s m sound listing =
     let it = at_most (fin.entries s.riders) (λ e has. (sound.ledger.riders e.0 e.1 (has_get numbers.total s.riders e has)).low) (fin.entries_sorted s.riders) in
     (it.0, it.1, omega (arith, it.2, fin.len-entries s.riders))
   where
-    at_most : (rs : List (ℕ × Rider)) → ((e : ℕ × Rider) → Has rs e → 1 ≤ e.0) → T (is_sorted nat_cmp rs) → (n : ℕ) × IsLast n (slice_get (last_of (map (stored_rider s.entries) rs)) 0) × (length rs ≤ n)
+    at_most : (rs : List (ℕ × Rider)) → ((e : ℕ × Rider) → Has rs e → 1 ≤ e.0) → T (is_sorted nat_cmp rs)
+        → (n : ℕ) × IsLast n (slice_get (last_of (map (stored_rider s.entries) rs)) 0) × (length rs ≤ n)
     at_most [] low sorted = (0, refl, omega arith)
     at_most (e ∷ rs) low sorted = let it = rising s.entries 0 e rs (omega (arith, low e (inl refl))) sorted in (it.0, it.1, omega (arith, it.2))
 
@@ -111,7 +114,8 @@ abbrev Told : {X : Type 0} → X → Option X → Type 0
 Told x found = ◌≡◌ {A = Result _ StatementFault} (Ok x) (read_or_failed found)
 
 -- a closed rental's columns are read as they were stored
-pub closing_read : {x : Closing} {fare : ℤ} (row : Row) (closing : Option Closing) → or_none ident_in (column row 6) ≡ Some x.to_station → Told (Some x.finish) (or_none moment_in (column row 7)) → Told (Some fare) (or_none whole_in (column row 8)) → x.fare ≡ fare → HasClosing row closing
+pub closing_read : {x : Closing} {fare : ℤ} (row : Row) (closing : Option Closing) → or_none ident_in (column row 6) ≡ Some x.to_station → Told (Some x.finish) (or_none moment_in (column row 7))
+    → Told (Some fare) (or_none whole_in (column row 8)) → x.fare ≡ fare → HasClosing row closing
     → Some x ≡ closing
 closing_read {x} row None to_station finish fare shown is = let e = optional_moment_read None finish (ap (λ r. column r 1) is) in absurd cc
 closing_read {x} {fare = paid} row (Some c) to_station finish fare shown is =
@@ -130,8 +134,10 @@ refunded_in number r None refunded = refl
 refunded_in number r (Some c) refunded = refl
 
 -- a rental's columns are read as they were stored
-pub rental_read : {x : Rental × ℤ} {row : Row} {refunds : ℤ} (number : ℕ) (y : Rental × ℤ) → Told x.0.rider (number_in 1 999999 (column row 1)) → Told x.0.bike (number_in 1 999999 (column row 2)) → ident_in (column row 3) ≡ Some x.0.plan
-    → ident_in (column row 4) ≡ Some x.0.from_station → Told x.0.start (moment_in (column row 5)) → ((closing : Option Closing) → HasClosing row closing → x.0.closing ≡ closing) → Told refunds (whole_in (column row 9)) → x.1 ≡ refunds
+pub rental_read : {x : Rental × ℤ} {row : Row} {refunds : ℤ} (number : ℕ) (y : Rental × ℤ) → Told x.0.rider (number_in 1 999999 (column row 1)) → Told x.0.bike (number_in 1 999999 (column row 2))
+    → ident_in (column row 3) ≡ Some x.0.plan
+    → ident_in (column row 4) ≡ Some x.0.from_station → Told x.0.start (moment_in (column row 5)) → ((closing : Option Closing) → HasClosing row closing → x.0.closing ≡ closing)
+    → Told refunds (whole_in (column row 9)) → x.1 ≡ refunds
     → row ≡ rental_row number y.0 y.1 → x ≡ y
 rental_read {x} {row} number y rider bike plan from_station start closing refunded shown is =
     let at : (k : ℕ) → column row k ≡ column (rental_row number y.0 y.1) k = λ k. ap (λ r. column r k) is in
@@ -147,7 +153,8 @@ rental_read {x} {row} number y rider bike plan from_station start closing refund
 -- ---- plans
 
 -- a plan's columns are read as they were stored
-pub plan_read : (x : PlanRow) (row : Row) (p : PlanRow) → ident_in (column row 0) ≡ Some x.plan_id → name_in (column row 1) ≡ Some x.name → Told x.price (number_in 0 1000000 (column row 2)) → Told x.taxable (flag_in (column row 3))
+pub plan_read : (x : PlanRow) (row : Row) (p : PlanRow) → ident_in (column row 0) ≡ Some x.plan_id → name_in (column row 1) ≡ Some x.name → Told x.price (number_in 0 1000000 (column row 2))
+    → Told x.taxable (flag_in (column row 3))
     → name_in (column row 4) ≡ Some x.description → x.segments ≡ p.segments → row ≡ plan_row p.plan_id p → x ≡ p
 plan_read x row p id name price taxable description segments is =
     let at : (k : ℕ) → column row k ≡ column (plan_row p.plan_id p) k = λ k. ap (λ r. column r k) is in
@@ -159,7 +166,8 @@ plan_read x row p id name price taxable description segments is =
     λ i. record { plan_id = id_is i; name = name_is i; price = price_is i; taxable = taxable_is i; description = description_is i; segments = segments i }
 
 -- the row of a plan that is there, with its segments
-pub plan_found : (plan : List ℕ) (o : Option PlanRow) {row : Row} {x : PlanRow} {segments : List SegmentRow} → ((p : PlanRow) → o ≡ Some p → plan ≡ p.plan_id) → Some row ≡ option_map (plan_row plan) o → ((p : PlanRow) → o ≡ Some p → segments ≡ p.segments)
+pub plan_found : (plan : List ℕ) (o : Option PlanRow) {row : Row} {x : PlanRow} {segments : List SegmentRow} → ((p : PlanRow) → o ≡ Some p → plan ≡ p.plan_id) → Some row ≡ option_map (plan_row plan) o
+    → ((p : PlanRow) → o ≡ Some p → segments ≡ p.segments)
     → ((p : PlanRow) → row ≡ plan_row p.plan_id p → segments ≡ p.segments → x ≡ p) → Some x ≡ o
 plan_found plan None named is have reads = absurd cc
 plan_found plan (Some p) {row} named is have reads =
@@ -167,7 +175,8 @@ plan_found plan (Some p) {row} named is have reads =
     ap Some (reads p (row_is ∙ ap (λ id. plan_row id p) (named p refl)) (have p refl))
 
 -- what is made where a test passes, or a fault
-pub made_if : {X E : Type 0} {made : X} {o : Option X} (fault : E) (result : Result X E) (P : X → Type 0) (b : Bool) → result ≡ ok_or o fault → o ≡ (if b then Some made else None) → P made → IfOk result P
+pub made_if : {X E : Type 0} {made : X} {o : Option X} (fault : E) (result : Result X E) (P : X → Type 0) (b : Bool) → result ≡ ok_or o fault → o ≡ (if b then Some made else None) → P made
+    → IfOk result P
 made_if {made = made} fault result P b result_is is it = subst (λ r. IfOk r P) (sym (result_is ∙ ap (λ p. ok_or p fault) is)) (by b)
   where
     by : (b : Bool) → IfOk (ok_or (if b then Some made else None) fault) P
@@ -177,7 +186,8 @@ made_if {made = made} fault result P b result_is is it = subst (λ r. IfOk r P) 
 -- ---- kept requests
 
 -- the row of what is kept
-pub kept_found : (caller key : List ℕ) (o : Option Kept) {row : Row} (x : KeptRow) → ((k : Kept) → o ≡ Some k → IsReply k.reply) → KeepsRow row x → Some row ≡ option_map (λ (k : Kept). kept_row caller key (text_of k.command) (reply_text k.reply)) o → KeepsSame o (Some x)
+pub kept_found : (caller key : List ℕ) (o : Option Kept) {row : Row} (x : KeptRow) → ((k : Kept) → o ≡ Some k → IsReply k.reply) → KeepsRow row x
+    → Some row ≡ option_map (λ (k : Kept). kept_row caller key (text_of k.command) (reply_text k.reply)) o → KeepsSame o (Some x)
 kept_found caller key None x good reads is = absurd cc
 kept_found caller key (Some k) x good reads is = reads caller key k (good k refl) cc
 

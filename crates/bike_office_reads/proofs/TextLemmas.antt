@@ -3,10 +3,10 @@ use Rattle.std.proofs.Common.{ℕ, List, [], ◌∷◌, codes, length, Some, sli
 use Rattle.sqlite_value.specs.declared.value.Value.TheVariants.{Text, Blob}
 use Rattle.sqlite_sql.specs.Aggregate.{count}
 use Rattle.sqlite_tied.specs.Compute.{everything}
-use Rattle.bike_rows.specs.View.{row_with, rows_where, last_of}
-use Rattle.bike_rows.proofs.PageLaw.{map_same_list}
-use Rattle.bike_rows.proofs.SelectLaws.{every_column, last_row, first_with_null}
-use Rattle.bike_rows.proofs.WalkLaw.{Finds}
+use Rattle.bike_sql.specs.View.{row_with, rows_where, last_of}
+use Rattle.bike_sql.proofs.PageLaw.{map_same_list}
+use Rattle.bike_sql.proofs.SelectLaws.{every_column, last_row, first_with_null}
+use Rattle.bike_sql.proofs.WalkLaw.{Finds}
 use Rattle.bike_book.specs.Tables.{Meta, System, Plans, Riders, Rentals, Entries, Kept}
 use Rattle.bike_book.specs.Rows.{number_value}
 use Rattle.bike_book.specs.Found.{rows_open}

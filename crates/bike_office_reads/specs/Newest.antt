@@ -1,5 +1,6 @@
 -- The newest rental of a rider, and where it tells if he is riding.
-use Rattle.std.specs.Prelude.{◌≡◌, ◌≤◌, ◌==◌, ◌&&◌, ℕ, nat_lt, Bool, true, false, Option, Some, None, fold, find, option_map, if◌then◌else◌}
+use Rattle.std.specs.Prelude.{◌≡◌, ◌≤◌, ◌==◌, ◌&&◌, ℕ, nat_lt, Bool, true, false, Option, Some, None, fold, find}
+use Rattle.std.specs.Prelude.{option_map, if◌then◌else◌}
 use Rattle.sqlite_value.specs.Order.{Row, column}
 use Rattle.bike_operator.specs.declared.records.Rental.{Rental}
 use Rattle.bike_operator.specs.Operator.{Operator, item_numbered}
@@ -9,7 +10,8 @@ use Rattle.bike_book.specs.Stored.{with_numbers}
 use Rattle.bike_book.specs.Found.{open_rental}
 use Rattle.bike_office_reads.specs.declared.newest.Ride.{Ride}
 
--- An open rental is its rider's newest: none of his has a greater number. So it is where the program made every rental. A sound file from elsewhere may hold another.
+-- An open rental is its rider's newest: none of his has a greater number. So it is
+-- where the program made every rental. A sound file from elsewhere may hold another.
 abbrev pub NewestTells : Operator → Type 0
 NewestTells s =
     (a b : ℕ) (q r : Rental) → item_numbered a s.rentals ≡ Some q → item_numbered b s.rentals ≡ Some r

@@ -29,7 +29,8 @@ HasClosing row closing = map (column row) (6 ∷ 7 ∷ 8 ∷ []) ≡ closing_col
 -- the row keeps what it was made of, under any caller and key
 abbrev pub KeepsRow : Row → KeptRow → Type 0
 KeepsRow row x =
-    (caller key : List ℕ) (k : Kept) → IsReply k.reply → row ≡ kept_row caller key (text_of k.command) (reply_text k.reply)
+    (caller key : List ℕ) (k : Kept) → IsReply k.reply
+    → row ≡ kept_row caller key (text_of k.command) (reply_text k.reply)
     → KeepsSame (Some k) (Some x)
 
 -- the further name of an entry of the operator's
@@ -46,4 +47,5 @@ IsOwnedName row x = (e : NameKey × List ℕ) → row ≡ owned_name (stored_nam
 
 -- a name of the kind, of an identifier that lies between two, both among them
 abbrev pub is_name_within : NameKind → List ℕ → List ℕ → Row → Bool
-is_name_within kind first last row = is_eq (value_cmp (column row 0) (Text (kind_text kind))) && is_within (Text first) (Text last) (column row 1)
+is_name_within kind first last row =
+    is_eq (value_cmp (column row 0) (Text (kind_text kind))) && is_within (Text first) (Text last) (column row 1)

@@ -7,9 +7,9 @@ ghost use Rattle.sqlite_value.specs.declared.value.Value.TheVariants.{Text};
 ghost use Rattle.sqlite_value.specs.Order.{Row, column};
 ghost use Rattle.sqlite.specs.Held.{state};
 ghost use Rattle.sqlite.specs.State.{HasCleanDisk, IsUnchanged, Survives};
-ghost use Rattle.bike_rows.specs.Calls.{ReadsWhere};
-ghost use Rattle.bike_rows.specs.Outcome.{IsLeft};
-ghost use Rattle.bike_rows.specs.Walk.{IsWalking};
+ghost use Rattle.bike_sql.specs.Calls.{ReadsWhere};
+ghost use Rattle.bike_sql.specs.Outcome.{IsLeft};
+ghost use Rattle.bike_sql.specs.Walk.{IsWalking};
 ghost use Rattle.bike_schema.specs.Tables.{IsOurs};
 ghost use Rattle.bike_office_reads.specs.Collect.{WalksOver, ReadsNext};
 

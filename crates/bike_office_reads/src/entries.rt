@@ -6,8 +6,8 @@ ghost use Rattle.bike_book.specs.Found.{last_row};
 ghost use Rattle.bike_schema.specs.Answers.{Answers};
 
 use crate::numbers::last_number;
-use bike_rows::lookup::first_row;
 use bike_schema::StatementFault;
+use bike_sql::lookup::first_row;
 use sqlite::{Alter, Connection, Row};
 
 /// The last row of `entries`.

@@ -12,8 +12,8 @@ ghost use Rattle.bike_office_reads.specs.ReadRows.{KeepsRow};
 
 use bike_book::columns::kept;
 use bike_commands::Reply;
-use bike_rows::lookup::first_row;
 use bike_schema::{StatementFault, text_at};
+use bike_sql::lookup::first_row;
 use sqlite::{Alter, Connection, Row, params};
 use std::alloc::Global;
 

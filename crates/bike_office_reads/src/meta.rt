@@ -10,8 +10,8 @@ ghost use Rattle.bike_office_reads.specs.Accounts.{meta_of};
 
 use bike_book::columns::meta;
 use bike_fixed::{Cents, Moment};
-use bike_rows::lookup::first_row;
 use bike_schema::{StatementFault, cents_at, moment_at};
+use bike_sql::lookup::first_row;
 use sqlite::{Alter, Connection, Row, params};
 
 /// The figures of the operator.

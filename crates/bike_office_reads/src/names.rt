@@ -5,7 +5,7 @@ ghost use Rattle.std.specs.List.{AllZip};
 ghost use Rattle.std.specs.Borrow.{sem};
 ghost use Rattle.sqlite_value.specs.declared.value.Value.TheVariants.{Text};
 ghost use Rattle.sqlite_value.specs.Order.{column};
-ghost use Rattle.bike_rows.specs.Calls.{LendsWhere, WalksWhere};
+ghost use Rattle.bike_sql.specs.Calls.{LendsWhere, WalksWhere};
 ghost use Rattle.bike_schema.specs.Tables.{IsOurs, tables_of};
 ghost use Rattle.bike_operator.specs.declared.limits.TheConstants.{MOST_FURTHER_NAMES};
 ghost use Rattle.bike_operator.specs.Names.{further_names};

@@ -12,8 +12,8 @@ ghost use Rattle.bike_office_reads.specs.Newest.{newest_number, open_after, ride
 use crate::numbers::last_number;
 use bike_book::columns::rentals;
 use bike_fields::{RentalNumber, RiderNumber};
-use bike_rows::lookup::first_row;
 use bike_schema::{StatementFault, number_at, optional_moment_at};
+use bike_sql::lookup::first_row;
 use sqlite::{Alter, Connection, Row, params};
 
 /// An open rental: its number, and who rides.

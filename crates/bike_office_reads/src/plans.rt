@@ -16,10 +16,10 @@ use bike_book::columns::plans;
 use bike_catalogue::Plan;
 use bike_fields::{Ident, Segment};
 use bike_operator::MOST_PLANS;
-use bike_rows::lookup::first_row;
 use bike_schema::{
     ABOVE_TEXTS, StatementFault, are_at_least, flag_at, ident_at, name_at, number_at,
 };
+use bike_sql::lookup::first_row;
 use sqlite::{Alter, Connection, Row, params};
 use std::alloc::Global;
 

@@ -16,11 +16,11 @@ use bike_book::columns::rentals;
 use bike_fields::{RentalNumber, RiderNumber};
 use bike_fixed::Cents;
 use bike_operator::{Closing, Rental};
-use bike_rows::lookup::first_row;
 use bike_schema::{
     StatementFault, cents_at, ident_at, moment_at, number_at, optional_cents_at, optional_ident_at,
     optional_moment_at,
 };
+use bike_sql::lookup::first_row;
 use sqlite::{Alter, Connection, Row, params};
 use std::alloc::Global;
 

@@ -16,8 +16,8 @@ use bike_book::columns::riders;
 use bike_fields::RiderNumber;
 use bike_fixed::Cents;
 use bike_operator::{MOST_RIDERS, RiderView};
-use bike_rows::lookup::first_row;
 use bike_schema::{StatementFault, cents_at, flag_at};
+use bike_sql::lookup::first_row;
 use sqlite::{Alter, Connection, Row, params};
 
 /// The rider's row of `riders`.

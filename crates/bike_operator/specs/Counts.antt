@@ -1,5 +1,6 @@
 -- Where bicycles are, and how many there are of what: filters and lengths over the records.
-use Rattle.std.specs.Prelude.{ℕ, zero, suc, List, [], ◌∷◌, ◌++◌, filter, length, Bool, true, false, not, ◌&&◌, ◌==◌, Option, find, is_none}
+use Rattle.std.specs.Prelude.{ℕ, zero, suc, List, [], ◌∷◌, ◌++◌, filter, length, Bool, true, false, not, ◌&&◌, ◌==◌}
+use Rattle.std.specs.Prelude.{Option, find, is_none}
 use Rattle.std.specs.Str.{bytes_eq}
 use Rattle.std.specs.List.{list_any}
 use Rattle.std.specs.FinMap as finmap
@@ -105,10 +106,12 @@ abbrev pub available : Operator → List ℕ → ℕ
 available s station = count (λ b. is_available s station b.1) (finmap.entries s.bikes)
 
 abbrev pub available_of : Operator → List ℕ → List ℕ → ℕ
-available_of s station type_id = count (λ b. bytes_eq b.1.type_id type_id && is_available s station b.1) (finmap.entries s.bikes)
+available_of s station type_id =
+    count (λ b. bytes_eq b.1.type_id type_id && is_available s station b.1) (finmap.entries s.bikes)
 
 abbrev pub disabled_bikes : Operator → List ℕ → ℕ
-disabled_bikes s station = count (λ b. is_at station b.1.place && not (is_available s station b.1)) (finmap.entries s.bikes)
+disabled_bikes s station =
+    count (λ b. is_at station b.1.place && not (is_available s station b.1)) (finmap.entries s.bikes)
 
 -- the docks 1, 2, .. of a station
 unfoldable pub docks_up_to : ℕ → List ℕ
@@ -117,7 +120,8 @@ docks_up_to (suc n) = docks_up_to n ++ suc n ∷ []
 
 -- a dock is available where it is empty and isn't broken
 abbrev pub docks_available : Operator → List ℕ → ℕ → ℕ
-docks_available s station docks = count (λ n. is_none (docked_at s station n) && not (is_broken s station n)) (docks_up_to docks)
+docks_available s station docks =
+    count (λ n. is_none (docked_at s station n) && not (is_broken s station n)) (docks_up_to docks)
 
 abbrev pub docks_broken : Operator → List ℕ → ℕ → ℕ
 docks_broken s station docks = count (λ n. is_broken s station n) (docks_up_to docks)

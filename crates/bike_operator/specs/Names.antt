@@ -1,5 +1,6 @@
 -- Names in further languages: what has one, and in which.
-use Rattle.std.specs.Prelude.{ℕ, List, [], map, filter, length, nat_le, Bool, false, ◌&&◌, ◌||◌, Option, Some, None, slice_index_or}
+use Rattle.std.specs.Prelude.{ℕ, List, [], map, filter, length, nat_le, Bool, false, ◌&&◌, ◌||◌, Option, Some, None}
+use Rattle.std.specs.Prelude.{slice_index_or}
 use Rattle.std.specs.Str.{bytes_eq}
 use Rattle.std.specs.FinMap as finmap
 use Rattle.bike_commands.specs.NameKinds.{kind_text}
@@ -33,7 +34,8 @@ has_named s named.Region id = finmap.contains_key s.regions id
 
 -- it has a name in the language
 abbrev pub has_language : Operator → NameKind → List ℕ → List ℕ → Bool
-has_language s kind id language = is_own_language s.system language || finmap.contains_key s.more_names (name_key kind id language)
+has_language s kind id language =
+    is_own_language s.system language || finmap.contains_key s.more_names (name_key kind id language)
 
 -- the further name is of that kind and identifier
 abbrev pub is_name_of : NameKind → List ℕ → NameKey → Bool
@@ -41,7 +43,9 @@ is_name_of kind id key = bytes_eq (part_at key 0) (kind_text kind) && bytes_eq (
 
 -- the further names of what has this kind and identifier, in byte order of their languages
 abbrev pub further_names : Operator → NameKind → List ℕ → List MoreNameRow
-further_names s kind id = map (λ e. record { language = part_at e.0 2; name = e.1 }) (filter (λ e. is_name_of kind id e.0) (finmap.entries s.more_names))
+further_names s kind id =
+    map (λ e. record { language = part_at e.0 2; name = e.1 })
+    (filter (λ e. is_name_of kind id e.0) (finmap.entries s.more_names))
 
 -- it has as many as there may be
 abbrev pub has_all_names : Operator → NameKind → List ℕ → Bool

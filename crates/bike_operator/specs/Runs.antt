@@ -21,10 +21,14 @@ key_in q = key_of (caller_text q.caller) q.key
 abbrev pub is_same : Command → Command → Bool
 is_same c d = bytes_eq (text_of c) (text_of d)
 
--- the acceptance rule: after an accepted request at a moment, now it is that moment, and the key keeps command and reply
+-- the acceptance rule: after an accepted request at a moment,
+-- now it is that moment, and the key keeps command and reply
 abbrev pub after_acceptance : Operator → ℕ → Request → Operator
 after_acceptance s now q =
-    record (effect s now q.command) { now = now; kept = map.insert s.kept (key_in q) (record { command = q.command; reply = reply_of s now q.command }) }
+    record (effect s now q.command) {
+      now = now;
+      kept = map.insert s.kept (key_in q) (record { command = q.command; reply = reply_of s now q.command });
+    }
 
 -- the refusal rule: a refused request changes nothing
 abbrev pub outcome : Operator → ℕ → Request → Option Refusal → Reply × Operator

@@ -1,5 +1,7 @@
--- When an operator is sound: every name exists, each bicycle is in one place, numbers have no gaps, and bounds and limits hold.
-use Rattle.std.specs.Prelude.{◌≡◌, ℕ, ℤ, ◌+◌, ◌≤◌, ◌≤ℤ◌, ◌==◌, ◌&&◌, List, [], ◌∷◌, length, map, filter, Bool, true, false, Option, Some, None, is_some, pos}
+-- When an operator is sound: every name exists, each bicycle is
+-- in one place, numbers have no gaps, and bounds and limits hold.
+use Rattle.std.specs.Prelude.{◌≡◌, ℕ, ℤ, ◌+◌, ◌≤◌, ◌≤ℤ◌, ◌==◌, ◌&&◌, List, [], ◌∷◌, length, map, filter, Bool, true}
+use Rattle.std.specs.Prelude.{false, Option, Some, None, is_some, pos}
 use Rattle.std.specs.FinMap as finmap
 use Rattle.std.specs.FinSet as finset
 use Rattle.bike_ledger.specs.Whole.{last_moment}
@@ -8,7 +10,8 @@ use Rattle.bike_commands.specs.Bytes.{is_key, is_ident}
 use Rattle.bike_commands.specs.NameKind.{NameKind}
 use Rattle.bike_commands.specs.CallerType.{Caller}
 use Rattle.bike_commands.specs.Caller.{IsCaller, caller_text}
-use Rattle.bike_commands.specs.Rows.{PlanRow, TypeRow, RegionRow, SystemRow, IsPlan, IsType, IsStation, IsRegion, IsMoreName, IsSystem}
+use Rattle.bike_commands.specs.Rows.{PlanRow, TypeRow, RegionRow, SystemRow, IsPlan, IsType, IsStation, IsRegion}
+use Rattle.bike_commands.specs.Rows.{IsMoreName, IsSystem}
 use Rattle.bike_ledger.specs.Entries.{Entry}
 use Rattle.bike_ledger.specs.declared.entry.EntryKind.{EntryKind}
 use Rattle.bike_ledger.specs.declared.entry.EntryKind.TheVariants.{TopUp, Fare, Refund}
@@ -20,14 +23,17 @@ use Rattle.bike_commands.specs.declared.reply.Reply.{Reply}
 use Rattle.bike_commands.specs.declared.reply.Reply.TheVariants.{Done, Balance, Started, Ended, Ordered, Refused}
 use Rattle.bike_commands.specs.Replies.{IsReply}
 use Rattle.bike_commands.specs.Requests.{IsRequest}
-use Rattle.bike_operator.specs.declared.limits.TheConstants.{MOST_PLANS, MOST_TYPES, MOST_REGIONS, MOST_FURTHER_NAMES, MOST_STATIONS, MOST_BIKES, MOST_TRUCKS, MOST_RIDERS, MOST_ORDERS, MOST_ENTRIES}
+use Rattle.bike_operator.specs.declared.limits.TheConstants.{MOST_PLANS, MOST_TYPES, MOST_REGIONS, MOST_FURTHER_NAMES}
+use Rattle.bike_operator.specs.declared.limits.TheConstants.{MOST_STATIONS, MOST_BIKES, MOST_TRUCKS, MOST_RIDERS}
+use Rattle.bike_operator.specs.declared.limits.TheConstants.{MOST_ORDERS, MOST_ENTRIES}
 use Rattle.bike_operator.specs.declared.records.Place.{Place}
 use Rattle.bike_operator.specs.declared.records.Place.TheVariants as place
 use Rattle.bike_operator.specs.declared.records.Bike.{Bike}
 use Rattle.bike_operator.specs.declared.records.Rental.{Rental}
 use Rattle.bike_operator.specs.declared.records.Closing.{Closing}
 use Rattle.bike_operator.specs.declared.records.Order.{Order}
-use Rattle.bike_operator.specs.Operator.{Operator, Station, Truck, Rider, Kept, Key, key_of, NameKey, name_key, DockKey, dock_key, item_numbered}
+use Rattle.bike_operator.specs.Operator.{Operator, Station, Truck, Rider, Kept, Key, key_of, NameKey, name_key, DockKey}
+use Rattle.bike_operator.specs.Operator.{dock_key, item_numbered}
 use Rattle.bike_operator.specs.Counts.{is_open, is_retired, truck_load, order_load, open_rentals}
 use Rattle.bike_operator.specs.View.{has_end, has_region}
 use Rattle.bike_operator.specs.Names.{has_named, is_own_language, further_names}
@@ -138,7 +144,8 @@ pub record IsBikeAt (s : Operator) (number : ℕ) (b : Bike) : Type 0 where
 pub record AreBikesSound (s : Operator) : Type 0 where
   pub bikes : (number : ℕ) (b : Bike) → finmap.get s.bikes number ≡ Some b → IsBikeAt s number b
   -- no two bicycles in one dock
-  pub apart : (a b : ℕ) (x y : Bike) (station : List ℕ) (dock : ℕ) → finmap.get s.bikes a ≡ Some x → finmap.get s.bikes b ≡ Some y
+  pub apart : (a b : ℕ) (x y : Bike) (station : List ℕ) (dock : ℕ) → finmap.get s.bikes a ≡ Some x
+      → finmap.get s.bikes b ≡ Some y
       → x.place ≡ place.Dock station dock → y.place ≡ place.Dock station dock → a ≡ b
   pub few : finmap.len s.bikes ≤ MOST_BIKES
 
@@ -228,7 +235,8 @@ pub record IsRentalAt (s : Operator) (number : ℕ) (r : Rental) : Type 0 where
 pub record AreRentalsSound (s : Operator) : Type 0 where
   pub rentals : (number : ℕ) (r : Rental) → item_numbered number s.rentals ≡ Some r → IsRentalAt s number r
   -- a rider has one open rental at most
-  pub riding : (a b : ℕ) (q r : Rental) → item_numbered a s.rentals ≡ Some q → item_numbered b s.rentals ≡ Some r → is_open q ≡ true → is_open r ≡ true → q.rider ≡ r.rider → a ≡ b
+  pub riding : (a b : ℕ) (q r : Rental) → item_numbered a s.rentals ≡ Some q → item_numbered b s.rentals ≡ Some r
+      → is_open q ≡ true → is_open r ≡ true → q.rider ≡ r.rider → a ≡ b
   -- each rental is open or has an entry
   pub few_rentals : length s.rentals ≤ length s.entries + open_rentals s
 

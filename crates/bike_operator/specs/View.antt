@@ -11,7 +11,8 @@ use Rattle.bike_commands.specs.Side.{Side}
 use Rattle.bike_commands.specs.Side.TheVariants.{From, To}
 use Rattle.bike_commands.specs.declared.command.Command.{Command}
 use Rattle.bike_commands.specs.declared.command.Command.TheVariants as command
-use Rattle.bike_operator.specs.declared.limits.TheConstants.{MOST_PLANS, MOST_TYPES, MOST_REGIONS, MOST_STATIONS, MOST_BIKES, MOST_TRUCKS, MOST_RIDERS, MOST_ENTRIES}
+use Rattle.bike_operator.specs.declared.limits.TheConstants.{MOST_PLANS, MOST_TYPES, MOST_REGIONS, MOST_STATIONS}
+use Rattle.bike_operator.specs.declared.limits.TheConstants.{MOST_BIKES, MOST_TRUCKS, MOST_RIDERS, MOST_ENTRIES}
 use Rattle.bike_operator.specs.declared.records.Place.{Place}
 use Rattle.bike_operator.specs.declared.records.Place.TheVariants as place
 use Rattle.bike_operator.specs.declared.records.Bike.{Bike}
@@ -41,7 +42,13 @@ has_full_ledger s = nat_le MOST_ENTRIES (length s.entries + open_rentals s)
 
 abbrev pub station_view : Option Station → Option StationView
 station_view None = None
-station_view (Some x) = Some (record { docks = x.row.docks; is_installed = x.is_installed; is_renting = x.is_renting; is_returning = x.is_returning })
+station_view (Some x) =
+    Some (record {
+      docks = x.row.docks;
+      is_installed = x.is_installed;
+      is_renting = x.is_renting;
+      is_returning = x.is_returning;
+    })
 
 abbrev pub station_at : Operator → List ℕ → Option StationView
 station_at s station = station_view (map.get s.stations station)
@@ -72,7 +79,14 @@ docked_view s (Some b) = typed_bike b (map.get s.types b.1.type_id)
 -- a rental, with its plan
 abbrev pub planned_rental : Operator → ℕ → Rental → Option PlanRow → Option RentalView
 planned_rental s number r None = None
-planned_rental s number r (Some plan) = Some (record { number = number; rental = r; plan = plan; refunded = refunded_of number s.entries; balance = balance_of r.rider s.entries })
+planned_rental s number r (Some plan) =
+    Some (record {
+      number = number;
+      rental = r;
+      plan = plan;
+      refunded = refunded_of number s.entries;
+      balance = balance_of r.rider s.entries;
+    })
 
 abbrev pub rental_view : Operator → ℕ → Option Rental → Option RentalView
 rental_view s number None = None
@@ -159,15 +173,22 @@ empty_view = record {
 
 -- whether a vehicle type and a plan are there
 abbrev pub type_view : Operator → List ℕ → List ℕ → View
-type_view s type_id plan = record empty_view { has_type = map.contains_key s.types type_id; has_plan = map.contains_key s.plans plan }
+type_view s type_id plan =
+    record empty_view { has_type = map.contains_key s.types type_id; has_plan = map.contains_key s.plans plan }
 
 -- the bicycle, and the mark of the dock in which it stands
 abbrev pub bike_view : Operator → ℕ → View
-bike_view s bike = record empty_view { bike = map.get s.bikes bike; is_dock_broken = is_in_broken_dock s (map.get s.bikes bike) }
+bike_view s bike =
+    record empty_view { bike = map.get s.bikes bike; is_dock_broken = is_in_broken_dock s (map.get s.bikes bike) }
 
 -- the station, the mark of its dock and the bicycle in it
 abbrev pub dock_view : Operator → List ℕ → ℕ → View
-dock_view s station dock = record empty_view { station = station_at s station; is_dock_broken = is_broken s station dock; docked = docked_view s (docked_at s station dock) }
+dock_view s station dock =
+    record empty_view {
+      station = station_at s station;
+      is_dock_broken = is_broken s station dock;
+      docked = docked_view s (docked_at s station dock);
+    }
 
 -- a dock at an end of an order: the depot has none
 abbrev pub end_view : Operator → OrderEnd → ℕ → View
@@ -190,36 +211,85 @@ name_view s kind id language = record empty_view {
 -- THE TABLE: what each command names, and what is counted for it
 abbrev pub view_of : Operator → Command → View
 view_of s (command.SetSystem x) = record empty_view { has_system = is_some s.system }
-view_of s (command.AddPlan p) = record empty_view { has_plan = map.contains_key s.plans p.plan_id; is_full = is_at_limit MOST_PLANS s.plans }
+view_of s (command.AddPlan p) =
+    record empty_view { has_plan = map.contains_key s.plans p.plan_id; is_full = is_at_limit MOST_PLANS s.plans }
 view_of s (command.AddType t) = record (type_view s t.type_id t.plan_id) { is_full = is_at_limit MOST_TYPES s.types }
 view_of s (command.SetPlan type_id plan) = type_view s type_id plan
-view_of s (command.AddStation x) = record empty_view { station = station_at s x.station_id; is_full = is_at_limit MOST_STATIONS s.stations }
-view_of s (command.SetStation station installed renting returning) = record empty_view { station = station_at s station }
+view_of s (command.AddStation x) =
+    record empty_view { station = station_at s x.station_id; is_full = is_at_limit MOST_STATIONS s.stations }
+view_of s (command.SetStation station installed renting returning) =
+    record empty_view { station = station_at s station }
 view_of s (command.MarkDock station dock broken) = dock_view s station dock
-view_of s (command.AddBike bike type_id) = record empty_view { bike = map.get s.bikes bike; has_type = map.contains_key s.types type_id; is_full = is_at_limit MOST_BIKES s.bikes }
+view_of s (command.AddBike bike type_id) =
+    record empty_view {
+      bike = map.get s.bikes bike;
+      has_type = map.contains_key s.types type_id;
+      is_full = is_at_limit MOST_BIKES s.bikes;
+    }
 view_of s (command.MarkBike bike disabled) = bike_view s bike
 view_of s (command.RetireBike bike) = record empty_view { bike = map.get s.bikes bike }
-view_of s (command.AddTruck truck capacity) = record empty_view { truck = truck_at s truck; is_full = is_at_limit MOST_TRUCKS s.trucks }
-view_of s (command.AddRider rider) = record empty_view { has_rider = map.contains_key s.riders rider; is_full = is_at_limit MOST_RIDERS s.riders }
+view_of s (command.AddTruck truck capacity) =
+    record empty_view { truck = truck_at s truck; is_full = is_at_limit MOST_TRUCKS s.trucks }
+view_of s (command.AddRider rider) =
+    record empty_view { has_rider = map.contains_key s.riders rider; is_full = is_at_limit MOST_RIDERS s.riders }
 view_of s (command.SetRider rider blocked) = record empty_view { has_rider = map.contains_key s.riders rider }
-view_of s (command.TopUp rider amount) = record empty_view { rider = rider_at s rider; is_ledger_full = has_full_ledger s; entries = length s.entries }
+view_of s (command.TopUp rider amount) =
+    record empty_view { rider = rider_at s rider; is_ledger_full = has_full_ledger s; entries = length s.entries }
 view_of s (command.Start rider station dock) =
-    record (dock_view s station dock) { rider = rider_at s rider; is_riding = is_riding s rider; is_ledger_full = has_full_ledger s; rentals = length s.rentals }
+    record (dock_view s station dock) {
+      rider = rider_at s rider;
+      is_riding = is_riding s rider;
+      is_ledger_full = has_full_ledger s;
+      rentals = length s.rentals;
+    }
 view_of s (command.End bike station dock) =
-    record (dock_view s station dock) { bike = map.get s.bikes bike; rental = rental_of s (map.get s.bikes bike); entries = length s.entries }
-view_of s (command.Recover rental) = record empty_view { rental = rental_at s rental; bike = bike_of s (item_numbered rental s.rentals); entries = length s.entries }
-view_of s (command.Refund rental amount) = record empty_view { rental = rental_at s rental; is_ledger_full = has_full_ledger s; entries = length s.entries }
+    record (dock_view s station dock) {
+      bike = map.get s.bikes bike;
+      rental = rental_of s (map.get s.bikes bike);
+      entries = length s.entries;
+    }
+view_of s (command.Recover rental) =
+    record empty_view {
+      rental = rental_at s rental;
+      bike = bike_of s (item_numbered rental s.rentals);
+      entries = length s.entries;
+    }
+view_of s (command.Refund rental amount) =
+    record empty_view { rental = rental_at s rental; is_ledger_full = has_full_ledger s; entries = length s.entries }
 view_of s (command.OpenOrder truck from_end to_end type_id count) =
-    record empty_view { truck = truck_at s truck; has_from = has_end s from_end; has_to = has_end s to_end; has_type = map.contains_key s.types type_id; orders = length s.orders }
+    record empty_view {
+      truck = truck_at s truck;
+      has_from = has_end s from_end;
+      has_to = has_end s to_end;
+      has_type = map.contains_key s.types type_id;
+      orders = length s.orders;
+    }
 view_of s (command.Load truck order bike) =
-    record (bike_view s bike) { truck = truck_at s truck; loaded = truck_load s truck; order = item_numbered order s.orders; on_truck = order_load s order }
+    record (bike_view s bike) {
+      truck = truck_at s truck;
+      loaded = truck_load s truck;
+      order = item_numbered order s.orders;
+      on_truck = order_load s order;
+    }
 view_of s (command.Unload truck order bike side dock) =
-    record (side_view s (item_numbered order s.orders) side dock) { truck = truck_at s truck; order = item_numbered order s.orders; bike = map.get s.bikes bike }
-view_of s (command.CloseOrder order) = record empty_view { order = item_numbered order s.orders; on_truck = order_load s order }
-view_of s (command.AddRegion r) = record empty_view { has_region = map.contains_key s.regions r.region_id; is_full = is_at_limit MOST_REGIONS s.regions }
-view_of s (command.SetRegion station region) = record empty_view { station = station_at s station; has_region = has_region s region }
+    record (side_view s (item_numbered order s.orders) side dock)
+    { truck = truck_at s truck; order = item_numbered order s.orders; bike = map.get s.bikes bike }
+view_of s (command.CloseOrder order) =
+    record empty_view { order = item_numbered order s.orders; on_truck = order_load s order }
+view_of s (command.AddRegion r) =
+    record empty_view {
+      has_region = map.contains_key s.regions r.region_id;
+      is_full = is_at_limit MOST_REGIONS s.regions;
+    }
+view_of s (command.SetRegion station region) =
+    record empty_view { station = station_at s station; has_region = has_region s region }
 view_of s (command.AddName kind id language name) =
-    record empty_view { has_system = is_some s.system; has_named = has_named s kind id; has_language = has_language s kind id language; is_full = has_all_names s kind id }
+    record empty_view {
+      has_system = is_some s.system;
+      has_named = has_named s kind id;
+      has_language = has_language s kind id language;
+      is_full = has_all_names s kind id;
+    }
 view_of s (command.SetName kind id language name) = name_view s kind id language
 view_of s (command.RemoveName kind id language) = name_view s kind id language
 view_of s (command.ChangeSystem x) = record empty_view { has_system = is_some s.system }

@@ -8,7 +8,8 @@ ghost use Rattle.bike_operator.specs.Counts.{is_open};
 use crate::limits::MOST_ENTRIES;
 use crate::records::Closing;
 use crate::view::{RentalView, View};
-use bike_ledger::{Moment, is_balance};
+use bike_fixed::Moment;
+use bike_ledger::is_balance;
 
 /// Whether one more rental has a number, where the ledger isn't full.
 fn has_rental_number(view: &View) -> bool

@@ -1,6 +1,6 @@
 //! Where a bicycle is put.
 
-use bike_commands::Ident;
+use bike_fields::Ident;
 
 /// Where a bicycle is put. Its numbers are those of the command and the view, or the next one.
 #[derive(Clone, Copy)]

@@ -4,19 +4,19 @@
 //! The code here is data: the records and how many there may be, where a bicycle is put, and the view of an operator
 //! for a command, with the test whether its numbers are those of a sound one. Decisions, and what they make, stand
 //! above.
+//!
+//! What is shown of a rental and of a station stands here too: queries answer it, and feeds, HTTP and day tables are
+//! made of it.
 #![tactic(auto)]
 
 mod bounds;
 mod change;
 mod limits;
 mod records;
+mod rental_info;
+mod station_info;
 mod view;
 
-pub use bike_commands::{
-    DockCount, Ident, Language, Name, NameKind, OrderEnd, Plan, Position, Refusal, Region, Reply,
-    Settings, Station, System, VehicleType,
-};
-pub use bike_ledger::Entry;
 pub use bounds::is_bounded;
 pub use change::NewPlace;
 pub use limits::{
@@ -24,4 +24,6 @@ pub use limits::{
     MOST_RIDERS, MOST_STATIONS, MOST_TRUCKS, MOST_TYPES,
 };
 pub use records::{Bike, BikeState, Closing, Order, Place, Rental};
+pub use rental_info::{ClosingInfo, RentalInfo};
+pub use station_info::{Counts, StationInfo, TypeCount};
 pub use view::{DockedBike, RentalView, RiderView, StationView, TruckView, View};

@@ -1,8 +1,9 @@
 //! The view of an operator for a command: what its tests ask, and the records that its changes touch.
 
 use crate::records::{Bike, BikeState, Order, Rental};
-use bike_commands::{BicycleNumber, DockCount, Ident, Plan, RentalNumber, TruckCapacity};
-use bike_ledger::Cents;
+use bike_catalogue::Plan;
+use bike_fields::{BicycleNumber, DockCount, Ident, RentalNumber, TruckCapacity};
+use bike_fixed::Cents;
 
 /// What a decision needs to know of a station.
 #[derive(Clone, Copy, Debug)]

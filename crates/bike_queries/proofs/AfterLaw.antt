@@ -84,7 +84,8 @@ module _ {V : Type 0} (row : List ℕ × V → Row) (begins : (e : List ℕ × V
   come_after (Some id) m = refl
 
   -- all rows from a start on
-  pub rows_behind : (after : Option (List ℕ)) (start : List ℕ) → start ≡ start_after after → (m : FinMap text_cmp V) → filter (begins_from start) (map row (entries m)) ≡ map row (entries_after after m)
+  pub rows_behind : (after : Option (List ℕ)) (start : List ℕ) → start ≡ start_after after → (m : FinMap text_cmp V)
+      → filter (begins_from start) (map row (entries m)) ≡ map row (entries_after after m)
   rows_behind after start is m =
       ap (λ (t : List ℕ). filter (begins_from t) (map row (entries m))) is
       ∙ rows_passing (begins_from (start_after after)) after (entries m) (λ e.
@@ -101,16 +102,19 @@ module _ {V : Type 0} (row : List ℕ × V → Row) (begins : (e : List ℕ × V
     by [] = refl
     by (e ∷ es) = go (is_lt (text_cmp id e.0)) (by es) where
       go : (b : Bool) → slice_get (map row (filter (λ x. is_lt (text_cmp id x.0)) es)) 0 ≡ option_map row (find (λ x. is_lt (text_cmp id x.0)) es)
-          → slice_get (map row (cond b (e ∷ filter (λ x. is_lt (text_cmp id x.0)) es) (filter (λ x. is_lt (text_cmp id x.0)) es))) 0 ≡ option_map row (cond b (Some e) (find (λ x. is_lt (text_cmp id x.0)) es))
+          → slice_get (map row (cond b (e ∷ filter (λ x. is_lt (text_cmp id x.0)) es) (filter (λ x. is_lt (text_cmp id x.0)) es))) 0
+          ≡ option_map row (cond b (Some e) (find (λ x. is_lt (text_cmp id x.0)) es))
       go true rest = refl
       go false rest = rest
 
   -- the first of them
-  pub first_behind : (after : Option (List ℕ)) (start : List ℕ) → start ≡ start_after after → (m : FinMap text_cmp V) → slice_get (filter (begins_from start) (map row (entries m))) 0 ≡ option_map row (first_after after m)
+  pub first_behind : (after : Option (List ℕ)) (start : List ℕ) → start ≡ start_after after → (m : FinMap text_cmp V)
+      → slice_get (filter (begins_from start) (map row (entries m))) 0 ≡ option_map row (first_after after m)
   first_behind after start is m = ap (λ (rows : List Row). slice_get rows 0) (rows_behind after start is m) ∙ first_of after m
 
   -- the same of rows that are asked for up to the end of all texts
-  pub row_after : (after : Option (List ℕ)) (start : List ℕ) → start ≡ start_after after → (m : FinMap text_cmp V) → slice_get (rows_from start (map row (entries m))) 0 ≡ option_map row (first_after after m)
+  pub row_after : (after : Option (List ℕ)) (start : List ℕ) → start ≡ start_after after → (m : FinMap text_cmp V)
+      → slice_get (rows_from start (map row (entries m))) 0 ≡ option_map row (first_after after m)
   row_after after start is m =
       ap (λ (t : List ℕ). slice_get (rows_from t (map row (entries m))) 0) is
       ∙ ap (λ (rows : List Row). slice_get rows 0)

@@ -11,7 +11,7 @@ use Rattle.bike_laws.specs.SingleSteps.Numbers.{disabled_of}
 use Rattle.bike_fleet_reads.specs.declared.counts.TypeCounts.{TypeCounts}
 use Rattle.bike_fleet_reads.specs.declared.stations.DockNumbers.{DockNumbers}
 use Rattle.bike_fleet_reads.specs.Fleet.{dock_numbers_of, type_counts_of}
-use Rattle.bike_summaries.specs.declared.station.Counts.{Counts}
+use Rattle.bike_operator.specs.declared.station_info.Counts.{Counts}
 use Rattle.bike_queries.specs.StationCounts.{type_count, Adds, AreCountsFor, AreCountsOf, AreCountsOfTypes, AreCountsWith}
 use Rattle.bike_queries.proofs.SumLaw.{sum_last, available_sum, disabled_sum}
 
@@ -38,7 +38,8 @@ module _ (s : Operator) (station : List ℕ) (docks : DockNumbers) where
       }
 
   pub next_counted : (ids : List (List ℕ)) (i : ℕ) (id copy : List ℕ) (old new : Counts) (counts : TypeCounts) → i < length ids
-      → id ≡ get_or ids i id → copy ≡ id → counts ≡ type_counts_of s station id → Adds old copy counts new → AreCountsWith s station docks (take i ids) old → AreCountsWith s station docks (take (i + 1) ids) new
+      → id ≡ get_or ids i id → copy ≡ id → counts ≡ type_counts_of s station id → Adds old copy counts new → AreCountsWith s station docks (take i ids) old
+      → AreCountsWith s station docks (take (i + 1) ids) new
   next_counted ids i id copy old new counts below is same counted adds was =
       subst (λ front. AreCountsWith s station docks front new) (ap (λ x. take i ids ++ x ∷ []) is ∙ sym (take_more ids i id below))
       (one_more (take i ids) id copy old new counts same counted adds was)

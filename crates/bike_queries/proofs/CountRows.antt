@@ -1,5 +1,6 @@
 -- The counts of a station's types, found among the rows of its counts.
-use Rattle.std.proofs.Common.{◌≡◌, ◌+◌, ◌<◌, ◌≤◌, ℕ, suc, List, [], ◌∷◌, map, filter, find, drop, get_or, length, Bool, true, false, cond, ◌&&◌, if◌then◌else◌, Option, Some, None, refl, sym, ap, ap₂, subst, ◌∙◌, drop-cons, arith}
+use Rattle.std.proofs.Common.{◌≡◌, ◌+◌, ◌<◌, ◌≤◌, ℕ, suc, List, [], ◌∷◌, map, filter, find, drop, get_or, length, Bool, true, false, cond, ◌&&◌, if◌then◌else◌, Option, Some, None, refl, sym, ap, ap₂}
+use Rattle.std.proofs.Common.{subst, ◌∙◌, drop-cons, arith}
 use Rattle.std.specs.Prelude.{option_map, unwrap_or}
 use Rattle.std.specs.FinMap as fin
 use Rattle.std.specs.Ordering.{is_eq}
@@ -11,8 +12,8 @@ use Rattle.sqlite_value.specs.declared.value.Value.{Value}
 use Rattle.sqlite_value.specs.declared.value.Value.TheVariants.{Null, Int, Real, Text, Blob}
 use Rattle.sqlite_value.specs.Order.{Row, value_cmp, row_cmp}
 use Rattle.sqlite_value.proofs.OrderLemmas.{value_cmp-Text}
-use Rattle.bike_rows.specs.View.{row_with, rows_where}
-use Rattle.bike_rows.proofs.TestLemmas.{then_eq}
+use Rattle.bike_sql.specs.View.{row_with, rows_where}
+use Rattle.bike_sql.proofs.TestLemmas.{then_eq}
 use Rattle.bike_operator.specs.Operator.{Operator, Key, key_of}
 use Rattle.bike_operator.specs.Counts.{available_of}
 use Rattle.bike_laws.specs.SingleSteps.Numbers.{disabled_of}
@@ -70,7 +71,8 @@ row_of_type s station type_id = find_among (stored_count s) _ (is_of type_id) _ 
 pub counts_listed : WhereListed (λ s m. (station : List ℕ) → AreCountRows s station (rows_by s m Counts (0 ∷ []) (Text station ∷ [])))
 counts_listed s m sound listing station type_id x held =
     let listed = found_listed s m sound listing in
-    by (fin.get m.counts (key_of station type_id)) (listed.none station type_id) x (subst (λ o. HoldsAny HoldsCounts o x) (row_of_type s station type_id (fin.entries m.counts) ∙ listed.counts station type_id) held)
+    by (fin.get m.counts (key_of station type_id)) (listed.none station type_id) x
+    (subst (λ o. HoldsAny HoldsCounts o x) (row_of_type s station type_id (fin.entries m.counts) ∙ listed.counts station type_id) held)
   where
     by : (o : Option (Unit {0})) → (o ≡ None → (available_of s station type_id ≡ 0) × (disabled_of s station type_id ≡ 0)) → (x : Option TypeCounts)
         → HoldsAny HoldsCounts (option_map (λ listed. count_row station type_id (available_of s station type_id) (disabled_of s station type_id)) o) x

@@ -1,5 +1,6 @@
 -- The languages of further names in byte order: the statement that answers the next of them.
-use Rattle.std.proofs.Common.{◌≡◌, ◌⊎◌, inl, inr, ℕ, List, [], ◌∷◌, codes, map, filter, slice_get, Bool, true, false, ◌||◌, T, Option, Some, None, Ordering, Less, Equal, refl, sym, ap, ap₂, ◌∙◌, arith}
+use Rattle.std.proofs.Common.{◌≡◌, ◌⊎◌, inl, inr, ℕ, List, [], ◌∷◌, codes, map, filter, slice_get, Bool, true, false, ◌||◌, T, Option, Some, None, Ordering, Less, Equal, refl, sym, ap, ap₂, ◌∙◌}
+use Rattle.std.proofs.Common.{arith}
 use Rattle.std.specs.Prelude.{option_map, is_some}
 use Rattle.std.specs.FinMap as fin
 use Rattle.std.specs.FinMap.Entries as entries
@@ -15,16 +16,16 @@ use Rattle.sqlite_value.proofs.OrderLemmas.{value_cmp-Null, value_cmp-Text, valu
 use Rattle.sqlite_sql.specs.Query.{Query}
 use Rattle.sqlite_sql.specs.Term.{col}
 use Rattle.sqlite_rules.specs.Lists.{Has}
-use Rattle.bike_rows.specs.Keyed.{in_order}
-use Rattle.bike_rows.specs.Layout.{table_of}
-use Rattle.bike_rows.specs.Queries.{table_query, limit_query, only_one, by_columns}
-use Rattle.bike_rows.specs.View.{columns_of}
-use Rattle.bike_rows.proofs.ListLemmas.{map_has, map_map}
-use Rattle.bike_rows.proofs.OrderLemmas.{AreApart, Rises, all_from, order_is}
-use Rattle.bike_rows.proofs.PageLaw.{first_taken}
-use Rattle.bike_rows.proofs.RangeLaw.{order_filter}
-use Rattle.bike_rows.proofs.SortLemmas.{order_map}
-use Rattle.bike_rows.proofs.TextLemmas.{IsSelect, select_means}
+use Rattle.bike_sql.specs.Keyed.{in_order}
+use Rattle.bike_sql.specs.Layout.{table_of}
+use Rattle.bike_sql.specs.Queries.{table_query, limit_query, only_one, by_columns}
+use Rattle.bike_sql.specs.View.{columns_of}
+use Rattle.bike_sql.proofs.RowListLemmas.{map_has, map_map}
+use Rattle.bike_sql.proofs.OrderLemmas.{AreApart, Rises, all_from, order_is}
+use Rattle.bike_sql.proofs.PageLaw.{first_taken}
+use Rattle.bike_sql.proofs.RangeLaw.{order_filter}
+use Rattle.bike_sql.proofs.SortLemmas.{order_map}
+use Rattle.bike_sql.proofs.TextLemmas.{IsSelect, select_means}
 use Rattle.bike_operator.specs.Operator.{Operator, NameKey, text_cmp}
 use Rattle.bike_operator.specs.Names.{part_at}
 use Rattle.bike_laws.proofs.SingleSteps.MapLemmas.{IsKeyOrder, text_order, tied}
@@ -78,14 +79,17 @@ value_from at id rows = slice_get (in_order row_cmp (filter (begins_from id) (on
 abbrev value_query : ℕ → Query
 value_query place = limit_query only_one (table_query 0 (from_tests place) (by_columns (place ∷ [])) (col 1 place ∷ []))
 
-value_in : (t : TableName) {text : List ℕ} (at place : ℕ) (id : List ℕ) → ((r : Row) → column (columns_of (table_of (layout_of t) 0) r) at ≡ column r place) → InEach t (λ layout. IsSelect (value_query place) layout text)
+value_in : (t : TableName) {text : List ℕ} (at place : ℕ) (id : List ℕ) → ((r : Row) → column (columns_of (table_of (layout_of t) 0) r) at ≡ column r place)
+    → InEach t (λ layout. IsSelect (value_query place) layout text)
     → FindsIn text (Text id ∷ []) (λ tables. value_from at id (rows_in tables t))
 value_in t {text} at place id shown is =
     in_table t (value_from at id) (λ db has.
     let it = select_means (value_query place) (layout_in db.schema t) text (is db.schema) db.schema (has t).at (has t).tree (has t).has in
     record {
       all = _;
-      one = least_answer (keys_of t) (layout_in db.schema t) db (has t) text (Text id ∷ []) place (from_tests place) it.0 it.1 at shown (is_from id) (λ r. and_true _ ∙ from_test (column r place) (Text id) refl) (same_from id);
+      one =
+          least_answer (keys_of t) (layout_in db.schema t) db (has t) text (Text id ∷ []) place (from_tests place) it.0 it.1 at shown (is_from id)
+          (λ r. and_true _ ∙ from_test (column r place) (Text id) refl) (same_from id);
       first = first_taken _;
     })
 
@@ -129,7 +133,8 @@ module _ {K : Type 0} {R : K → K → Ordering} (o : IsKeyOrder R) where
       let ks = map (λ (e : K × X). e.0) es in
       let m = fin.from_entries {R = R} es in
       let same : (x : K) → list_any (eq_by_cmp R x) ks ≡ list_any (eq_by_cmp R x) (fin.keys m) = λ x. is_key es x ∙ fin.contains_key-keys m x in
-      order_is o.total ks (fin.keys m) (λ a b p q tie. o.same a b tie) (keys_rise (fin.entries m) (fin.entries_sorted m)) (λ x has. any_has (fin.keys m) x (sym (same x) ∙ has_any ks x has)) (λ x has. any_has ks x (same x ∙ has_any (fin.keys m) x has))
+      order_is o.total ks (fin.keys m) (λ a b p q tie. o.same a b tie) (keys_rise (fin.entries m) (fin.entries_sorted m)) (λ x has. any_has (fin.keys m) x (sym (same x) ∙ has_any ks x has))
+      (λ x has. any_has ks x (same x ∙ has_any (fin.keys m) x has))
 
 -- ---- the languages
 
@@ -161,7 +166,8 @@ in_order_rows s =
     ∙ map_map (λ e. e.0) language_row (fin.entries (names_by_language s))
 
 -- the first value from a start on is the next language
-pub language_after : (s : Operator) (after : Option (List ℕ)) (start : List ℕ) → start ≡ start_after after → value_from 2 start (map stored_name (fin.entries s.more_names)) ≡ option_map language_row (next_language after s)
+pub language_after : (s : Operator) (after : Option (List ℕ)) (start : List ℕ) → start ≡ start_after after
+    → value_from 2 start (map stored_name (fin.entries s.more_names)) ≡ option_map language_row (next_language after s)
 language_after s after start is =
     let ks = languages_in (fin.entries s.more_names) in
     ap (λ rows. slice_get (in_order row_cmp (filter (begins_from start) rows)) 0) (in_rows (fin.entries s.more_names))

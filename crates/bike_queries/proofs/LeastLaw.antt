@@ -14,20 +14,20 @@ use Rattle.sqlite_sql.specs.Term.{Term, col, holds}
 use Rattle.sqlite_sql.proofs.QueryLemmas.{output_cmp_total}
 use Rattle.sqlite_rules.specs.Lists.{Has}
 use Rattle.sqlite.specs.Effect.{Database}
-use Rattle.bike_rows.specs.Answer.{MeansQuery, HasOneAnswer}
-use Rattle.bike_rows.specs.Keyed.{in_order}
-use Rattle.bike_rows.specs.Layout.{Layout, table_of}
-use Rattle.bike_rows.specs.Queries.{table_query, limit_query, only_one, by_columns}
-use Rattle.bike_rows.specs.Stands.{rows_of, Stands}
-use Rattle.bike_rows.specs.View.{columns_of}
-use Rattle.bike_rows.proofs.AnswerLemmas.{out, passes, Answered, answered_page, out_from}
-use Rattle.bike_rows.proofs.FrameLemmas.{rows_of_is}
-use Rattle.bike_rows.proofs.KeyOrderLemmas.{compares}
-use Rattle.bike_rows.proofs.ListLemmas.{has_map, map_has, has_filter, filter_has, permuted}
-use Rattle.bike_rows.proofs.OrderLemmas.{AreApart, Rises, all_has, rises, order_has, has_order}
-use Rattle.bike_rows.proofs.SortLemmas.{ascends}
-use Rattle.bike_rows.proofs.TreeLemmas.{by_key_total, shown_apart}
-use Rattle.bike_rows.proofs.WalkLaw.{one_answer}
+use Rattle.bike_sql.specs.Answer.{MeansQuery, HasOneAnswer}
+use Rattle.bike_sql.specs.Keyed.{in_order}
+use Rattle.bike_sql.specs.Layout.{Layout, table_of}
+use Rattle.bike_sql.specs.Queries.{table_query, limit_query, only_one, by_columns}
+use Rattle.bike_sql.specs.Stands.{rows_of, Stands}
+use Rattle.bike_sql.specs.View.{columns_of}
+use Rattle.bike_sql.proofs.AnswerLemmas.{out, passes, Answered, answered_page, out_from}
+use Rattle.bike_sql.proofs.FrameLemmas.{rows_of_is}
+use Rattle.bike_sql.proofs.KeyOrderLemmas.{compares}
+use Rattle.bike_sql.proofs.RowListLemmas.{has_map, map_has, has_filter, filter_has, permuted}
+use Rattle.bike_sql.proofs.OrderLemmas.{AreApart, Rises, all_has, rises, order_has, has_order}
+use Rattle.bike_sql.proofs.SortLemmas.{ascends}
+use Rattle.bike_sql.proofs.TreeLemmas.{by_key_total, shown_apart}
+use Rattle.bike_sql.proofs.WalkLaw.{one_answer}
 
 -- The tests decide by the column alone, and no two values that pass tie and differ.
 module _ (keys : ℕ) (layout : Layout) (db : Database) (was : Stands db keys layout) (text : List ℕ) (params : Row) (place : ℕ) (tests : List Term) (names : List (List ℕ))

@@ -25,7 +25,7 @@ use Rattle.bike_schema.specs.declared.fault.StatementFault.{StatementFault}
 use Rattle.bike_schema.specs.Columns.{number_in, moment_in, flag_in, text_in, ident_in, name_in, or_none, read_or_failed}
 use Rattle.bike_schema.proofs.ReadLemmas.{number_read, moment_read, flag_read, text_read, ident_read, name_read, optional_ident_read}
 use Rattle.bike_queries.specs.After.{HoldsStation, IsNext, first_after, station_of}
-use Rattle.bike_summaries.specs.declared.station.StationInfo.{StationInfo}
+use Rattle.bike_operator.specs.declared.station_info.StationInfo.{StationInfo}
 
 -- ---- the next entry
 
@@ -46,7 +46,8 @@ next_there None m e is = has_get texts.total m e (first_has (entries m) e is)
 next_there (Some id) m e is = has_get texts.total m e (find_has (λ x. is_lt (text_cmp id x.0)) (entries m) e is)
 
 -- the row of the next entry, whose value has the entry's key
-pub next_found : {V : Type 0} (id : V → List ℕ) (row_of : List ℕ × V → Row) (o : Option (List ℕ × V)) {row : Row} {x : V} → ((e : List ℕ × V) → o ≡ Some e → e.0 ≡ id e.1) → Some row ≡ option_map row_of o
+pub next_found : {V : Type 0} (id : V → List ℕ) (row_of : List ℕ × V → Row) (o : Option (List ℕ × V)) {row : Row} {x : V} → ((e : List ℕ × V) → o ≡ Some e → e.0 ≡ id e.1)
+    → Some row ≡ option_map row_of o
     → ((v : V) → row ≡ row_of (id v, v) → x ≡ v) → IsNext id o (Some x)
 next_found id row_of None named is reads = absurd cc
 next_found id row_of (Some e) {row} {x} named is reads =

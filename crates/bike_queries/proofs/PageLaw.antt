@@ -1,5 +1,6 @@
 -- The entries of a page: each is the map's and comes after the page's beginning, they are apart, and none comes after the last.
-use Rattle.std.proofs.Common.{◌≡◌, inl, inr, ℕ, zero, suc, List, [], ◌∷◌, ◌++◌, map, take, filter, find, slice_get, Bool, ◌&&◌, true, false, not, cond, T, Option, Some, None, Ordering, Less, Equal, Greater, refl, sym, ap, subst, ◌∙◌}
+use Rattle.std.proofs.Common.{◌≡◌, inl, inr, ℕ, zero, suc, List, [], ◌∷◌, ◌++◌, map, take, filter, find, slice_get, Bool, ◌&&◌, true, false, not, cond, T, Option, Some, None, Ordering, Less, Equal}
+use Rattle.std.proofs.Common.{Greater, refl, sym, ap, subst, ◌∙◌}
 use Rattle.std.specs.List.{AllZip}
 use Rattle.std.specs.Ordering.{is_eq, is_lt, is_le, ordering_reverse}
 use Rattle.std.specs.Cmp.{tied_itself}
@@ -9,9 +10,9 @@ use Rattle.std.specs.Str.{bytes_eq}
 use Rattle.std.proofs.lemmas.Map.Text.{is_eq-slice_cmp}
 use Rattle.sqlite_value.specs.Order.{Row}
 use Rattle.sqlite_rules.specs.Lists.{Has}
-use Rattle.bike_rows.proofs.ListLemmas.{has_filter}
-use Rattle.bike_rows.proofs.PageLaw.{filter_filter}
-use Rattle.bike_rows.proofs.RangeLaw.{filter_has_same}
+use Rattle.bike_sql.proofs.RowListLemmas.{has_filter}
+use Rattle.bike_sql.proofs.PageLaw.{filter_filter}
+use Rattle.bike_sql.proofs.RangeLaw.{filter_has_same}
 use Rattle.bike_operator.specs.Operator.{text_cmp}
 use Rattle.bike_laws.proofs.SingleSteps.MapLemmas.{text_order}
 use Rattle.bike_book.proofs.MapRows.{both, below_has}
@@ -133,7 +134,8 @@ module _ {X O : Type 0} (R : List ℕ × X → O → Type 0) (id : O → List �
       sym (is_eq-slice_cmp f.0 e.0) ∙ ap is_eq (text_order.total.antisymm f.0 e.0 ∙ ap ordering_reverse less),
     )
 
-    each : (fs : List (List ℕ × X)) (qs : List O) → ((f : List ℕ × X) → Has fs f → text_cmp e.0 f.0 ≡ Less) → AllZip R fs qs → (q : O) → Has qs q → (bytes_eq (id o) (id q) ≡ false) × (bytes_eq (id q) (id o) ≡ false)
+    each : (fs : List (List ℕ × X)) (qs : List O) → ((f : List ℕ × X) → Has fs f → text_cmp e.0 f.0 ≡ Less) → AllZip R fs qs → (q : O) → Has qs q
+        → (bytes_eq (id o) (id q) ≡ false) × (bytes_eq (id q) (id o) ≡ false)
     each [] [] less zips q has = absurd has
     each [] (x ∷ qs) less zips q has = absurd zips
     each (f ∷ fs) [] less zips q has = absurd has
@@ -145,7 +147,8 @@ module _ {X O : Type 0} (R : List ℕ × X → O → Type 0) (id : O → List �
   up_to_last es os front last is rises zipped = go es front rises (subst (AllZip R es) is zipped) where
     go : (es : List (List ℕ × X)) (front : List O) → Rising es → AllZip R es (front ++ last ∷ []) → (e : List ℕ × X) → Has es e → is_le (text_cmp e.0 (id last)) ≡ true
     go [] front rises zips e has = absurd has
-    go (f ∷ []) [] rises zips e (inl same) = ap (λ (y : List ℕ × X). is_le (text_cmp y.0 (id last))) same ∙ ap (λ (t : List ℕ). is_le (text_cmp f.0 t)) (named f last zips.0) ∙ ap is_le (tied_itself text_order.total f.0)
+    go (f ∷ []) [] rises zips e (inl same) =
+        ap (λ (y : List ℕ × X). is_le (text_cmp y.0 (id last))) same ∙ ap (λ (t : List ℕ). is_le (text_cmp f.0 t)) (named f last zips.0) ∙ ap is_le (tied_itself text_order.total f.0)
     go (f ∷ []) [] rises zips e (inr has) = absurd has
     go (f ∷ h ∷ es) [] rises zips e has = absurd zips.1
     go (f ∷ []) (o ∷ front) rises zips e has = absurd (unended front zips.1)
@@ -164,7 +167,8 @@ module _ {X O : Type 0} (R : List ℕ × X → O → Type 0) (id : O → List �
     go (f ∷ h ∷ es) (o ∷ front) rises zips e (inr has) = go (h ∷ es) front rises.1 zips.1 e has
 
 -- what was read of what was read of each
-pub zipped_both : {A O X : Type 0} (R : A → O → Type 0) (S : O → X → Type 0) (T : A → X → Type 0) (es : List A) (os : List O) (xs : List X) → ((e : A) (o : O) (x : X) → Has es e → R e o → S o x → T e x) → AllZip R es os → AllZip S os xs → AllZip T es xs
+pub zipped_both : {A O X : Type 0} (R : A → O → Type 0) (S : O → X → Type 0) (T : A → X → Type 0) (es : List A) (os : List O) (xs : List X)
+    → ((e : A) (o : O) (x : X) → Has es e → R e o → S o x → T e x) → AllZip R es os → AllZip S os xs → AllZip T es xs
 zipped_both R S T [] [] [] then one two = tt
 zipped_both R S T [] [] (x ∷ xs) then one two = absurd two
 zipped_both R S T [] (o ∷ os) xs then one two = absurd one
@@ -173,7 +177,8 @@ zipped_both R S T (e ∷ es) (o ∷ os) [] then one two = absurd two
 zipped_both R S T (e ∷ es) (o ∷ os) (x ∷ xs) then one two = (then e o x (inl refl) one.0 two.0, zipped_both R S T es os xs (λ a b c has. then a b c (inr has)) one.1 two.1)
 
 -- what was read of their rows
-pub zipped_rows : {A X : Type 0} (R : Row → X → Type 0) (S : A → X → Type 0) (row : A → Row) (es : List A) (xs : List X) → ((e : A) (x : X) → Has es e → R (row e) x → S e x) → AllZip R (map row es) xs → AllZip S es xs
+pub zipped_rows : {A X : Type 0} (R : Row → X → Type 0) (S : A → X → Type 0) (row : A → Row) (es : List A) (xs : List X) → ((e : A) (x : X) → Has es e → R (row e) x → S e x) → AllZip R (map row es) xs
+    → AllZip S es xs
 zipped_rows R S row [] [] then all = tt
 zipped_rows R S row [] (x ∷ xs) then all = absurd all
 zipped_rows R S row (e ∷ es) [] then all = absurd all

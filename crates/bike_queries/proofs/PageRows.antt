@@ -8,8 +8,8 @@ use Rattle.std.specs.declared.cmp.Ordering.{Ordering}
 use Rattle.sqlite_value.specs.declared.value.Value.TheVariants.{Text}
 use Rattle.sqlite_value.specs.Order.{Row, column, value_cmp, row_cmp}
 use Rattle.sqlite_value.proofs.OrderLemmas.{value_cmp-Text}
-use Rattle.bike_rows.proofs.PageLaw.{filter_filter}
-use Rattle.bike_rows.proofs.TestLemmas.{then_eq}
+use Rattle.bike_sql.proofs.PageLaw.{filter_filter}
+use Rattle.bike_sql.proofs.TestLemmas.{then_eq}
 use Rattle.bike_fields.specs.declared.name_kind.NameKind.TheVariants as named
 use Rattle.bike_fields.specs.NameKinds.{kind_text}
 use Rattle.bike_operator.specs.Names.{part_at, is_name_of}
@@ -91,7 +91,8 @@ module _ (start last id : List ℕ) (low : not (is_lt (text_cmp id start)) ≡ t
     kept true rest = ap (λ (rs : List Row). owned_name (stored_name n) ∷ rs) rest
     kept false rest = rest
 
-    one_more : others ≡ map owned_name (map stored_name its_names) → filter (λ r. is_same_text (Text id) (column r 0)) (map owned_name (filter (is_name_within named.Station start last) (map stored_name (n ∷ ns))))
+    one_more : others ≡ map owned_name (map stored_name its_names) → filter (λ r. is_same_text (Text id) (column r 0))
+        (map owned_name (filter (is_name_within named.Station start last) (map stored_name (n ∷ ns))))
         ≡ map owned_name (map stored_name (filter (λ x. is_name_of named.Station id x.0) (n ∷ ns)))
     one_more rest =
         first (is_name_within named.Station start last (stored_name n))

@@ -15,14 +15,14 @@ use Rattle.sqlite_sql.specs.Query.{Query}
 use Rattle.sqlite_sql.specs.Term.{Term, col, op2}
 use Rattle.sqlite_sql.specs.declared.ops.BinaryOp.TheVariants.{Compare}
 use Rattle.sqlite_sql.specs.declared.ops.CompareOp.TheVariants.{Gt, Ge, Lt}
-use Rattle.bike_rows.specs.Layout.{table_of}
-use Rattle.bike_rows.specs.Queries.{table_query, limit_query, only_one, by_columns}
-use Rattle.bike_rows.specs.View.{columns_of}
-use Rattle.bike_rows.proofs.PageLaw.{map_same_list, at_least_test, below_test}
-use Rattle.bike_rows.proofs.SelectLaws.{every_column, first_passing}
-use Rattle.bike_rows.proofs.TestLemmas.{truth_of}
-use Rattle.bike_rows.proofs.TextLemmas.{IsSelect}
-use Rattle.bike_rows.proofs.WalkLaw.{Finds}
+use Rattle.bike_sql.specs.Layout.{table_of}
+use Rattle.bike_sql.specs.Queries.{table_query, limit_query, only_one, by_columns}
+use Rattle.bike_sql.specs.View.{columns_of}
+use Rattle.bike_sql.proofs.PageLaw.{map_same_list, at_least_test, below_test}
+use Rattle.bike_sql.proofs.SelectLaws.{every_column, first_passing}
+use Rattle.bike_sql.proofs.TestLemmas.{truth_of}
+use Rattle.bike_sql.proofs.TextLemmas.{IsSelect}
+use Rattle.bike_sql.proofs.WalkLaw.{Finds}
 use Rattle.bike_book.specs.Tables.{TableName, rows_in, Rentals, Entries}
 use Rattle.bike_book.specs.Rows.{number_value}
 use Rattle.bike_book.proofs.Keys.{value_cmp-number_value}
@@ -63,24 +63,29 @@ abbrev pub span_params : ℕ → ℕ → ℕ → Row
 span_params number begin end = number_value number ∷ number_value begin ∷ number_value end ∷ []
 
 -- the table's first column is its rowid, and the column that is tested is stored at the place
-pub spanned_in : (t : TableName) {text : List ℕ} (at place : ℕ) (number begin end : ℕ) → ((r : Row) → column (columns_of (table_of (layout_of t) 0) r) 0 ≡ column r 0) → ((r : Row) → column (columns_of (table_of (layout_of t) 0) r) at ≡ column r place)
+pub spanned_in : (t : TableName) {text : List ℕ} (at place : ℕ) (number begin end : ℕ) → ((r : Row) → column (columns_of (table_of (layout_of t) 0) r) 0 ≡ column r 0)
+    → ((r : Row) → column (columns_of (table_of (layout_of t) 0) r) at ≡ column r place)
     → InEach t (λ layout. IsSelect (span_query t place) layout text) → FindsIn text (span_params number begin end) (λ tables. slice_get (filter (is_spanned at number begin end) (rows_in tables t)) 0)
 spanned_in t {text} at place number begin end first shown is =
     in_table t (λ rows. slice_get (filter (is_spanned at number begin end) rows) 0) (λ db has.
     subst (λ rows. Finds db text (span_params number begin end) (slice_get rows 0)) (map_same_list _)
-    (first_passing (key_in_schema db.schema t) (has t) (every_column (layout_of t)) (λ row. row) (shows_every t (span_params number begin end)) (span_tests place) (is_spanned at number begin end) (is db.schema) (λ r.
-    ap₂ (λ a b. a && b) (over_test (column r 0) _) (ap₂ (λ a b. a && (b && true)) (at_least_test (column r place) _) (below_test (column r place) _) ∙ ap (λ b. not (is_lt (value_cmp (column r place) (number_value begin))) && b) (and_true _))
+    (first_passing (key_in_schema db.schema t) (has t) (every_column (layout_of t)) (λ row. row) (shows_every t (span_params number begin end)) (span_tests place) (is_spanned at number begin end)
+    (is db.schema) (λ r.
+    ap₂ (λ a b. a && b) (over_test (column r 0) _) (ap₂ (λ a b. a && (b && true)) (at_least_test (column r place) _) (below_test (column r place) _)
+    ∙ ap (λ b. not (is_lt (value_cmp (column r place) (number_value begin))) && b) (and_true _))
     ∙ ap₂ (λ a b. is_gt (value_cmp a (number_value number)) && is_between begin end b) (sym (first r)) (sym (shown r)))))
 
 -- ---- the statements
 
 pub finds_entry_after : (number begin end : ℕ)
-    → FindsIn (codes "SELECT * FROM entries WHERE entry > ?1 AND at >= ?2 AND at < ?3 ORDER BY entry LIMIT 1") (span_params number begin end) (λ t. slice_get (filter (is_spanned 5 number begin end) t.entries) 0)
+    → FindsIn (codes "SELECT * FROM entries WHERE entry > ?1 AND at >= ?2 AND at < ?3 ORDER BY entry LIMIT 1") (span_params number begin end)
+    (λ t. slice_get (filter (is_spanned 5 number begin end) t.entries) 0)
 unfolding everything
 finds_entry_after number begin end = spanned_in Entries 5 6 number begin end (λ r. refl) (λ r. refl) (λ s. (λ tree. refl, refl))
 
 pub finds_ended_after : (number begin end : ℕ)
-    → FindsIn (codes "SELECT * FROM rentals WHERE rental > ?1 AND finish >= ?2 AND finish < ?3 ORDER BY rental LIMIT 1") (span_params number begin end) (λ t. slice_get (filter (is_spanned 7 number begin end) t.rentals) 0)
+    → FindsIn (codes "SELECT * FROM rentals WHERE rental > ?1 AND finish >= ?2 AND finish < ?3 ORDER BY rental LIMIT 1") (span_params number begin end)
+    (λ t. slice_get (filter (is_spanned 7 number begin end) t.rentals) 0)
 unfolding everything
 finds_ended_after number begin end = spanned_in Rentals 7 8 number begin end (λ r. refl) (λ r. refl) (λ s. (λ tree. refl, refl))
 
@@ -124,7 +129,8 @@ spanned_is at number most begin end n moment row within first shown =
     ap₂ (λ a b. is_gt (value_cmp a (number_value (min number most))) && is_between begin end b) first shown
     ∙ ap₂ (λ a b. a && b) (behind_number number most n within) (between_is begin end moment)
 
-pub never_spanned : (at number most begin end n : ℕ) (row : Row) → n ≤ most → column row 0 ≡ number_value n → column row at ≡ Null → is_spanned at (min number most) begin end row ≡ (nat_lt number n && false)
+pub never_spanned : (at number most begin end n : ℕ) (row : Row) → n ≤ most → column row 0 ≡ number_value n → column row at ≡ Null
+    → is_spanned at (min number most) begin end row ≡ (nat_lt number n && false)
 never_spanned at number most begin end n row within first shown =
     ap₂ (λ a b. is_gt (value_cmp a (number_value (min number most))) && is_between begin end b) first shown
     ∙ ap₂ (λ a b. a && b) (behind_number number most n within) (null_between begin end)

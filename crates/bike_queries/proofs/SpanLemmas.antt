@@ -14,7 +14,7 @@ use Rattle.bike_operator.specs.Sound.{IsSound}
 use Rattle.bike_laws.proofs.SingleSteps.ItemLemmas.{number_within}
 use Rattle.bike_book.specs.Rows.{entry_row, rental_row}
 use Rattle.bike_book.specs.Stored.{numbers_from, with_numbers, stored_entry, stored_rental}
-use Rattle.bike_summaries.specs.declared.rental.RentalInfo.{RentalInfo}
+use Rattle.bike_operator.specs.declared.rental_info.RentalInfo.{RentalInfo}
 use Rattle.bike_queries.specs.Spans.{lies_in, ends_in, entry_after, ended_after, ended_info}
 use Rattle.bike_queries.proofs.AfterLaw.{first_passed}
 use Rattle.bike_queries.proofs.SpanLaw.{is_spanned, spanned_is, never_spanned}
@@ -86,7 +86,8 @@ ended_found s sound number begin end start is =
     within e has = omega (arith, number_within e.0 s.rentals e.1 (own_number s.rentals e has), sound.rentals.few_rentals, sound.ledger.few_entries)
 
 -- what is read of that row
-pub ended_shown : (entries : List Entry) (o : Option (ℕ × Rental)) {row : Row} {x : ℕ × RentalInfo} → ((e : ℕ × Rental) → row ≡ stored_rental entries e → x ≡ ended_info entries e) → Some row ≡ option_map (stored_rental entries) o
+pub ended_shown : (entries : List Entry) (o : Option (ℕ × Rental)) {row : Row} {x : ℕ × RentalInfo} → ((e : ℕ × Rental) → row ≡ stored_rental entries e → x ≡ ended_info entries e)
+    → Some row ≡ option_map (stored_rental entries) o
     → Some x ≡ option_map (ended_info entries) o
 ended_shown entries None read is = absurd cc
 ended_shown entries (Some e) {row} read is = ap Some (read e (same_Some row (stored_rental entries e) is))

@@ -26,11 +26,12 @@ use Rattle.bike_office_reads.specs.ReadRows.{named_in, owned_name, is_name_withi
 use Rattle.bike_schema.specs.Within.{rows_within}
 use Rattle.bike_office_reads.proofs.NameLemmas.{names_read}
 use Rattle.bike_queries.specs.StationCounts.{AreCountRows}
-use Rattle.bike_queries.specs.Pages.{page_after, IsStationOf, IsStatusOf, AreStatuses, IsNamedStation, AreNamedStations, AreApart, ArePage, EndsWith, id_of, own_rows, IsPageStation, ReadsStation, ReadsStatus, ReadsNamed}
+use Rattle.bike_queries.specs.Pages.{page_after, IsStationOf, IsStatusOf, AreStatuses, IsNamedStation, AreNamedStations, AreApart, ArePage, EndsWith, id_of, own_rows, IsPageStation, ReadsStation}
+use Rattle.bike_queries.specs.Pages.{ReadsStatus, ReadsNamed}
 use Rattle.bike_queries.specs.declared.stations.PageStation.{PageStation}
 use Rattle.bike_queries.specs.declared.stations.NamedStation.{NamedStation}
 use Rattle.bike_queries.specs.declared.status.StationStatus.{StationStatus}
-use Rattle.bike_summaries.specs.declared.station.StationInfo.{StationInfo}
+use Rattle.bike_operator.specs.declared.station_info.StationInfo.{StationInfo}
 use Rattle.bike_queries.proofs.AfterLaw.{rows_behind}
 use Rattle.bike_queries.proofs.CountRows.{counts_listed}
 use Rattle.bike_queries.proofs.PageLaw.{page_has, page_rises, read_apart, up_to_last, zipped_both, zipped_rows}
@@ -125,7 +126,8 @@ module _ (s : Operator) (m : Listed) (sound : IsSound s) (listing : IsListing s 
         (subst (IsStationOf e) (sym reads.0) it.0, reads.1 s e it.1 (subst (AreCountRows s e.0) (sym own) (counts_listed s m sound listing e.0))))
 
     -- what is read of the rows of names are those names
-    named_rows : (rows : List Row) (x : NamedStation) (ns : List (NameKey × List ℕ)) → rows ≡ map owned_name (map stored_name ns) → AllZip IsOwnedName rows x.names.items → x.names.items ≡ map named_in ns
+    named_rows : (rows : List Row) (x : NamedStation) (ns : List (NameKey × List ℕ)) → rows ≡ map owned_name (map stored_name ns) → AllZip IsOwnedName rows x.names.items
+        → x.names.items ≡ map named_in ns
     named_rows rows x ns are named = names_read ns x.names.items (subst (λ (rs : List Row). AllZip IsOwnedName rs x.names.items) are named)
 
     named_of : (rows : List Row) (items : List NamedStation)

@@ -74,7 +74,8 @@ differs : (a b : List ℕ) → eq_by_cmp text_cmp a b ≡ false → bytes_eq a b
 differs a b apart = go (bytes_eq a b) refl
   where
     go : (c : Bool) → bytes_eq a b ≡ c → bytes_eq a b ≡ false
-    go true same = absurd (let e : eq_by_cmp text_cmp a b ≡ true = subst (λ (k : List ℕ). eq_by_cmp text_cmp a k ≡ true) ((bytes_eq-Decides a b).0 same) ((eq_by_cmp_equiv text_order.total).refl a) in let f : true ≡ false = sym e ∙ apart in cc)
+    go true same =
+        absurd (let e : eq_by_cmp text_cmp a b ≡ true = subst (λ (k : List ℕ). eq_by_cmp text_cmp a k ≡ true) ((bytes_eq-Decides a b).0 same) ((eq_by_cmp_equiv text_order.total).refl a) in let f : true ≡ false = sym e ∙ apart in cc)
     go false is = is
 
 times_none : (id : List ℕ) (types : Types) → T (entries.below_all text_cmp id types) → times id types ≡ 0
@@ -91,7 +92,8 @@ times_once id (e ∷ types) t sorted found = go (eq_by_cmp text_cmp id e.0) refl
     first : times id (e ∷ types) ≡ one (bytes_eq id e.0) + times id types
     first = sum_cons (λ (e : List ℕ × TypeRow). one (bytes_eq id e.0)) e types
 
-    go : (c : Bool) → eq_by_cmp text_cmp id e.0 ≡ c → cond c (Some e.1) (entries.find text_cmp id types) ≡ Some t → (entries.find text_cmp id types ≡ Some t → times id types ≡ 1) → times id (e ∷ types) ≡ 1
+    go : (c : Bool) → eq_by_cmp text_cmp id e.0 ≡ c → cond c (Some e.1) (entries.find text_cmp id types) ≡ Some t → (entries.find text_cmp id types ≡ Some t → times id types ≡ 1)
+        → times id (e ∷ types) ≡ 1
     go true tie is later =
         let same : id ≡ e.0 = tied text_order id e.0 tie in
         let here : one (bytes_eq id e.0) ≡ 1 = ap one ((bytes_eq-Decides id e.0).1 same) in
@@ -120,7 +122,8 @@ once_or_never id types false once = sum_zero (λ (e : List ℕ × TypeRow). one 
 abbrev AreTyped : Types → List (ℕ × Bike) → Type 0
 AreTyped types bikes = (b : ℕ × Bike) → Has bikes b → times b.1.type_id types ≡ 1
 
-by_types : (test : Bike → Bool) (types : Types) (bikes : List (ℕ × Bike)) → AreTyped types bikes → sum_by (λ e. count (λ b. bytes_eq b.1.type_id e.0 && test b.1) bikes) types ≡ count (λ b. test b.1) bikes
+by_types : (test : Bike → Bool) (types : Types) (bikes : List (ℕ × Bike)) → AreTyped types bikes
+    → sum_by (λ e. count (λ b. bytes_eq b.1.type_id e.0 && test b.1) bikes) types ≡ count (λ b. test b.1) bikes
 by_types test types [] typed = sum_zero (λ (e : List ℕ × TypeRow). 0) types (λ e has. refl)
 by_types test types (b ∷ bikes) typed =
     let split = sum_same (λ (e : List ℕ × TypeRow). count (λ x. bytes_eq x.1.type_id e.0 && test x.1) (b ∷ bikes)) (λ e. one (bytes_eq b.1.type_id e.0 && test b.1) + count (λ x. bytes_eq x.1.type_id e.0 && test x.1) bikes) types

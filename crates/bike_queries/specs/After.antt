@@ -1,5 +1,6 @@
 -- What stands next in byte order of identifiers, or of languages.
-use Rattle.std.specs.Prelude.{◌≡◌, ℕ, ℤ, Bool, not, List, [], ◌∷◌, ◌++◌, find, slice_get, Option, Some, None, option_map}
+use Rattle.std.specs.Prelude.{◌≡◌, ℕ, ℤ, Bool, not, List, [], ◌∷◌, ◌++◌, find, slice_get, Option, Some, None}
+use Rattle.std.specs.Prelude.{option_map}
 use Rattle.std.specs.Ordering.{is_lt}
 use Rattle.std.specs.FinMap.{FinMap, entries}
 use Rattle.sqlite_value.specs.declared.value.Value.TheVariants.{Text}
@@ -8,7 +9,7 @@ use Rattle.sqlite_value.specs.Order.{Row, column, value_cmp}
 use Rattle.bike_operator.specs.Operator.{Operator, Station, text_cmp}
 use Rattle.bike_book.specs.Rows.{station_row}
 use Rattle.bike_feed_texts.specs.Trees.{names_by_language}
-use Rattle.bike_summaries.specs.declared.station.StationInfo.{StationInfo}
+use Rattle.bike_operator.specs.declared.station_info.StationInfo.{StationInfo}
 
 -- the first entry whose identifier comes after this one, or the first of all
 abbrev pub first_after : {V : Type 0} → Option (List ℕ) → FinMap text_cmp V → Option (List ℕ × V)

@@ -7,8 +7,8 @@ use Rattle.bike_operator.specs.declared.records.Rental.{Rental}
 use Rattle.bike_operator.specs.declared.records.Closing.{Closing}
 use Rattle.bike_operator.specs.Operator.{Operator, Rider, item_numbered}
 use Rattle.bike_office_reads.specs.Newest.{open_number}
-use Rattle.bike_summaries.specs.declared.rental.ClosingInfo.{ClosingInfo}
-use Rattle.bike_summaries.specs.declared.rental.RentalInfo.{RentalInfo}
+use Rattle.bike_operator.specs.declared.rental_info.ClosingInfo.{ClosingInfo}
+use Rattle.bike_operator.specs.declared.rental_info.RentalInfo.{RentalInfo}
 use Rattle.bike_queries.specs.declared.riders.RiderInfo.{RiderInfo}
 
 -- ---- bicycles
@@ -25,7 +25,8 @@ balance_at s rider = option_map (λ _. balance_of rider s.entries) (map.get s.ri
 
 -- a rider's balance is a sum over the entries
 abbrev pub rider_info : Operator → ℕ → Rider → RiderInfo
-rider_info s rider r = record { is_blocked = r.is_blocked; balance = balance_of rider s.entries; rental = open_number s rider }
+rider_info s rider r =
+    record { is_blocked = r.is_blocked; balance = balance_of rider s.entries; rental = open_number s rider }
 
 abbrev pub rider_info_at : Operator → ℕ → Option RiderInfo
 rider_info_at s rider = option_map (rider_info s rider) (map.get s.riders rider)
@@ -38,7 +39,14 @@ closing_info refunded c = record { to_station = c.to_station; finish = c.finish;
 
 abbrev pub rental_info : ℤ → Rental → RentalInfo
 rental_info refunded r =
-    record { rider = r.rider; bike = r.bike; plan = r.plan; from_station = r.from_station; start = r.start; closing = option_map (closing_info refunded) r.closing }
+    record {
+      rider = r.rider;
+      bike = r.bike;
+      plan = r.plan;
+      from_station = r.from_station;
+      start = r.start;
+      closing = option_map (closing_info refunded) r.closing;
+    }
 
 abbrev pub rental_info_at : Operator → ℕ → Option RentalInfo
 rental_info_at s rental = option_map (rental_info (refunded_of rental s.entries)) (item_numbered rental s.rentals)

@@ -17,7 +17,7 @@ use Rattle.bike_fleet_reads.specs.Holds.{HoldsDockNumbers}
 use Rattle.bike_office_reads.specs.ReadRows.{IsOwnedName}
 use Rattle.bike_feed_texts.specs.Trees.{further_languages}
 use Rattle.bike_queries.specs.declared.pages.TheConstants.{STATIONS_A_PAGE}
-use Rattle.bike_summaries.specs.declared.station.StationInfo.{StationInfo}
+use Rattle.bike_operator.specs.declared.station_info.StationInfo.{StationInfo}
 use Rattle.bike_queries.specs.declared.stations.PageStation.{PageStation}
 use Rattle.bike_queries.specs.declared.stations.NamedStation.{NamedStation}
 use Rattle.bike_queries.specs.declared.status.StationStatus.{StationStatus}
@@ -82,7 +82,8 @@ ArePage s after = AllZip (IsPageStation s) (page_after after s.stations)
 -- the identifier of the last, if there is one
 abbrev pub EndsWith : List PageStation → Option (List ℕ) → Type 0
 EndsWith xs None = xs ≡ []
-EndsWith xs (Some id) = (front : List PageStation) × (last : PageStation) × (xs ≡ front ++ last ∷ []) × (id_of last ≡ id)
+EndsWith xs (Some id) =
+    (front : List PageStation) × (last : PageStation) × (xs ≡ front ++ last ∷ []) × (id_of last ≡ id)
 
 -- ---- their own rows
 
@@ -101,7 +102,8 @@ own_rows id = filter (is_own id)
 -- no two of these have one identifier
 abbrev pub AreApart : {X : Type 0} → (X → List ℕ) → List X → Type 0
 AreApart id [] = Unit {0}
-AreApart id (x ∷ xs) = ((y : _) → Has xs y → (bytes_eq (id x) (id y) ≡ false) × (bytes_eq (id y) (id x) ≡ false)) × AreApart id xs
+AreApart id (x ∷ xs) =
+    ((y : _) → Has xs y → (bytes_eq (id x) (id y) ≡ false) × (bytes_eq (id y) (id x) ≡ false)) × AreApart id xs
 
 -- ---- what is read of a station and its own rows
 

@@ -6,7 +6,7 @@ use Rattle.bike_operator.specs.declared.records.Rental.{Rental}
 use Rattle.bike_operator.specs.declared.records.Closing.{Closing}
 use Rattle.bike_operator.specs.Operator.{Operator}
 use Rattle.bike_book.specs.Stored.{with_numbers}
-use Rattle.bike_summaries.specs.declared.rental.RentalInfo.{RentalInfo}
+use Rattle.bike_operator.specs.declared.rental_info.RentalInfo.{RentalInfo}
 use Rattle.bike_queries.specs.Infos.{rental_info}
 
 -- the moment is the begin or later, and before the end

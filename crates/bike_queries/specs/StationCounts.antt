@@ -13,8 +13,8 @@ use Rattle.bike_fleet_reads.specs.declared.counts.TypeCounts.{TypeCounts}
 use Rattle.bike_fleet_reads.specs.declared.stations.DockNumbers.{DockNumbers}
 use Rattle.bike_fleet_reads.specs.Fleet.{dock_numbers_of, no_counts, type_counts_of}
 use Rattle.bike_fleet_reads.specs.Holds.{HoldsAny, HoldsCounts}
-use Rattle.bike_summaries.specs.declared.station.TypeCount.{TypeCount}
-use Rattle.bike_summaries.specs.declared.station.Counts.{Counts}
+use Rattle.bike_operator.specs.declared.station_info.TypeCount.{TypeCount}
+use Rattle.bike_operator.specs.declared.station_info.Counts.{Counts}
 
 -- a vehicle type, with its bicycles that are available at a station
 abbrev pub type_count : Operator → List ℕ → List ℕ → TypeCount
@@ -31,7 +31,9 @@ is_of type_id row = is_text type_id (column row 1)
 
 -- The rows are those of a station's counts: they hold each type's, and a type with no row has 0 and 0.
 abbrev pub AreCountRows : Operator → List ℕ → List Row → Type 0
-AreCountRows s station rows = (type_id : List ℕ) (x : Option TypeCounts) → HoldsAny HoldsCounts (find (is_of type_id) rows) x → unwrap_or x no_counts ≡ type_counts_of s station type_id
+AreCountRows s station rows =
+    (type_id : List ℕ) (x : Option TypeCounts) → HoldsAny HoldsCounts (find (is_of type_id) rows) x
+    → unwrap_or x no_counts ≡ type_counts_of s station type_id
 
 -- one more type is counted
 pub record Adds (old : Counts) (type_id : List ℕ) (counts : TypeCounts) (new : Counts) : Type 0 where
@@ -42,7 +44,8 @@ pub record Adds (old : Counts) (type_id : List ℕ) (counts : TypeCounts) (new :
   pub docks_disabled : new.docks_disabled ≡ old.docks_disabled
 
 -- The counts of docks with these numbers, and of a station's bicycles of these types, in the order of the types.
-pub record AreCountsWith (s : Operator) (station : List ℕ) (docks : DockNumbers) (type_ids : List (List ℕ)) (c : Counts) : Type 0 where
+pub record AreCountsWith (s : Operator) (station : List ℕ) (docks : DockNumbers) (type_ids : List (List ℕ))
+    (c : Counts) : Type 0 where
   pub available : c.available ≡ sum_by (available_of s station) type_ids
   pub by_type : c.by_type.items ≡ map (type_count s station) type_ids
   pub disabled : c.disabled ≡ sum_by (disabled_of s station) type_ids

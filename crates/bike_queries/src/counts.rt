@@ -3,7 +3,7 @@
 ghost use Rattle.std.specs.Prelude.{◌≡◌, [], IfOk, OnOk, find};
 ghost use Rattle.std.specs.Borrow.{sem};
 ghost use Rattle.sqlite_value.specs.declared.value.Value.TheVariants.{Text};
-ghost use Rattle.bike_rows.specs.Calls.{LendsWhere, WalksWhere};
+ghost use Rattle.bike_sql.specs.Calls.{LendsWhere, WalksWhere};
 ghost use Rattle.bike_book.specs.Tables.{Counts as CountRows};
 ghost use Rattle.bike_book.specs.Found.{rows_of};
 ghost use Rattle.bike_schema.specs.Answers.{Answers};
@@ -20,8 +20,8 @@ use bike_book::columns::counts;
 use bike_fields::{Ident, LONGEST_IDENT};
 use bike_fleet_reads::{DockNumbers, TypeCounts, dock_total_at, find_dock_numbers};
 use bike_office_reads::{ReadRow, collect_rows, short_text_at};
+use bike_operator::{Counts, TypeCount};
 use bike_schema::StatementFault;
-use bike_summaries::{Counts, TypeCount};
 use sqlite::{Alter, Connection, Error, Row, Rows, params};
 use std::alloc::Global;
 use std::marker::Model;

@@ -13,8 +13,8 @@ use crate::span::{seconds_of, start_at};
 use bike_book::columns::entries;
 use bike_fixed::{Cents, GREATEST_FARE, Moment, Within};
 use bike_ledger::{Entry, EntryKind};
-use bike_rows::lookup::first_row;
 use bike_schema::{StatementFault, cents_at, moment_at, number_at};
+use bike_sql::lookup::first_row;
 use sqlite::{Alter, Connection, Row, params};
 
 /// The row of the first entry of a later number that lies in the span.

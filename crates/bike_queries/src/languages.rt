@@ -6,8 +6,8 @@ ghost use Rattle.bike_queries.specs.After.{language_row, next_language, start_af
 
 use arrayvec::ArrayString;
 use bike_fields::{LONGEST_LANGUAGE, Language};
-use bike_rows::lookup::first_row;
 use bike_schema::{StatementFault, language_at};
+use bike_sql::lookup::first_row;
 use sqlite::{Alter, Connection, Row, params};
 use std::alloc::Global;
 

@@ -11,10 +11,9 @@ use bike_book::columns::rentals;
 use bike_fields::RentalNumber;
 use bike_fixed::{Cents, Moment};
 use bike_office_reads::{find_rental, read_rental};
-use bike_operator::{Closing, Rental};
-use bike_rows::lookup::first_row;
+use bike_operator::{Closing, ClosingInfo, Rental, RentalInfo};
 use bike_schema::{StatementFault, number_at};
-use bike_summaries::{ClosingInfo, RentalInfo};
+use bike_sql::lookup::first_row;
 use sqlite::{Alter, Connection, Row, params};
 use std::alloc::Global;
 

@@ -2,7 +2,7 @@
 
 ghost use Rattle.std.specs.Prelude.{◌≡◌, IfOk, filter, option_map, take};
 ghost use Rattle.std.specs.Borrow.{sem};
-ghost use Rattle.bike_rows.specs.Calls.{LendsWhere, WalksWhere};
+ghost use Rattle.bike_sql.specs.Calls.{LendsWhere, WalksWhere};
 ghost use Rattle.bike_schema.specs.Answers.{Answers};
 ghost use Rattle.bike_schema.specs.Tables.{IsOurs, tables_of};
 ghost use Rattle.bike_fleet_reads.specs.Holds.{HoldsDockNumbers};
@@ -18,10 +18,10 @@ use bike_catalogue::{MoreName, Station};
 use bike_fields::{Ident, NameKind};
 use bike_fleet_reads::{DockNumbers, dock_total_at};
 use bike_office_reads::{NameRow, ReadRow, collect_rows, read_names, select_names};
+use bike_operator::StationInfo;
 use bike_schema::{
     StatementFault, flag_at, ident_at, moment_at, name_at, number_at, optional_ident_at,
 };
-use bike_summaries::StationInfo;
 use sqlite::{Alter, Connection, Error, Row, Rows, params};
 use std::alloc::Global;
 use std::collections::VecDeque;

@@ -9,8 +9,8 @@ ghost use Rattle.bike_schema.specs.Answers.{Answers, IsReadOf};
 use bike_book::columns::system;
 use bike_catalogue::System;
 use bike_fields::{FieldFault, TimeToLive};
-use bike_rows::lookup::first_row;
 use bike_schema::{StatementFault, number_at, str_at};
+use bike_sql::lookup::first_row;
 use sqlite::{Alter, Connection, Row, params};
 use std::alloc::Global;
 

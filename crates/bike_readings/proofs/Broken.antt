@@ -11,9 +11,9 @@ use Rattle.std.specs.FinSet.{FinSet}
 use Rattle.std.proofs.lemmas.Cmp.{tied_itself}
 use Rattle.sqlite_value.specs.Order.{Row, row_cmp}
 use Rattle.sqlite_rules.specs.Lists.{Has}
-use Rattle.bike_rows.proofs.OrderLemmas.{Rises}
-use Rattle.bike_rows.proofs.TreeLemmas.{by_key_total}
-use Rattle.bike_rows.proofs.ListLemmas.{map_has, has_map}
+use Rattle.bike_sql.proofs.OrderLemmas.{Rises}
+use Rattle.bike_sql.proofs.TreeLemmas.{by_key_total}
+use Rattle.bike_sql.proofs.RowListLemmas.{map_has, has_map}
 use Rattle.bike_operator.specs.Operator.{DockKey, texts_cmp, dock_key}
 use Rattle.bike_laws.proofs.SingleSteps.MapLemmas.{texts_order, tied, there_of}
 use Rattle.bike_book.specs.Rows.{dock_row}
@@ -77,7 +77,8 @@ broken_row row key is = go (dock_read row) refl is where
 -- ---- written, and read back
 
 module _ (broken : FinSet texts_cmp) (listed : FinMap texts_cmp (Unit {0})) (all : (key : DockKey) → set.contains broken key ≡ true → fin.contains_key listed key ≡ true)
-    (back : (key : DockKey) → fin.contains_key listed key ≡ true → (station : List ℕ) × (dock : ℕ) × (key ≡ dock_key station dock) × (dock_read (stored_dock broken (key, tt)) ≡ Some (station, dock, set.contains broken key))) where
+    (back : (key : DockKey) → fin.contains_key listed key ≡ true → (station : List ℕ) × (dock : ℕ) × (key ≡ dock_key station dock)
+    × (dock_read (stored_dock broken (key, tt)) ≡ Some (station, dock, set.contains broken key))) where
   rows : List Row
   rows = map (stored_dock broken) (fin.entries listed)
 
@@ -138,7 +139,8 @@ module _ (rows : List Row) (up : Rises (by_key_total 2) rows) where
         absurd cc
 
   -- what is said to be broken has a row
-  pub broken_has : (key : DockKey) → set.contains (broken_docks rows) key ≡ true → (row : Row) × (station : List ℕ) × (dock : ℕ) × Has rows row × (dock_read row ≡ Some (station, dock, true)) × (key ≡ dock_key station dock)
+  pub broken_has : (key : DockKey) → set.contains (broken_docks rows) key ≡ true
+      → (row : Row) × (station : List ℕ) × (dock : ℕ) × Has rows row × (dock_read row ≡ Some (station, dock, true)) × (key ≡ dock_key station dock)
   broken_has key is =
       let it = read_of broken_in rows key (has_marked rows key is) in
       let row = broken_row it.item key it.read_is in

@@ -17,7 +17,8 @@ use Rattle.bike_book.specs.Rows.{number_value, meta_row, system_row, plan_row, s
 use Rattle.bike_schema.specs.Columns.{number_in, or_none}
 use Rattle.bike_readings.specs.Bounds.{IsWithin, IsStoredMeta, IsStoredPlan, IsStoredSegment, IsStoredType, IsStoredRegion, IsStoredStation, IsStoredDock, IsStoredName}
 use Rattle.bike_readings.specs.BothWays.{MetaReading, SystemReading, PlanReading, SegmentReading, TypeReading, RegionReading, StationReading, DockReading, NameReading}
-use Rattle.bike_readings.proofs.ColumnLaws.{IsColumn, IfAny, whole_column, number_column, moment_column, flag_column, signed_column, word_column, word_utf8, ident_column, name_column, ascii_column, language_column, currency_column, form_column, propulsion_column, named_kind_column, or_none_column, ident_or_none_column}
+use Rattle.bike_readings.proofs.ColumnLaws.{IsColumn, IfAny, whole_column, number_column, moment_column, flag_column, signed_column, word_column, word_utf8, ident_column, name_column, ascii_column}
+use Rattle.bike_readings.proofs.ColumnLaws.{language_column, currency_column, form_column, propulsion_column, named_kind_column, or_none_column, ident_or_none_column}
 use Rattle.bike_readings.proofs.ChainLaws.{wide, takes, ends, ends_if, gives, gives_if}
 
 -- an identifier that is that of the record
@@ -35,7 +36,8 @@ meta_reading = record {
       takes _ whole_column e (λ cash cash_is _ e.
       takes _ whole_column e (λ revenue revenue_is _ e.
       let one_one : one ≡ 1 = omega (arith, one_good.0, one_good.1) in
-      ends (λ (x : ℕ × ℕ × ℤ × ℤ). meta_row x.0 x.1 x.2 x.3) (λ x. IsStoredMeta x.0 x.1) x e width (one_is ∙ ap (λ n. Int (pos n)) one_one, (app_is ∙ ap Text app_good, (version_is, (now_is, (cash_is, (revenue_is, tt))))))
+      ends (λ (x : ℕ × ℕ × ℤ × ℤ). meta_row x.0 x.1 x.2 x.3) (λ x. IsStoredMeta x.0 x.1) x e width
+      (one_is ∙ ap (λ n. Int (pos n)) one_one, (app_is ∙ ap Text app_good, (version_is, (now_is, (cash_is, (revenue_is, tt))))))
       (record { good_version = version_good; good_now = now_good }))))))));
   full = λ x g.
       gives _ (codes "bikeshare") (word_column (codes "bikeshare") (word_utf8 (codes "bikeshare") refl)) refl (
@@ -59,7 +61,17 @@ system_reading = record {
       takes _ (number_column 0 86400) e (λ ttl ttl_is ttl_good e.
       let one_one : one ≡ 1 = omega (arith, one_good.0, one_good.1) in
       ends system_row IsSystem x e width (one_is ∙ ap (λ n. Int (pos n)) one_one, (system_id_is, (language_is, (name_is, (hours_is, (contact_is, (zone_is, (currency_is, (url_is, (ttl_is, tt))))))))))
-      (record { system_id = system_id_good; language = language_good; name = name_good; opening_hours = hours_good; feed_contact_email = contact_good; timezone = zone_good; currency = currency_good; base_url = url_good; ttl = ttl_good.1 }))))))))))));
+      (record {
+        system_id = system_id_good;
+        language = language_good;
+        name = name_good;
+        opening_hours = hours_good;
+        feed_contact_email = contact_good;
+        timezone = zone_good;
+        currency = currency_good;
+        base_url = url_good;
+        ttl = ttl_good.1;
+      }))))))))))));
   full = λ x g.
       gives _ x.system_id ident_column g.system_id (
       gives _ x.language language_column g.language (
@@ -113,8 +125,14 @@ segment_reading = record {
       takes _ (signed_column (neg_ℤ (pos 100000)) (pos 100000)) e (λ rate rate_is rate_good e.
       takes _ (number_column 0 100000) e (λ interval interval_is interval_good e.
       takes _ end_column e (λ end end_is end_good e.
-      ends_if (λ (x : List ℕ × ℕ × SegmentRow). segment_row x.0 x.1 x.2) (λ x. IsStoredSegment x.0 x.1 x.2) x (is_after start end) e width (id_is, (seq_is, (start_is, (rate_is, (interval_is, (end_is, tt))))))
-      (λ after. record { good_plan = id_good; good_seq = seq_good; good = record { start = start_good.1; rate = rate_good; interval = interval_good.1; end = end_test start end end_good after } }))))))));
+      ends_if (λ (x : List ℕ × ℕ × SegmentRow). segment_row x.0 x.1 x.2) (λ x. IsStoredSegment x.0 x.1 x.2) x (is_after start end) e width
+      (id_is, (seq_is, (start_is, (rate_is, (interval_is, (end_is, tt))))))
+      (λ after. record {
+        good_plan = id_good;
+        good_seq = seq_good;
+        good = record
+            { start = start_good.1; rate = rate_good; interval = interval_good.1; end = end_test start end end_good after };
+      }))))))));
   full = λ x g.
       let end = end_tested x.2.start x.2.end g.good.end in
       gives _ x.0 ident_column g.good_plan (
@@ -164,7 +182,8 @@ region_reading = record {
       wide 2 row e (λ width e.
       takes _ ident_column e (λ id id_is id_good e.
       takes _ name_column e (λ name name_is name_good e.
-      ends (λ (x : List ℕ × RegionRow). region_row x.0 x.1) (λ x. IsStoredRegion x.0 x.1) x e width (id_is, (name_is, tt)) (record { id_is = refl; good = record { region_id = id_good; name = name_good } }))));
+      ends (λ (x : List ℕ × RegionRow). region_row x.0 x.1) (λ x. IsStoredRegion x.0 x.1) x e width (id_is, (name_is, tt))
+      (record { id_is = refl; good = record { region_id = id_good; name = name_good } }))));
   full = λ x g.
       gives _ x.0 ident_column (same_ident _ _ g.id_is g.good.region_id) (
       gives _ x.1.name name_column g.good.name
@@ -187,7 +206,8 @@ station_reading = record {
       takes _ whole_column e (λ free free_is _ e.
       takes _ (number_column 0 _) e (λ broken broken_is broken_good e.
       takes _ ident_or_none_column e (λ region region_is region_good e.
-      ends (λ (x : List ℕ × Station × ℤ × ℕ). station_row x.0 x.1 x.2 x.3) (λ x. IsStoredStation x.0 x.1 x.3) x e width (id_is, (name_is, (lat_is, (lon_is, (docks_is, (installed_is, (renting_is, (returning_is, (reported_is, (free_is, (broken_is, (region_is, tt))))))))))))
+      ends (λ (x : List ℕ × Station × ℤ × ℕ). station_row x.0 x.1 x.2 x.3) (λ x. IsStoredStation x.0 x.1 x.3) x e width
+      (id_is, (name_is, (lat_is, (lon_is, (docks_is, (installed_is, (renting_is, (returning_is, (reported_is, (free_is, (broken_is, (region_is, tt))))))))))))
       (record {
         id_is = refl;
         good = record { station_id = id_good; name = name_good; lat = lat_good; lon = lon_good; some_docks = docks_good.0; few_docks = docks_good.1 };
@@ -229,7 +249,8 @@ dock_reading = record {
       takes _ ident_column e (λ station station_is station_good e.
       takes _ (number_column 1 MOST_DOCKS) e (λ dock dock_is dock_good e.
       takes _ flag_column e (λ broken broken_is _ e.
-      ends (λ (x : List ℕ × ℕ × Bool). dock_row x.0 x.1 x.2) (λ x. IsStoredDock x.0 x.1) x e width (station_is, (dock_is, (broken_is, tt))) (record { good_station = station_good; good_dock = dock_good })))));
+      ends (λ (x : List ℕ × ℕ × Bool). dock_row x.0 x.1 x.2) (λ x. IsStoredDock x.0 x.1) x e width (station_is, (dock_is, (broken_is, tt)))
+      (record { good_station = station_good; good_dock = dock_good })))));
   full = λ x g.
       gives _ x.0 ident_column g.good_station (
       gives _ x.1 (number_column 1 MOST_DOCKS) g.good_dock (

@@ -38,21 +38,25 @@ wide {A} {P} width row {o} {x} e k = go (eqb (length row) width) refl where
   go false i = let f : ◌≡◌ {A = Option A} None (Some x) = sym (ap (λ b. cond b o None) i) ∙ e in absurd cc
 
 -- a column was read
-pub takes : {A B P : Type 0} {read : Value → Option A} {write : A → Value} {Good : A → Type 0} {v : Value} (next : A → Option B) {b : B} → IsColumn read write Good → option_and_then next (read v) ≡ Some b
+pub takes : {A B P : Type 0} {read : Value → Option A} {write : A → Value} {Good : A → Type 0} {v : Value} (next : A → Option B) {b : B} → IsColumn read write Good
+    → option_and_then next (read v) ≡ Some b
     → ((a : A) → v ≡ write a → Good a → next a ≡ Some b → P) → P
 takes {read = read} {v = v} next {b} column e k = option_and_then_some next (read v) b e (λ a r s. let c = column.sound v a r in k a c.0 c.1 s)
 
 -- all columns were read
-pub ends : {X : Type 0} (row_of : X → Row) (Good : X → Type 0) {row : Row} {made : X} (x : X) → Some made ≡ Some x → length row ≡ length (row_of made) → HasColumns row 0 (row_of made) → Good made → (row ≡ row_of x) × Good x
+pub ends : {X : Type 0} (row_of : X → Row) (Good : X → Type 0) {row : Row} {made : X} (x : X) → Some made ≡ Some x → length row ≡ length (row_of made) → HasColumns row 0 (row_of made) → Good made
+    → (row ≡ row_of x) × Good x
 ends row_of Good {row} {made} x e width columns good = subst (λ y. (row ≡ row_of y) × Good y) (same_Some made x e) (row_is row (row_of made) width columns, good)
 
 -- .. and a test was passed
-pub ends_if : {X : Type 0} (row_of : X → Row) (Good : X → Type 0) {row : Row} {made : X} (x : X) (test : Bool) → cond test (Some made) None ≡ Some x → length row ≡ length (row_of made) → HasColumns row 0 (row_of made) → (test ≡ true → Good made) → (row ≡ row_of x) × Good x
+pub ends_if : {X : Type 0} (row_of : X → Row) (Good : X → Type 0) {row : Row} {made : X} (x : X) (test : Bool) → cond test (Some made) None ≡ Some x → length row ≡ length (row_of made)
+    → HasColumns row 0 (row_of made) → (test ≡ true → Good made) → (row ≡ row_of x) × Good x
 ends_if row_of Good {row} {made} x test e width columns good =
     let t = cond_some test made x e in subst (λ y. (row ≡ row_of y) × Good y) t.1 (row_is row (row_of made) width columns, good t.0)
 
 -- a column that was written is read
-pub gives : {A B : Type 0} {read : Value → Option A} {write : A → Value} {Good : A → Type 0} (next : A → Option B) (a : A) {b : B} → IsColumn read write Good → Good a → next a ≡ Some b → option_and_then next (read (write a)) ≡ Some b
+pub gives : {A B : Type 0} {read : Value → Option A} {write : A → Value} {Good : A → Type 0} (next : A → Option B) (a : A) {b : B} → IsColumn read write Good → Good a → next a ≡ Some b
+    → option_and_then next (read (write a)) ≡ Some b
 gives next a column good e = rw (column.full a good) e
 
 -- .. and a test is passed

@@ -1,5 +1,6 @@
 -- Columns are read both ways: what is read of a value is what the value was made of, and what was written is read.
-use Rattle.std.proofs.Common.{◌≡◌, ℕ, ℤ, pos, negsuc, ◌≤◌, ◌<◌, ◌≤ℤ◌, List, [], ◌∷◌, zero, suc, Bool, true, false, ◌&&◌, ◌||◌, cond, leb, eqb, Option, Some, None, refl, sym, ap, ◌∙◌, subst, arith, rules, codes}
+use Rattle.std.proofs.Common.{◌≡◌, ℕ, ℤ, pos, negsuc, ◌≤◌, ◌<◌, ◌≤ℤ◌, List, [], ◌∷◌, zero, suc, Bool, true, false, ◌&&◌, ◌||◌, cond, leb, eqb, Option, Some, None, refl, sym, ap, ◌∙◌, subst, arith}
+use Rattle.std.proofs.Common.{rules, codes}
 use Rattle.std.specs.Prelude.{option_map, option_and_then, int_le}
 use Rattle.std.specs.Ordering.{int_eq}
 use Rattle.std.specs.List.{list_all}
@@ -14,7 +15,8 @@ use Rattle.sqlite_value.specs.declared.value.Value.{Value}
 use Rattle.sqlite_value.specs.declared.value.Value.TheVariants.{Null, Int, Real, Text, Blob}
 use Rattle.sqlite.specs.Values.{or_null}
 use Rattle.sqlite_sql.specs.Ops.{is_null}
-use Rattle.bike_fields.specs.Bytes.{is_lower, is_upper, is_digit, is_ident_byte, is_key_byte, is_language_byte, is_printable, is_name_byte, has_length, is_ident, is_key, is_language, is_currency, is_ascii_field, is_name, key_of, ascii_of, name_of}
+use Rattle.bike_fields.specs.Bytes.{is_lower, is_upper, is_digit, is_ident_byte, is_key_byte, is_language_byte, is_printable, is_name_byte, has_length, is_ident, is_key, is_language, is_currency}
+use Rattle.bike_fields.specs.Bytes.{is_ascii_field, is_name, key_of, ascii_of, name_of}
 use Rattle.bike_fields.proofs.Lengths.{both_hold}
 use Rattle.bike_fields.proofs.Callers.{ident_sound, ident_full}
 use Rattle.bike_fields.specs.declared.vehicle.Form.{Form}
@@ -158,7 +160,8 @@ text_sound (Text t) text e = ap Text (cond_some (is_utf8 t) t text e).1
 text_sound (Blob b) text e = absurd cc
 
 -- what is read of texts
-pub of_text : {A : Type 0} (read : List ℕ → Option A) (write : A → List ℕ) (Good : A → Type 0) → ((text : List ℕ) (a : A) → read text ≡ Some a → (text ≡ write a) × Good a) → ((a : A) → Good a → read (write a) ≡ Some a)
+pub of_text : {A : Type 0} (read : List ℕ → Option A) (write : A → List ℕ) (Good : A → Type 0) → ((text : List ℕ) (a : A) → read text ≡ Some a → (text ≡ write a) × Good a)
+    → ((a : A) → Good a → read (write a) ≡ Some a)
     → ((a : A) → Good a → is_utf8 (write a) ≡ true) → IsColumn (λ v. option_and_then read (text_in v)) (λ a. Text (write a)) Good
 of_text read write Good sound full utf8 = record {
   sound = λ v a e. option_and_then_some read (text_in v) a e (λ text r s. let k = sound text a s in (text_sound v text r ∙ ap Text k.0, k.1));
@@ -319,7 +322,8 @@ end_column = of_text _ end_text IsEnd (λ text x e. end_spelled text x (end_read
     end_full (end.Station station) g = end_reader.full station (end.Station station) refl g
 
 pub word_column : (word : List ℕ) → is_utf8 word ≡ true → IsColumn (word_in word) Text (λ text. text ≡ word)
-word_column word utf8 = of_text _ (λ text. text) _ (λ text a e. let s = cond_some (bytes_eq text word) text a e in (s.1, sym s.1 ∙ (bytes_eq-Decides text word).0 s.0)) full (λ text is. ap is_utf8 is ∙ utf8)
+word_column word utf8 =
+    of_text _ (λ text. text) _ (λ text a e. let s = cond_some (bytes_eq text word) text a e in (s.1, sym s.1 ∙ (bytes_eq-Decides text word).0 s.0)) full (λ text is. ap is_utf8 is ∙ utf8)
   where
     full : (text : List ℕ) → text ≡ word → cond (bytes_eq text word) (Some text) None ≡ Some text
     full text is = let same : bytes_eq text word ≡ true = (bytes_eq-Decides text word).1 is in rw same refl
@@ -337,7 +341,8 @@ null_is (Real x) e = absurd cc
 null_is (Text t) e = absurd cc
 null_is (Blob b) e = absurd cc
 
-pub or_none_column : {A : Type 0} {read : Value → Option A} {write : A → Value} {Good : A → Type 0} → IsColumn read write Good → ((a : A) → is_null (write a) ≡ false) → IsColumn (or_none read) (or_null write) (IfAny Good)
+pub or_none_column : {A : Type 0} {read : Value → Option A} {write : A → Value} {Good : A → Type 0} → IsColumn read write Good → ((a : A) → is_null (write a) ≡ false)
+    → IsColumn (or_none read) (or_null write) (IfAny Good)
 or_none_column {A} {read} {write} {Good} column there = record { sound = sound; full = full }
   where
     some : (v : Value) (o : Option A) (a : Option A) → read v ≡ o → option_map Some o ≡ Some a → (v ≡ or_null write a) × IfAny Good a

@@ -1,5 +1,6 @@
 -- The Fare entries of rentals: each closed rental has one of its fare, so there are no more closed rentals than entries.
-use Rattle.std.proofs.Common.{◌≡◌, inl, inr, ℕ, ℤ, zero, suc, ◌+◌, ◌<◌, ◌≤◌, List, [], ◌∷◌, length, map, filter, Bool, true, false, cond, not, ◌&&◌, ◌==◌, Option, Some, None, refl, sym, ap, ap₂, ◌∙◌, subst, arith}
+use Rattle.std.proofs.Common.{◌≡◌, inl, inr, ℕ, ℤ, zero, suc, ◌+◌, ◌<◌, ◌≤◌, List, [], ◌∷◌, length, map, filter, Bool, true, false, cond, not, ◌&&◌, ◌==◌, Option, Some, None, refl, sym, ap, ap₂, ◌∙◌}
+use Rattle.std.proofs.Common.{subst, arith}
 use Rattle.std.proofs.lemmas.Bool.{eq-eqb}
 use Rattle.sqlite_rules.specs.Lists.{Has}
 use Rattle.bike_ledger.specs.Entries.{Entry}
@@ -65,7 +66,8 @@ some_length : (xs : List ℤ) (x : ℤ) → Has xs x → 1 ≤ length xs
 some_length [] x has = elim has [ ]
 some_length (y ∷ xs) x has = omega arith
 
-two_items : (rental i j : ℕ) (es : List Entry) (x y : Entry) → i < j → item_at i es ≡ Some x → item_at j es ≡ Some y → is_fare_of rental x ≡ true → is_fare_of rental y ≡ true → 2 ≤ length (fares_of rental es)
+two_items : (rental i j : ℕ) (es : List Entry) (x y : Entry) → i < j → item_at i es ≡ Some x → item_at j es ≡ Some y → is_fare_of rental x ≡ true → is_fare_of rental y ≡ true
+    → 2 ≤ length (fares_of rental es)
 two_items rental i j [] x y less fx fy px py = absurd cc
 two_items rental i zero (e ∷ es) x y less fx fy px py = absurd (omega (arith, less))
 two_items rental zero (suc j) (e ∷ es) x y less fx fy px py =
@@ -78,7 +80,8 @@ two_items rental (suc i) (suc j) (e ∷ es) x y less fx fy px py = go (is_fare_o
   go true is rest = let all = ap (λ (zs : List ℤ). length zs) (further rental e es true is) in omega (arith, rest, all)
   go false is rest = let all = ap (λ (zs : List ℤ). length zs) (further rental e es false is) in omega (arith, rest, all)
 
-pub two_fares : (rental a b : ℕ) (es : List Entry) (x y : Entry) → a < b → item_numbered a es ≡ Some x → item_numbered b es ≡ Some y → is_fare_of rental x ≡ true → is_fare_of rental y ≡ true → 2 ≤ length (fares_of rental es)
+pub two_fares : (rental a b : ℕ) (es : List Entry) (x y : Entry) → a < b → item_numbered a es ≡ Some x → item_numbered b es ≡ Some y → is_fare_of rental x ≡ true → is_fare_of rental y ≡ true
+    → 2 ≤ length (fares_of rental es)
 two_fares rental zero b es x y less fx fy px py = absurd cc
 two_fares rental (suc i) zero es x y less fx fy px py = absurd cc
 two_fares rental (suc i) (suc j) es x y less fx fy px py = two_items rental i j es x y (omega (arith, less)) fx fy px py
@@ -128,7 +131,8 @@ without rental es = filter (λ e. not (is_fare_of rental e)) es
 parted : (rental : ℕ) (es : List Entry) → length (without rental es) + length (fares_of rental es) ≡ length es
 parted rental [] = refl
 parted rental (e ∷ es) = go (is_fare_of rental e) refl (parted rental es) where
-  go : (b : Bool) → is_fare_of rental e ≡ b → length (without rental es) + length (fares_of rental es) ≡ length es → length (without rental (e ∷ es)) + length (fares_of rental (e ∷ es)) ≡ suc (length es)
+  go : (b : Bool) → is_fare_of rental e ≡ b → length (without rental es) + length (fares_of rental es) ≡ length es
+      → length (without rental (e ∷ es)) + length (fares_of rental (e ∷ es)) ≡ suc (length es)
   go true is rest =
       let a : length (without rental (e ∷ es)) ≡ length (without rental es) = ap (λ (c : Bool). length (cond (not c) (e ∷ without rental es) (without rental es))) is in
       let b = ap (λ (zs : List ℤ). length zs) (further rental e es true is) in

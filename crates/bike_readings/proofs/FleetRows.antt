@@ -36,7 +36,8 @@ place_sound row p e =
     takes _ (number_column 1 100000000) e (λ for for_is for_good e.
     subst (Placed row) (same_Some (place.Truck n for) p e) ((null.0, (null.1.0, (null.1.1.0, (n_is, (for_is, tt))))), (n_good, for_good))))) (λ e. absurd cc))))
 
-place_full : (p : Place) → IsStoredPlace p → place_in (column (place_columns p) 0) (column (place_columns p) 1) (column (place_columns p) 2) (column (place_columns p) 3) (column (place_columns p) 4) ≡ Some p
+place_full : (p : Place) → IsStoredPlace p → place_in (column (place_columns p) 0) (column (place_columns p) 1) (column (place_columns p) 2) (column (place_columns p) 3) (column (place_columns p) 4)
+    ≡ Some p
 place_full (place.Dock station dock) g = gives _ station ident_column g.good_station (gives _ dock (number_column 1 MOST_DOCKS) g.good_dock refl)
 place_full (place.Rental rental) g = gives _ rental (number_column 1 100000000) g refl
 place_full (place.Truck truck order) g = gives _ truck (number_column 1 999999) g.0 (gives _ order (number_column 1 100000000) g.1 refl)

@@ -12,8 +12,8 @@ use Rattle.std.proofs.lemmas.Option.{same_Some}
 use Rattle.std.proofs.lemmas.Slice.Eq.{bytes_eq-Decides}
 use Rattle.sqlite_value.proofs.OrderLemmas.{then-Equal}
 use Rattle.sqlite_rules.specs.Lists.{Has}
-use Rattle.bike_rows.proofs.OrderLemmas.{Rises, all_from}
-use Rattle.bike_rows.proofs.ListLemmas.{has_map, map_has, filter_has, has_filter}
+use Rattle.bike_sql.proofs.OrderLemmas.{Rises, all_from}
+use Rattle.bike_sql.proofs.RowListLemmas.{has_map, map_has, filter_has, has_filter}
 use Rattle.bike_fields.proofs.Lengths.{both_hold}
 use Rattle.bike_catalogue.specs.Rows.{MoreNameRow}
 use Rattle.bike_fields.specs.declared.name_kind.NameKind.{NameKind}

@@ -9,8 +9,8 @@ use Rattle.std.specs.FinSet as set
 use Rattle.sqlite_value.specs.declared.value.Value.TheVariants.{Text}
 use Rattle.sqlite_value.specs.Order.{Row}
 use Rattle.sqlite_rules.specs.Lists.{Has}
-use Rattle.bike_rows.specs.View.{row_with}
-use Rattle.bike_rows.proofs.ListLemmas.{map_has}
+use Rattle.bike_sql.specs.View.{row_with}
+use Rattle.bike_sql.proofs.RowListLemmas.{map_has}
 use Rattle.bike_catalogue.specs.Rows.{SystemRow}
 use Rattle.bike_ledger.specs.Entries.{Entry}
 use Rattle.bike_ledger.specs.declared.entry.EntryKind.{EntryKind}
@@ -29,16 +29,19 @@ use Rattle.bike_laws.proofs.SingleSteps.ItemLemmas.{number_within}
 use Rattle.bike_book.specs.declared.version.TheConstants.{NEWEST}
 use Rattle.bike_book.specs.Tables.{Meta, System, Plans, Segments, Types, Regions, Stations, Docks, Bikes, Trucks, Riders, Rentals, Orders, Entries, Kept as KeptTable, Counts, MoreNames}
 use Rattle.bike_book.specs.Rows.{number_value, meta_row}
-use Rattle.bike_book.specs.Stored.{Listed, IsListing, tables_for, meta_rows, system_rows, with_numbers, plans_segments, stored_plan, stored_type, stored_region, stored_station, stored_dock, stored_bike, stored_truck, stored_rider, stored_rental, stored_order, stored_entry, stored_kept, stored_count, stored_name}
+use Rattle.bike_book.specs.Stored.{Listed, IsListing, tables_for, meta_rows, system_rows, with_numbers, plans_segments, stored_plan, stored_type, stored_region, stored_station, stored_dock}
+use Rattle.bike_book.specs.Stored.{stored_bike, stored_truck, stored_rider, stored_rental, stored_order, stored_entry, stored_kept, stored_count, stored_name}
 use Rattle.bike_book.proofs.MapRows.{StoresKeys, BeginsWithKey, has_get}
 use Rattle.bike_book.proofs.Keys.{numbers, texts, pairs, triples, docks}
 use Rattle.bike_book.proofs.FoundKeys.{found_listed}
 use Rattle.bike_book.proofs.FoundNumbers.{same_length}
-use Rattle.bike_readings.specs.Readings.{meta_read, system_read, plan_read, segment_read, type_read, region_read, station_read, dock_read, bike_read, truck_read, rider_read, rental_read, order_read, entry_read, kept_read, count_read, name_read}
+use Rattle.bike_readings.specs.Readings.{meta_read, system_read, plan_read, segment_read, type_read, region_read, station_read, dock_read, bike_read, truck_read, rider_read, rental_read, order_read}
+use Rattle.bike_readings.specs.Readings.{entry_read, kept_read, count_read, name_read}
 use Rattle.bike_readings.proofs.CatalogueRows.{system_reading, segment_reading}
 use Rattle.bike_readings.specs.Bounds.{IsStoredSegment}
 use Rattle.bike_readings.proofs.SoundBounds.{segment_stored}
-use Rattle.bike_readings.specs.Demands.{IsGoodMeta, IsGoodPlan, IsGoodSegment, IsGoodType, IsGoodRegion, IsGoodStation, IsGoodDock, IsGoodPlace, IsGoodBike, IsGoodTruck, IsGoodRider, IsGoodRental, IsGoodOrder, IsGoodEntry, IsGoodKept, IsGoodCount, IsGoodName, HasFare, IsOneFare}
+use Rattle.bike_readings.specs.Demands.{IsGoodMeta, IsGoodPlan, IsGoodSegment, IsGoodType, IsGoodRegion, IsGoodStation, IsGoodDock, IsGoodPlace, IsGoodBike, IsGoodTruck, IsGoodRider, IsGoodRental}
+use Rattle.bike_readings.specs.Demands.{IsGoodOrder, IsGoodEntry, IsGoodKept, IsGoodCount, IsGoodName, HasFare, IsOneFare}
 use Rattle.bike_readings.specs.ReadOff.{rental_in}
 use Rattle.bike_readings.specs.Rules.{HasNone}
 use Rattle.bike_readings.proofs.ByNumber.{at_number}
@@ -52,7 +55,8 @@ use Rattle.bike_readings.proofs.RowRules.{some_and, AreGoodRows, LacksNone}
 
 -- ---- rows of maps and of numbered lists
 
-module _ {K X A : Type 0} {R : K → K → Ordering} {keys : ℕ} {key_row : K → Row} {IsGood : K → Type 0} (h : StoresKeys R keys key_row IsGood) (row : K × X → Row) (read : Row → Option A) (Fact : ℕ → A → Type 0) where
+module _ {K X A : Type 0} {R : K → K → Ordering} {keys : ℕ} {key_row : K → Row} {IsGood : K → Type 0} (h : StoresKeys R keys key_row IsGood) (row : K × X → Row) (read : Row → Option A)
+    (Fact : ℕ → A → Type 0) where
   -- the row of each record is good, with fewer rows below it than there are
   pub map_good : (m : FinMap R X) → ((k : K) (v : X) (below : ℕ) → fin.get m k ≡ Some v → below < fin.len m → IsSomeAnd (read (row (k, v))) (Fact below))
       → (r : Row) → Has (map row (fin.entries m)) r → IsSomeAnd (read r) (Fact (lesser keys (take keys r) (map row (fin.entries m))))
@@ -220,7 +224,8 @@ module _ (s : Operator) (m : Listed) (sound : IsSound s) (listing : IsListing s 
   all_rows_good Types row has =
       map_good texts stored_type type_read (IsGoodType s) s.types (λ k v below found low.
       let few = sound.catalogue.few_types in
-      some_and (IsGoodType s below) (type_read (stored_type (k, v))) (k, v) (type_is s m sound listing k v found) (record { room = omega (arith, low, few); good = sound.catalogue.types k v found })) row has
+      some_and (IsGoodType s below) (type_read (stored_type (k, v))) (k, v) (type_is s m sound listing k v found)
+      (record { room = omega (arith, low, few); good = sound.catalogue.types k v found })) row has
   all_rows_good Regions row has =
       map_good texts stored_region region_read (IsGoodRegion s) s.regions (λ k v below found low.
       let few = sound.catalogue.few_regions in
@@ -247,7 +252,8 @@ module _ (s : Operator) (m : Listed) (sound : IsSound s) (listing : IsListing s 
   all_rows_good Trucks row has =
       map_good numbers stored_truck truck_read (IsGoodTruck s) s.trucks (λ k v below found low.
       let few = sound.orders.few_trucks in
-      some_and (IsGoodTruck s below) (truck_read (stored_truck (k, v))) (k, v) (truck_is s m sound listing k v found) (record { room = omega (arith, low, few); good = sound.orders.trucks k v found })) row has
+      some_and (IsGoodTruck s below) (truck_read (stored_truck (k, v))) (k, v) (truck_is s m sound listing k v found)
+      (record { room = omega (arith, low, few); good = sound.orders.trucks k v found })) row has
   all_rows_good Riders row has =
       map_good numbers (stored_rider s.entries) rider_read (IsGoodRider s) s.riders (λ k v below found low.
       let few = sound.ledger.few_riders in
@@ -266,7 +272,8 @@ module _ (s : Operator) (m : Listed) (sound : IsSound s) (listing : IsListing s 
       (record { number_is = place; room = omega (arith, few, high, place); good = sound.orders.orders n o found })) row has
   all_rows_good Entries row has = numbered_good stored_entry (λ e. refl) entry_read (IsGoodEntry s) s.entries entry_good row has
   all_rows_good KeptTable row has =
-      map_good pairs stored_kept kept_read (IsGoodKept s) s.kept (λ k v below found low. some_and (IsGoodKept s below) (kept_read (stored_kept (k, v))) (k, v) (kept_is s m sound listing k v found) (sound.kept k v found)) row has
+      map_good pairs stored_kept kept_read (IsGoodKept s) s.kept (λ k v below found low. some_and (IsGoodKept s below) (kept_read (stored_kept (k, v))) (k, v) (kept_is s m sound listing k v found)
+      (sound.kept k v found)) row has
   all_rows_good Counts row has = map_good pairs (stored_count s) count_read (IsGoodCount s) m.counts (λ k v below found low. count_good k v below found) row has
   all_rows_good MoreNames row has = map_good triples stored_name name_read (IsGoodName s) s.more_names (λ k v below found low. name_good k v below found) row has
 

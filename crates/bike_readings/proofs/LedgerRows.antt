@@ -60,7 +60,8 @@ paid : (to : Option (List ℕ)) (finish : ℕ) (fare : ℤ) → IsMoment finish 
     → option_and_then (λ at. option_and_then (λ amount. Some (closed to at amount)) (fare_in (Int fare))) (moment_in (number_value finish)) ≡ Some (closed to finish fare)
 paid to finish fare finish_good fare_good = gives _ finish moment_column finish_good (gives _ fare (signed_column (pos 0) greatest_amount) fare_good refl)
 
-closed_full : (to : Option (List ℕ)) (finish : ℕ) (fare : ℤ) → IsIdentOrNone to → IsMoment finish → IsFare fare → closing_in (or_null Text to) (number_value finish) (Int fare) ≡ Some (closed to finish fare)
+closed_full : (to : Option (List ℕ)) (finish : ℕ) (fare : ℤ) → IsIdentOrNone to → IsMoment finish → IsFare fare
+    → closing_in (or_null Text to) (number_value finish) (Int fare) ≡ Some (closed to finish fare)
 closed_full None finish fare stop finish_good fare_good = paid None finish fare finish_good fare_good
 closed_full (Some station) finish fare stop finish_good fare_good = rw (ident_or_none_column.full (Some station) stop) (paid (Some station) finish fare finish_good fare_good)
 
@@ -91,7 +92,8 @@ rental_reading = record {
       takes _ whole_column e (λ refunded refunded_is _ e.
       let closed = closing_sound row closing refunded read refunded_is in
       let columns = closing_width closing refunded in
-      ends (λ (x : ℕ × Rental × ℤ). rental_row x.0 x.1 x.2) (λ x. IsStoredRental x.0 x.1) x e (omega (arith, width, columns)) (number_is, (rider_is, (bike_is, (plan_is, (from_is, (start_is, closed.0))))))
+      ends (λ (x : ℕ × Rental × ℤ). rental_row x.0 x.1 x.2) (λ x. IsStoredRental x.0 x.1) x e (omega (arith, width, columns))
+      (number_is, (rider_is, (bike_is, (plan_is, (from_is, (start_is, closed.0))))))
       (record { good_number = number_good; rider = rider_good; bike = bike_good; plan = plan_good; from_station = from_good; start = start_good; closing = closed.1 }))))))))));
   full = λ x g.
       let columns = closing_width x.1.closing x.2 in
@@ -121,7 +123,8 @@ payment_between : (z : ℤ) → IsPayment z → IsBetween (pos 1) (pos 1000000) 
 payment_between z p = subst (IsBetween (pos 1) (pos 1000000)) (sym p.is) (omega (arith, ints, p.low), omega (arith, ints, p.high))
 
 payment_column : IsColumn (signed_in (pos 1) (pos 1000000)) Int IsPayment
-payment_column = record { sound = λ v z e. let s = (signed_column (pos 1) (pos 1000000)).sound v z e in (s.0, payment_of z s.1); full = λ z p. (signed_column (pos 1) (pos 1000000)).full z (payment_between z p) }
+payment_column =
+    record { sound = λ v z e. let s = (signed_column (pos 1) (pos 1000000)).sound v z e in (s.0, payment_of z s.1); full = λ z p. (signed_column (pos 1) (pos 1000000)).full z (payment_between z p) }
 
 amount_column : (kind : EntryKind) → IsColumn (amount_in kind) Int (IsStoredAmount kind)
 amount_column TopUp = payment_column

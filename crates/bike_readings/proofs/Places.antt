@@ -1,5 +1,6 @@
 -- The row under a key, and how many rows have a lesser key, in rows that stand in the order of their keys.
-use Rattle.std.proofs.Common.{◌≡◌, inl, inr, ℕ, suc, ◌+◌, ◌<◌, ◌≤◌, List, [], ◌∷◌, ◌++◌, append_assoc, length, length-append, map, Bool, true, false, cond, Option, Some, refl, sym, ap, subst, ◌∙◌, arith}
+use Rattle.std.proofs.Common.{◌≡◌, inl, inr, ℕ, suc, ◌+◌, ◌<◌, ◌≤◌, List, [], ◌∷◌, ◌++◌, append_assoc, length, length-append, map, Bool, true, false, cond, Option, Some, refl, sym, ap, subst, ◌∙◌}
+use Rattle.std.proofs.Common.{arith}
 use Rattle.std.specs.Prelude.{take}
 use Rattle.std.specs.List.{filter_map}
 use Rattle.std.specs.Ordering.{is_eq, is_lt, nat_cmp, ordering_reverse}
@@ -9,10 +10,10 @@ use Rattle.std.specs.Cmp.{Equal-is, nat_cmp_is, ranked}
 use Rattle.std.proofs.lemmas.Cmp.{tied_itself}
 use Rattle.sqlite_value.specs.Order.{Row, row_cmp}
 use Rattle.sqlite_rules.specs.Lists.{Has}
-use Rattle.bike_rows.specs.View.{by_key, row_with}
-use Rattle.bike_rows.proofs.OrderLemmas.{Rises, all_has}
-use Rattle.bike_rows.proofs.TreeLemmas.{by_key_total}
-use Rattle.bike_rows.proofs.ListLemmas.{find_only}
+use Rattle.bike_sql.specs.View.{by_key, row_with}
+use Rattle.bike_sql.proofs.OrderLemmas.{Rises, all_has}
+use Rattle.bike_sql.proofs.TreeLemmas.{by_key_total}
+use Rattle.bike_sql.proofs.RowListLemmas.{find_only}
 use Rattle.bike_operator.specs.Counts.{count}
 use Rattle.bike_laws.proofs.SingleSteps.CountLemmas.{count-cons, one}
 use Rattle.bike_book.specs.Stored.{numbers_from, with_numbers}

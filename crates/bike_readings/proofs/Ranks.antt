@@ -7,7 +7,7 @@ use Rattle.std.specs.declared.cmp.Ordering.TheVariants.{Less, Greater}
 use Rattle.std.specs.Cmp.{IsTotalOrder}
 use Rattle.std.proofs.lemmas.Cmp.{tied_itself}
 use Rattle.sqlite_rules.specs.Lists.{Has}
-use Rattle.bike_rows.proofs.OrderLemmas.{Rises, all_has}
+use Rattle.bike_sql.proofs.OrderLemmas.{Rises, all_has}
 use Rattle.bike_operator.specs.Counts.{count}
 use Rattle.bike_laws.proofs.SingleSteps.CountLemmas.{count-cons, one}
 use Rattle.bike_readings.proofs.Fares.{counted}

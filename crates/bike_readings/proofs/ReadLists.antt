@@ -10,9 +10,9 @@ use Rattle.std.specs.FinMap.{FinMap}
 use Rattle.std.specs.FinMap.Entries as entries
 use Rattle.sqlite_value.specs.Order.{Row, row_cmp}
 use Rattle.sqlite_rules.specs.Lists.{Has}
-use Rattle.bike_rows.specs.View.{by_key}
-use Rattle.bike_rows.proofs.OrderLemmas.{Rises}
-use Rattle.bike_rows.proofs.TreeLemmas.{by_key_total}
+use Rattle.bike_sql.specs.View.{by_key}
+use Rattle.bike_sql.proofs.OrderLemmas.{Rises}
+use Rattle.bike_sql.proofs.TreeLemmas.{by_key_total}
 use Rattle.bike_book.proofs.MapRows.{StoresKeys, BeginsWithKey}
 
 -- ---- read item by item

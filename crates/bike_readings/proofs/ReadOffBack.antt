@@ -17,19 +17,23 @@ use Rattle.bike_operator.specs.Counts.{docks_available, docks_broken, available_
 use Rattle.bike_operator.specs.Sound.{IsSound, IsSetSystem, HasDock, IsNameAt}
 use Rattle.bike_laws.specs.SingleSteps.Numbers.{disabled_of}
 use Rattle.bike_book.specs.declared.version.TheConstants.{NEWEST}
-use Rattle.bike_book.specs.Stored.{Listed, IsListing, tables_for, meta_rows, system_rows, plans_segments, stored_plan, stored_type, stored_region, stored_station, stored_dock, stored_bike, stored_truck, stored_rider, stored_rental, stored_order, stored_entry, stored_kept, stored_count, stored_name}
+use Rattle.bike_book.specs.Stored.{Listed, IsListing, tables_for, meta_rows, system_rows, plans_segments, stored_plan, stored_type, stored_region, stored_station, stored_dock, stored_bike}
+use Rattle.bike_book.specs.Stored.{stored_truck, stored_rider, stored_rental, stored_order, stored_entry, stored_kept, stored_count, stored_name}
 use Rattle.bike_book.proofs.Keys.{numbers, texts, pairs, triples, docks}
-use Rattle.bike_readings.specs.Readings.{meta_read, system_read, plan_read, type_read, region_read, station_read, dock_read, bike_read, truck_read, rider_read, rental_read, order_read, entry_read, kept_read, count_read, name_read}
+use Rattle.bike_readings.specs.Readings.{meta_read, system_read, plan_read, type_read, region_read, station_read, dock_read, bike_read, truck_read, rider_read, rental_read, order_read, entry_read}
+use Rattle.bike_readings.specs.Readings.{kept_read, count_read, name_read}
 use Rattle.bike_readings.specs.Bounds.{IsStoredSegment}
 use Rattle.bike_readings.proofs.CatalogueRows.{meta_reading, plan_reading, type_reading, region_reading, station_reading, dock_reading, name_reading, system_reading}
 use Rattle.bike_readings.proofs.FleetRows.{bike_reading, truck_reading, order_reading}
 use Rattle.bike_readings.proofs.LedgerRows.{rider_reading, rental_reading, entry_reading, count_reading}
 use Rattle.bike_readings.proofs.KeptRows.{kept_reading}
-use Rattle.bike_readings.specs.ReadOff.{first, moment_of, with_segments, plan_in, station_in, rider_in, rental_in, entry_in, name_in, dock_in, count_in, segments_of, operator_of, listed_of, first_of, misplaced_bike, bike_in}
+use Rattle.bike_readings.specs.ReadOff.{first, moment_of, with_segments, plan_in, station_in, rider_in, rental_in, entry_in, name_in, dock_in, count_in, segments_of, operator_of, listed_of, first_of}
+use Rattle.bike_readings.specs.ReadOff.{misplaced_bike, bike_in}
 use Rattle.bike_readings.proofs.ReadBack.{map_back, numbered_back}
 use Rattle.bike_readings.proofs.Segments.{segments_back}
 use Rattle.bike_readings.proofs.Broken.{broken_back}
-use Rattle.bike_readings.proofs.SoundBounds.{meta_stored, segment_stored, dock_stored, type_stored, region_stored, station_stored, bike_stored, truck_stored, rider_stored, rental_stored, order_stored, entry_stored, count_stored}
+use Rattle.bike_readings.proofs.SoundBounds.{meta_stored, segment_stored, dock_stored, type_stored, region_stored, station_stored, bike_stored, truck_stored, rider_stored, rental_stored, order_stored}
+use Rattle.bike_readings.proofs.SoundBounds.{entry_stored, count_stored}
 use Rattle.bike_book.specs.Rows.{meta_row}
 
 module _ (s : Operator) (m : Listed) (sound : IsSound s) (listing : IsListing s m) where
@@ -125,7 +129,8 @@ module _ (s : Operator) (m : Listed) (sound : IsSound s) (listing : IsListing s 
   moment_back : moment_of (meta_rows s) ≡ s.now
   moment_back = ap (λ (o : _). unwrap_or (option_map (λ (e : _). e.1) (first (cons_option o []))) 0) meta_is
 
-  dock_back : (key : DockKey) → fin.contains_key m.docks key ≡ true → (station : List ℕ) × (dock : ℕ) × (key ≡ dock_key station dock) × (dock_read (stored_dock s.broken (key, tt)) ≡ Some (station, dock, set.contains s.broken key))
+  dock_back : (key : DockKey) → fin.contains_key m.docks key ≡ true → (station : List ℕ) × (dock : ℕ) × (key ≡ dock_key station dock)
+      × (dock_read (stored_dock s.broken (key, tt)) ≡ Some (station, dock, set.contains s.broken key))
   dock_back key known = let k = listing.docks key known in (k.station, k.dock, k.key_is, dock_is k.station k.dock key known k.key_is k.has)
 
   count_back : (key : Key) (v : Unit {0}) → fin.get m.counts key ≡ Some v → count_in (stored_count s (key, v)) ≡ Some (key, v)

@@ -11,9 +11,9 @@ use Rattle.std.specs.FinMap.{FinMap}
 use Rattle.std.proofs.lemmas.Cmp.{tied_itself}
 use Rattle.sqlite_value.specs.Order.{Row, row_cmp}
 use Rattle.sqlite_rules.specs.Lists.{Has}
-use Rattle.bike_rows.specs.View.{by_key, row_with}
-use Rattle.bike_rows.proofs.OrderLemmas.{Rises}
-use Rattle.bike_rows.proofs.TreeLemmas.{by_key_total}
+use Rattle.bike_sql.specs.View.{by_key, row_with}
+use Rattle.bike_sql.proofs.OrderLemmas.{Rises}
+use Rattle.bike_sql.proofs.TreeLemmas.{by_key_total}
 use Rattle.bike_fixed.specs.Whole.{last_moment}
 use Rattle.bike_catalogue.specs.Rows.{SystemRow}
 use Rattle.bike_operator.specs.Operator.{Operator, item_numbered}
@@ -110,7 +110,8 @@ module _ (s : Operator) where
   meta_key : (n : ℕ) (r : Row) → IsSomeAnd (meta_read r) (IsGoodMeta s n) → take 1 r ≡ number_value 1 ∷ []
   meta_key n r good = let it = some_with (IsGoodMeta s n) (meta_read r) good in ap (take 1) (meta_reading.sound r it.value it.value_is).0
 
-  pub meta_are : (rows : List Row) → Rises (by_key_total 1) rows → ((r : Row) → Has rows r → (n : ℕ) × IsSomeAnd (meta_read r) (IsGoodMeta s n)) → (row_with 1 (number_value 1 ∷ []) rows ≡ None → ⊥) → IsMeta rows
+  pub meta_are : (rows : List Row) → Rises (by_key_total 1) rows → ((r : Row) → Has rows r → (n : ℕ) × IsSomeAnd (meta_read r) (IsGoodMeta s n)) → (row_with 1 (number_value 1 ∷ []) rows ≡ None → ⊥)
+      → IsMeta rows
   meta_are [] up each there = absurd (there refl)
   meta_are (r ∷ []) up each there =
       let good = each r (inl refl) in

@@ -11,7 +11,7 @@ use Rattle.std.specs.FinSet as set
 use Rattle.sqlite_value.specs.declared.value.Value.TheVariants.{Text}
 use Rattle.sqlite_value.specs.Order.{Row}
 use Rattle.sqlite_rules.specs.Lists.{Has}
-use Rattle.bike_rows.specs.View.{row_with}
+use Rattle.bike_sql.specs.View.{row_with}
 use Rattle.bike_fields.specs.Bytes.{is_name}
 use Rattle.bike_fields.specs.declared.name_kind.NameKind.{NameKind}
 use Rattle.bike_fields.specs.NameKinds.{kind_text}
@@ -29,18 +29,22 @@ use Rattle.bike_operator.specs.declared.records.Order.{Order}
 use Rattle.bike_operator.specs.Operator.{Operator, Station, Truck, Rider, Kept, Key, NameKey, DockKey, dock_key, key_of, name_key, item_numbered}
 use Rattle.bike_operator.specs.Counts.{is_open, open_rentals}
 use Rattle.bike_operator.specs.Names.{part_at}
-use Rattle.bike_operator.specs.Sound.{IsSound, IsCatalogueSound, AreNamesSound, IsNameAt, AreBikesSound, AreOrdersSound, AreRentalsSound, IsLedgerSound, IsTypeAt, IsRegionAt, IsStationAt, HasDock, IsBrokenDock, IsBikeAt, IsPlace, IsTruckAt, IsOrderAt, IsRentalAt, IsRiderNumber, IsEntryAt, IsKept as IsKeptAt, fares_of, fares_in}
+use Rattle.bike_operator.specs.Sound.{IsSound, IsCatalogueSound, AreNamesSound, IsNameAt, AreBikesSound, AreOrdersSound, AreRentalsSound, IsLedgerSound, IsTypeAt, IsRegionAt, IsStationAt, HasDock}
+use Rattle.bike_operator.specs.Sound.{IsBrokenDock, IsBikeAt, IsPlace, IsTruckAt, IsOrderAt, IsRentalAt, IsRiderNumber, IsEntryAt, IsKept as IsKeptAt, fares_of, fares_in}
 use Rattle.bike_laws.proofs.SingleSteps.MapLemmas.{there_of}
 use Rattle.bike_book.specs.Tables.{TableName, Tables, keys_of, Meta, Plans, Types, Regions, Stations, Docks, Bikes, Trucks, Riders, Rentals, Orders, Entries, Kept as KeptTable, Counts, MoreNames}
 use Rattle.bike_book.specs.Rows.{number_value}
-use Rattle.bike_book.specs.Stored.{IsListing, IsDockKey, IsCountKey, tables_for, stored_plan, stored_type, stored_region, stored_station, stored_bike, stored_truck, stored_rider, stored_rental, stored_order, stored_count}
+use Rattle.bike_book.specs.Stored.{IsListing, IsDockKey, IsCountKey, tables_for, stored_plan, stored_type, stored_region, stored_station, stored_bike, stored_truck, stored_rider, stored_rental}
+use Rattle.bike_book.specs.Stored.{stored_order, stored_count}
 use Rattle.bike_book.proofs.MapRows.{found_entries, has_get}
 use Rattle.bike_book.proofs.Keys.{numbers, texts, pairs, docks, IsPair, IsTriple}
-use Rattle.bike_readings.specs.Readings.{type_read, region_read, station_read, dock_read, bike_read, truck_read, rider_read, rental_read, order_read, entry_read, kept_read, count_read, name_read, plan_read}
+use Rattle.bike_readings.specs.Readings.{type_read, region_read, station_read, dock_read, bike_read, truck_read, rider_read, rental_read, order_read, entry_read, kept_read, count_read, name_read}
+use Rattle.bike_readings.specs.Readings.{plan_read}
 use Rattle.bike_readings.proofs.CatalogueRows.{region_reading, name_reading}
 use Rattle.bike_readings.proofs.LedgerRows.{rental_reading}
 use Rattle.bike_readings.specs.ReadOff.{plan_in, station_in, rider_in, rental_in, dock_in, operator_of, listed_of, first_of, misplaced_bike, bike_in}
-use Rattle.bike_readings.specs.Demands.{IsGoodPlan, IsGoodType, IsGoodRegion, IsGoodStation, IsGoodDock, IsGoodPlace, IsGoodBike, IsGoodTruck, IsGoodRider, IsGoodRental, IsGoodOrder, IsGoodEntry, IsGoodKept, IsGoodCount, IsGoodName, names_before, IsRiding, HasFare, IsFareOf, IsFirstFare, IsOneFare}
+use Rattle.bike_readings.specs.Demands.{IsGoodPlan, IsGoodType, IsGoodRegion, IsGoodStation, IsGoodDock, IsGoodPlace, IsGoodBike, IsGoodTruck, IsGoodRider, IsGoodRental, IsGoodOrder, IsGoodEntry}
+use Rattle.bike_readings.specs.Demands.{IsGoodKept, IsGoodCount, IsGoodName, names_before, IsRiding, HasFare, IsFareOf, IsFirstFare, IsOneFare}
 use Rattle.bike_readings.specs.Rules.{AreInOrder, rows_below, HasNone, AreOf}
 use Rattle.bike_readings.proofs.ReadLists.{has_read}
 use Rattle.bike_readings.proofs.ByNumber.{at_number}
@@ -50,7 +54,8 @@ use Rattle.bike_readings.proofs.FurtherNames.{same_kind, name_parts, IsNameIn, f
 use Rattle.bike_readings.proofs.Fares.{counted, is_fare_of, fare_parts, no_fares, one_fare, rentals_few}
 use Rattle.bike_readings.proofs.RowRules.{some_with, some_is, AreGoodRows, LacksNone}
 use Rattle.bike_readings.proofs.ReadRows.{mapped, few_in, IsMeta, meta_are}
-use Rattle.bike_readings.proofs.TablesRead.{system_table, plans_table, plan_read_off, segments_table, types_table, regions_table, stations_table, docks_table, counts_table, bikes_table, trucks_table, riders_table, kept_table, names_table, rentals_table, orders_table, entries_table}
+use Rattle.bike_readings.proofs.TablesRead.{system_table, plans_table, plan_read_off, segments_table, types_table, regions_table, stations_table, docks_table, counts_table, bikes_table, trucks_table}
+use Rattle.bike_readings.proofs.TablesRead.{riders_table, kept_table, names_table, rentals_table, orders_table, entries_table}
 
 module _ (t : Tables) (up : AreInOrder t) (rows : AreGoodRows (operator_of t) t) where
   abbrev s : Operator
@@ -218,7 +223,8 @@ module _ (t : Tables) (up : AreInOrder t) (rows : AreGoodRows (operator_of t) t)
       }
 
   -- two bicycles in one dock are one: neither has the lesser number
-  one_bike : (a b : ℕ) (x y : Bike) (station : List ℕ) (dock : ℕ) → fin.get s.bikes a ≡ Some x → fin.get s.bikes b ≡ Some y → x.place ≡ place.Dock station dock → y.place ≡ place.Dock station dock → a ≡ b
+  one_bike : (a b : ℕ) (x y : Bike) (station : List ℕ) (dock : ℕ) → fin.get s.bikes a ≡ Some x → fin.get s.bikes b ≡ Some y → x.place ≡ place.Dock station dock → y.place ≡ place.Dock station dock
+      → a ≡ b
   one_bike a b x y station dock fx fy px py = go (nat_cmp a b) refl where
     go : (o : Ordering) → o ≡ nat_cmp a b → a ≡ b
     go Less e = absurd ((bike_fact b y fy).1.alone a x station dock (ranked a b Less e) fx px py)
@@ -406,7 +412,8 @@ module _ (t : Tables) (up : AreInOrder t) (rows : AreGoodRows (operator_of t) t)
     meta = meta_are s t.meta (up Meta) (λ r has. (below_of Meta r, rows Meta r has)) (λ none. lacks Meta (number_value 1 ∷ []) none refl)
 
     sound : IsSound s
-    sound = record { catalogue = catalogue_sound; bikes = bikes_sound; orders = orders_sound; rentals = rentals_sound; ledger = ledger_sound; kept = kept_fact; names = names_sound; now = meta.by_last }
+    sound =
+        record { catalogue = catalogue_sound; bikes = bikes_sound; orders = orders_sound; rentals = rentals_sound; ledger = ledger_sound; kept = kept_fact; names = names_sound; now = meta.by_last }
 
     tables : t ≡ tables_for s (listed_of t)
     tables =

@@ -65,7 +65,8 @@ module _ (s : Operator) (t : Tables) where
 
   pub rows_good : AreInOrder t → AreGoodKeys → AreGoodRows
   rows_good up all name row has =
-      subst (IsGoodAt t s name (take (keys_of name) row) (rows_below t name (take (keys_of name) row))) (has_under (keys_of name) (rows_in t name) row (up name) has) (all name (take (keys_of name) row))
+      subst (IsGoodAt t s name (take (keys_of name) row) (rows_below t name (take (keys_of name) row))) (has_under (keys_of name) (rows_in t name) row (up name) has)
+      (all name (take (keys_of name) row))
 
   pub lacks_none : AreGoodKeys → LacksNone
   lacks_none all name key none = subst (IsGoodAt t s name key (rows_below t name key)) none (all name key)

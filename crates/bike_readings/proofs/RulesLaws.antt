@@ -10,12 +10,13 @@ use Rattle.sqlite_value.proofs.OrderLemmas.{row_cmp_total}
 use Rattle.sqlite_schema.specs.declared.schema.Table.{Table}
 use Rattle.sqlite_schema.specs.Names.{table_named}
 use Rattle.sqlite.specs.Effect.{Database}
-use Rattle.bike_rows.specs.View.{rows_in, columns_of}
-use Rattle.bike_rows.specs.Stands.{rows_of}
-use Rattle.bike_rows.proofs.OrderLemmas.{Rises, rises}
-use Rattle.bike_rows.proofs.TreeLemmas.{by_key_total}
+use Rattle.bike_sql.specs.View.{rows_in, columns_of}
+use Rattle.bike_sql.specs.Stands.{rows_of}
+use Rattle.bike_sql.proofs.OrderLemmas.{Rises, rises}
+use Rattle.bike_sql.proofs.TreeLemmas.{by_key_total}
 use Rattle.bike_operator.specs.Operator.{Operator}
-use Rattle.bike_book.specs.Tables.{TableName, Tables, rows_in as rows_in_tables, tables_by, keys_of, table_place, Meta, System, Plans, Segments, Types, Regions, Stations, Docks, Bikes, Trucks, Riders, Rentals, Orders, Entries, Kept, Counts, MoreNames}
+use Rattle.bike_book.specs.Tables.{TableName, Tables, rows_in as rows_in_tables, tables_by, keys_of, table_place, Meta, System, Plans, Segments, Types, Regions, Stations, Docks, Bikes, Trucks, Riders}
+use Rattle.bike_book.specs.Tables.{Rentals, Orders, Entries, Kept, Counts, MoreNames}
 use Rattle.bike_book.specs.Stored.{tables_for}
 use Rattle.sqlite_trees.specs.Tree.{Trees}
 use Rattle.bike_schema.specs.Layouts.{every_table, name_of}

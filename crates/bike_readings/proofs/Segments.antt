@@ -12,9 +12,9 @@ use Rattle.sqlite_value.specs.declared.value.Value.TheVariants.{Text}
 use Rattle.sqlite_value.specs.Order.{Row, row_cmp}
 use Rattle.sqlite_value.proofs.OrderLemmas.{value_cmp-Text, then-Equal}
 use Rattle.sqlite_rules.specs.Lists.{Has}
-use Rattle.bike_rows.specs.View.{by_key, row_with}
-use Rattle.bike_rows.proofs.OrderLemmas.{Rises, rises_append, all_from, same_list}
-use Rattle.bike_rows.proofs.TreeLemmas.{by_key_total}
+use Rattle.bike_sql.specs.View.{by_key, row_with}
+use Rattle.bike_sql.proofs.OrderLemmas.{Rises, rises_append, all_from, same_list}
+use Rattle.bike_sql.proofs.TreeLemmas.{by_key_total}
 use Rattle.bike_fields.specs.Values.{SegmentRow}
 use Rattle.bike_catalogue.specs.Rows.{PlanRow}
 use Rattle.bike_operator.specs.Operator.{text_cmp, dock_key, item_at, item_numbered}
@@ -131,7 +131,8 @@ pub record IsSegmentRow (rows : List Row) (id : List ℕ) (seq : ℕ) (g : Segme
 
 pub segment_found : (rows : List Row) (id : List ℕ) (seq : ℕ) (g : SegmentRow) → segment_at rows id seq ≡ Some g → IsSegmentRow rows id seq g
 segment_found rows id seq g found = go (row_with 2 (Text id ∷ number_value seq ∷ []) rows) refl found where
-  go : (o : Option Row) → row_with 2 (Text id ∷ number_value seq ∷ []) rows ≡ o → option_map (λ (e : List ℕ × ℕ × SegmentRow). e.2) (option_and_then segment_read o) ≡ Some g → IsSegmentRow rows id seq g
+  go : (o : Option Row) → row_with 2 (Text id ∷ number_value seq ∷ []) rows ≡ o → option_map (λ (e : List ℕ × ℕ × SegmentRow). e.2) (option_and_then segment_read o) ≡ Some g
+      → IsSegmentRow rows id seq g
   go None e is = absurd cc
   go (Some r) e is = by (segment_read r) refl is where
     by : (o : Option (List ℕ × ℕ × SegmentRow)) → segment_read r ≡ o → option_map (λ (e : List ℕ × ℕ × SegmentRow). e.2) o ≡ Some g → IsSegmentRow rows id seq g
@@ -145,7 +146,8 @@ segment_found rows id seq g found = go (row_with 2 (Text id ∷ number_value seq
         let row_is : r ≡ segment_row id seq g = spelled.0 ∙ (λ i. segment_row (keys.0 i) (keys.1 i) (segment i)) in
         record { has = subst (Has rows) row_is there.0; good = subst (λ (z : List ℕ × ℕ × SegmentRow). IsStoredSegment z.0 z.1 z.2) (λ i. (keys.0 i, keys.1 i, segment i)) spelled.1 }
 
-pub found_segment : (rows : List Row) (id : List ℕ) (seq : ℕ) (g : SegmentRow) → Rises (by_key_total 2) rows → Has rows (segment_row id seq g) → IsStoredSegment id seq g → segment_at rows id seq ≡ Some g
+pub found_segment : (rows : List Row) (id : List ℕ) (seq : ℕ) (g : SegmentRow) → Rises (by_key_total 2) rows → Has rows (segment_row id seq g) → IsStoredSegment id seq g
+    → segment_at rows id seq ≡ Some g
 found_segment rows id seq g up has good =
     let under : row_with 2 (Text id ∷ number_value seq ∷ []) rows ≡ Some (segment_row id seq g) = has_under 2 rows (segment_row id seq g) up has in
     ap (λ (o : Option Row). option_map (λ (e : List ℕ × ℕ × SegmentRow). e.2) (option_and_then segment_read o)) under
@@ -245,7 +247,8 @@ module _ (plans : FinMap text_cmp PlanRow) (rows : List Row) (up : Rises (by_key
         subst (Has (plans_segments (fin.entries plans))) (sym it.row_is)
         (has_among (fin.entries plans) (it.id, it.plan) (segment_row it.id it.seq it.segment) (get_has texts plans it.id it.plan it.found) (number it.seq it.segment_is))
       where
-        number : (n : ℕ) → item_numbered n (each r has).plan.segments ≡ Some (each r has).segment → Has (segment_rows (each r has).id 1 (each r has).plan.segments) (segment_row (each r has).id n (each r has).segment)
+        number : (n : ℕ) → item_numbered n (each r has).plan.segments ≡ Some (each r has).segment
+            → Has (segment_rows (each r has).id 1 (each r has).plan.segments) (segment_row (each r has).id n (each r has).segment)
         number zero is = absurd cc
         number (suc i) is = has_row (each r has).id 1 (each r has).plan.segments i (suc i) (each r has).segment (omega arith) is
 

@@ -27,7 +27,9 @@ use Rattle.bike_laws.proofs.SingleSteps.ItemLemmas.{number_within}
 use Rattle.bike_book.specs.declared.version.TheConstants.{NEWEST}
 use Rattle.bike_book.specs.Rows.{second_text, third_text}
 use Rattle.bike_readings.specs.SoundRows.{HasBounds}
-use Rattle.bike_readings.specs.Bounds.{IsNumbered, IsSerial, IsCount, IsMoment, IsIdentOrNone, IsStoredMeta, IsStoredPlan, IsStoredSegment, IsStoredType, IsStoredRegion, IsStoredStation, IsStoredDock, IsStoredPlace, IsStoredBike, IsStoredTruck, IsOpenOrStored, IsStoredRental, IsStoredOrder, IsStoredRentalOf, IsStoredAmount, IsStoredEntry, IsStoredCount, IsStoredName}
+use Rattle.bike_readings.specs.Bounds.{IsNumbered, IsSerial, IsCount, IsMoment, IsIdentOrNone, IsStoredMeta, IsStoredPlan, IsStoredSegment, IsStoredType, IsStoredRegion, IsStoredStation, IsStoredDock}
+use Rattle.bike_readings.specs.Bounds.{IsStoredPlace, IsStoredBike, IsStoredTruck, IsOpenOrStored, IsStoredRental, IsStoredOrder, IsStoredRentalOf, IsStoredAmount, IsStoredEntry, IsStoredCount}
+use Rattle.bike_readings.specs.Bounds.{IsStoredName}
 
 -- ---- what is there
 
@@ -115,7 +117,8 @@ module _ (s : Operator) (sound : IsSound s) where
   pub plan_stored : (id : List ℕ) (p : PlanRow) → fin.get s.plans id ≡ Some p → IsStoredPlan id p
   plan_stored id p found = let it = sound.catalogue.plans id p found in record { id_is = it.id_is; good = it.good }
 
-  each_segment : (id : List ℕ) → is_ident id ≡ true → (gs : List SegmentRow) (before : ℕ) → AreSegments gs → before + length gs ≤ 8 → (n : ℕ) (g : SegmentRow) → item_at n gs ≡ Some g → IsStoredSegment id (before + n + 1) g
+  each_segment : (id : List ℕ) → is_ident id ≡ true → (gs : List SegmentRow) (before : ℕ) → AreSegments gs → before + length gs ≤ 8 → (n : ℕ) (g : SegmentRow) → item_at n gs ≡ Some g
+      → IsStoredSegment id (before + n + 1) g
   each_segment id good [] before all few n g found = absurd cc
   each_segment id good (x ∷ gs) before all few zero g found =
       subst (IsStoredSegment id (before + 0 + 1)) (some_is found) (record { good_plan = good; good_seq = (omega arith, omega (arith, few)); good = all.0 })

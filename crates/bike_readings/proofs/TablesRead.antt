@@ -15,15 +15,18 @@ use Rattle.bike_operator.specs.declared.records.Rental.{Rental}
 use Rattle.bike_operator.specs.Operator.{Operator, Key, NameKey, DockKey, dock_key, key_of, name_key, item_at}
 use Rattle.bike_operator.specs.Sound.{IsPlanAt}
 use Rattle.bike_book.specs.Tables.{Tables, System, Plans, Segments, Types, Regions, Stations, Docks, Bikes, Trucks, Riders, Rentals, Orders, Entries, Kept, Counts, MoreNames, TableName, keys_of}
-use Rattle.bike_book.specs.Stored.{plans_segments, stored_plan, stored_type, stored_region, stored_station, stored_dock, stored_bike, stored_truck, stored_rider, stored_rental, stored_order, stored_entry, stored_kept, stored_count, stored_name}
+use Rattle.bike_book.specs.Stored.{plans_segments, stored_plan, stored_type, stored_region, stored_station, stored_dock, stored_bike, stored_truck, stored_rider, stored_rental, stored_order}
+use Rattle.bike_book.specs.Stored.{stored_entry, stored_kept, stored_count, stored_name}
 use Rattle.bike_book.proofs.Keys.{numbers, texts, pairs, triples, docks, IsPair, IsTriple, IsDockPair}
 use Rattle.bike_readings.specs.Readings.{plan_read, segment_read, type_read, region_read, dock_read, truck_read, rental_read, order_read, entry_read, kept_read, count_read, name_read}
 use Rattle.bike_readings.proofs.CatalogueRows.{plan_reading, segment_reading, type_reading, region_reading, station_reading, dock_reading, name_reading}
 use Rattle.bike_readings.proofs.LedgerRows.{count_reading, rider_reading, rental_reading, entry_reading}
 use Rattle.bike_readings.proofs.FleetRows.{bike_reading, truck_reading, order_reading}
 use Rattle.bike_readings.proofs.KeptRows.{kept_reading}
-use Rattle.bike_readings.specs.ReadOff.{with_segments, plan_in, station_in, rider_in, rental_in, entry_in, name_in, dock_in, count_in, segments_of, most_segments, operator_of, listed_of, first_of, misplaced_bike, bike_in}
-use Rattle.bike_readings.specs.Demands.{IsGoodPlan, IsGoodSegment, IsGoodType, IsGoodRegion, IsGoodStation, IsGoodDock, IsGoodBike, IsGoodTruck, IsGoodRider, IsGoodRental, IsGoodOrder, IsGoodEntry, IsGoodKept, IsGoodCount, IsGoodName}
+use Rattle.bike_readings.specs.ReadOff.{with_segments, plan_in, station_in, rider_in, rental_in, entry_in, name_in, dock_in, count_in, segments_of, most_segments, operator_of, listed_of, first_of}
+use Rattle.bike_readings.specs.ReadOff.{misplaced_bike, bike_in}
+use Rattle.bike_readings.specs.Demands.{IsGoodPlan, IsGoodSegment, IsGoodType, IsGoodRegion, IsGoodStation, IsGoodDock, IsGoodBike, IsGoodTruck, IsGoodRider, IsGoodRental, IsGoodOrder, IsGoodEntry}
+use Rattle.bike_readings.specs.Demands.{IsGoodKept, IsGoodCount, IsGoodName}
 use Rattle.bike_readings.specs.Rules.{AreInOrder, rows_below}
 use Rattle.bike_readings.proofs.ReadLists.{IsStored, AreRowsOf, read_map}
 use Rattle.bike_readings.proofs.Segments.{IsOfPlan, segments_are, item_found, segment_found, few_found}

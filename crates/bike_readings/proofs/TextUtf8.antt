@@ -1,5 +1,6 @@
 -- The texts of commands and of replies are UTF-8.
-use Rattle.std.proofs.Common.{◌≡◌, ℕ, ℤ, suc, pos, negsuc, neg_ℤ, ◌≤◌, ◌<◌, ◌^◌, ◌≤ℤ◌, List, [], ◌∷◌, ◌++◌, map, Bool, true, false, cond, leb, Option, Some, None, refl, sym, subst, inl, inr, arith, codes, decimal}
+use Rattle.std.proofs.Common.{◌≡◌, ℕ, ℤ, suc, pos, negsuc, neg_ℤ, ◌≤◌, ◌<◌, ◌^◌, ◌≤ℤ◌, List, [], ◌∷◌, ◌++◌, map, Bool, true, false, cond, leb, Option, Some, None, refl, sym, subst, inl, inr, arith}
+use Rattle.std.proofs.Common.{codes, decimal}
 use Rattle.std.specs.Fmt.{signed_decimal}
 use Rattle.std.specs.List.{list_all, join_with_byte}
 use Rattle.std.specs.Char.{IsScalar, is_ascii_digit}
@@ -26,7 +27,8 @@ use Rattle.bike_fields.specs.Vehicle.{form_text, propulsion_text}
 use Rattle.bike_texts.specs.declared.ends.OrderEnd.TheVariants as end
 use Rattle.bike_texts.specs.declared.ends.Side.{Side}
 use Rattle.bike_texts.specs.declared.ends.Side.TheVariants.{From, To}
-use Rattle.bike_texts.specs.Fields.{Field, Number, Signed, Fixed, Id, Language, Currency, Name, Ascii, Degrees, Metres, Segments, End, IdOrNone, AreSegments, IsGood, AreGood, escapes_of, segment_text, segment_end_text, segments_text, field_text, fields_text, side_text}
+use Rattle.bike_texts.specs.Fields.{Field, Number, Signed, Fixed, Id, Language, Currency, Name, Ascii, Degrees, Metres, Segments, End, IdOrNone, AreSegments, IsGood, AreGood, escapes_of, segment_text}
+use Rattle.bike_texts.specs.Fields.{segment_end_text, segments_text, field_text, fields_text, side_text}
 use Rattle.bike_commands.specs.declared.command.Command.{Command}
 use Rattle.bike_commands.specs.declared.command.Command.TheVariants as command
 use Rattle.bike_commands.specs.Commands.{word_of, fields_of, IsCommand, text_of}
@@ -105,7 +107,20 @@ segments_utf8 (s ∷ ss) g = joined_utf8 59 (printed (codes ";") refl) (map segm
 
 escape_utf8 : (c : ℕ) → IsScalar c → IsUtf8 (escapes_of (encode c))
 unfolding encode escapes_of
-escape_utf8 c scalar = elim (eqb_tells c 92) [ inl w ↦ at 92 w.1 (printed (codes "\\\\") refl) | inr v ↦ elim (eqb_tells c 9) [ inl w ↦ at 9 w.1 (printed (codes "\\t") refl) | inr x ↦ elim (eqb_tells c 10) [ inl w ↦ at 10 w.1 (printed (codes "\\n") refl) | inr y ↦ elim (eqb_tells c 13) [ inl w ↦ at 13 w.1 (printed (codes "\\r") refl) | inr z ↦ subst IsUtf8 (sym (char_stays c v.1 x.1 y.1 z.1)) (IsUtf8-encode c scalar) ] ] ] ]
+escape_utf8 c scalar =
+    elim (eqb_tells c 92) [
+      | inl w ↦ at 92 w.1 (printed (codes "\\\\") refl)
+      | inr v ↦ elim
+          (eqb_tells c 9) [
+            | inl w ↦ at 9 w.1 (printed (codes "\\t") refl)
+            | inr x ↦ elim
+                (eqb_tells c 10) [
+                  | inl w ↦ at 10 w.1 (printed (codes "\\n") refl)
+                  | inr y ↦ elim
+                      (eqb_tells c 13) [ inl w ↦ at 13 w.1 (printed (codes "\\r") refl) | inr z ↦ subst IsUtf8 (sym (char_stays c v.1 x.1 y.1 z.1)) (IsUtf8-encode c scalar) ]
+                ]
+          ]
+    ]
   where
     at : (d : ℕ) → c ≡ d → IsUtf8 (escapes_of (encode d)) → IsUtf8 (escapes_of (encode c))
     at d is h = subst (λ (e : ℕ). IsUtf8 (escapes_of (encode e))) (sym is) h
@@ -244,6 +259,7 @@ reply_utf8 (Refused refusal) g taken = absurd cc
 pub caller_utf8 : (c : Caller) → IsCaller c → is_utf8 (caller_text c) ≡ true
 caller_utf8 Office g = word_utf8 (codes "office") refl
 caller_utf8 (Rider n) g = is_utf8-from_IsUtf8 (caller_text (Rider n)) (IsUtf8-append (codes "rider:") (decimal n) (printed (codes "rider:") refl) (decimal_utf8 n (omega (arith, g.1))))
-caller_utf8 (Dock station) g = is_utf8-from_IsUtf8 (caller_text (Dock station)) (IsUtf8-append (codes "dock:") station (printed (codes "dock:") refl) (IsUtf8-from_is_utf8 station (ident_utf8 station g)))
+caller_utf8 (Dock station) g =
+    is_utf8-from_IsUtf8 (caller_text (Dock station)) (IsUtf8-append (codes "dock:") station (printed (codes "dock:") refl) (IsUtf8-from_is_utf8 station (ident_utf8 station g)))
 caller_utf8 (Crew n) g = is_utf8-from_IsUtf8 (caller_text (Crew n)) (IsUtf8-append (codes "crew:") (decimal n) (printed (codes "crew:") refl) (decimal_utf8 n (omega (arith, g.1))))
 caller_utf8 (Import name) g = is_utf8-from_IsUtf8 (caller_text (Import name)) (IsUtf8-append (codes "import:") name (printed (codes "import:") refl) (IsUtf8-from_is_utf8 name (ident_utf8 name g)))

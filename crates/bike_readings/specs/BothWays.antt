@@ -1,4 +1,5 @@
--- Readings are exact: what is read of a row is that of which the row is made, within its bounds, and each record within its bounds is read of its row.
+-- Readings are exact: what is read of a row is that of which the row is made,
+-- within its bounds, and each record within its bounds is read of its row.
 use Rattle.std.specs.Prelude.{◌≡◌, ℕ, ℤ, List, [], Bool, Option, Some}
 use Rattle.sqlite_value.specs.Order.{Row}
 use Rattle.bike_fields.specs.Values.{SegmentRow}
@@ -12,9 +13,15 @@ use Rattle.bike_operator.specs.declared.records.Rental.{Rental}
 use Rattle.bike_operator.specs.declared.records.Order.{Order}
 use Rattle.bike_operator.specs.Operator.{Station, Truck, Rider, Key, Kept, name_key}
 use Rattle.bike_operator.specs.Sound.{IsKept}
-use Rattle.bike_book.specs.Rows.{meta_row, system_row, plan_row, segment_row, type_row, region_row, station_row, dock_row, bike_row, truck_row, rider_row, rental_row, order_row, entry_row, kept_row, count_row, name_row, first_text, second_text}
-use Rattle.bike_readings.specs.Readings.{meta_read, system_read, plan_read, segment_read, type_read, region_read, station_read, dock_read, bike_read, truck_read, rider_read, rental_read, order_read, entry_read, kept_read, count_read, name_read}
-use Rattle.bike_readings.specs.Bounds.{IsNumbered, IsStoredMeta, IsStoredPlan, IsStoredSegment, IsStoredType, IsStoredRegion, IsStoredStation, IsStoredDock, IsStoredBike, IsStoredTruck, IsStoredRental, IsStoredOrder, IsStoredEntry, IsStoredCount, IsStoredName}
+use Rattle.bike_book.specs.Rows.{meta_row, system_row, plan_row, segment_row, type_row, region_row, station_row}
+use Rattle.bike_book.specs.Rows.{dock_row, bike_row, truck_row, rider_row, rental_row, order_row, entry_row, kept_row}
+use Rattle.bike_book.specs.Rows.{count_row, name_row, first_text, second_text}
+use Rattle.bike_readings.specs.Readings.{meta_read, system_read, plan_read, segment_read, type_read, region_read}
+use Rattle.bike_readings.specs.Readings.{station_read, dock_read, bike_read, truck_read, rider_read, rental_read}
+use Rattle.bike_readings.specs.Readings.{order_read, entry_read, kept_read, count_read, name_read}
+use Rattle.bike_readings.specs.Bounds.{IsNumbered, IsStoredMeta, IsStoredPlan, IsStoredSegment, IsStoredType}
+use Rattle.bike_readings.specs.Bounds.{IsStoredRegion, IsStoredStation, IsStoredDock, IsStoredBike, IsStoredTruck}
+use Rattle.bike_readings.specs.Bounds.{IsStoredRental, IsStoredOrder, IsStoredEntry, IsStoredCount, IsStoredName}
 
 -- The reader gives exactly the values within their bounds of which rows are made.
 pub record IsReading {X : Type 0} (read : Row → Option X) (row_of : X → Row) (Good : X → Type 0) : Type 0 where
@@ -29,10 +36,12 @@ SystemReading = IsReading system_read system_row IsSystem
 
 -- a plan without its segments, which are rows of their own
 abbrev pub PlanReading : Type 0
-PlanReading = IsReading plan_read (λ (x : List ℕ × PlanRow). plan_row x.0 x.1) (λ x. IsStoredPlan x.0 x.1 × (x.1.segments ≡ []))
+PlanReading =
+    IsReading plan_read (λ (x : List ℕ × PlanRow). plan_row x.0 x.1) (λ x. IsStoredPlan x.0 x.1 × (x.1.segments ≡ []))
 
 abbrev pub SegmentReading : Type 0
-SegmentReading = IsReading segment_read (λ (x : List ℕ × ℕ × SegmentRow). segment_row x.0 x.1 x.2) (λ x. IsStoredSegment x.0 x.1 x.2)
+SegmentReading =
+    IsReading segment_read (λ (x : List ℕ × ℕ × SegmentRow). segment_row x.0 x.1 x.2) (λ x. IsStoredSegment x.0 x.1 x.2)
 
 abbrev pub TypeReading : Type 0
 TypeReading = IsReading type_read (λ (x : List ℕ × TypeRow). type_row x.0 x.1) (λ x. IsStoredType x.0 x.1)
@@ -41,7 +50,9 @@ abbrev pub RegionReading : Type 0
 RegionReading = IsReading region_read (λ (x : List ℕ × RegionRow). region_row x.0 x.1) (λ x. IsStoredRegion x.0 x.1)
 
 abbrev pub StationReading : Type 0
-StationReading = IsReading station_read (λ (x : List ℕ × Station × ℤ × ℕ). station_row x.0 x.1 x.2 x.3) (λ x. IsStoredStation x.0 x.1 x.3)
+StationReading =
+    IsReading station_read (λ (x : List ℕ × Station × ℤ × ℕ). station_row x.0 x.1 x.2 x.3)
+    (λ x. IsStoredStation x.0 x.1 x.3)
 
 abbrev pub DockReading : Type 0
 DockReading = IsReading dock_read (λ (x : List ℕ × ℕ × Bool). dock_row x.0 x.1 x.2) (λ x. IsStoredDock x.0 x.1)
@@ -65,13 +76,18 @@ abbrev pub EntryReading : Type 0
 EntryReading = IsReading entry_read (λ (e : Entry). entry_row e.number e) IsStoredEntry
 
 abbrev pub CountReading : Type 0
-CountReading = IsReading count_read (λ (x : List ℕ × List ℕ × ℕ × ℕ). count_row x.0 x.1 x.2 x.3) (λ x. IsStoredCount x.0 x.1 x.2 x.3)
+CountReading =
+    IsReading count_read (λ (x : List ℕ × List ℕ × ℕ × ℕ). count_row x.0 x.1 x.2 x.3)
+    (λ x. IsStoredCount x.0 x.1 x.2 x.3)
 
 -- a name under what has it and its language
 abbrev pub NameReading : Type 0
-NameReading = IsReading name_read (λ (x : NameKind × List ℕ × MoreNameRow). name_row (name_key x.0 x.1 x.2.language) x.2.name) (λ x. IsStoredName x.1 x.2)
+NameReading =
+    IsReading name_read (λ (x : NameKind × List ℕ × MoreNameRow). name_row (name_key x.0 x.1 x.2.language) x.2.name)
+    (λ x. IsStoredName x.1 x.2)
 
 -- a kept request under the texts of its caller and key
 abbrev pub KeptReading : Type 0
 KeptReading =
-    IsReading kept_read (λ (x : Key × Kept). kept_row (first_text x.0) (second_text x.0) (text_of x.1.command) (reply_text x.1.reply)) (λ x. IsKept x.0 x.1)
+    IsReading kept_read (λ (x : Key × Kept). kept_row (first_text x.0) (second_text x.0) (text_of x.1.command)
+    (reply_text x.1.reply)) (λ x. IsKept x.0 x.1)

@@ -4,7 +4,8 @@ use Rattle.bike_fixed.specs.Whole.{last_moment}
 use Rattle.bike_fields.specs.declared.numbers.TheConstants.{GREATEST_NUMBER, GREATEST_SERIAL, MOST_CARRIED, MOST_DOCKS}
 use Rattle.bike_fields.specs.Bytes.{is_ident}
 use Rattle.bike_fields.specs.Values.{SegmentRow, IsSegment}
-use Rattle.bike_catalogue.specs.Rows.{PlanRow, TypeRow, RegionRow, MoreNameRow, IsPlan, IsType, IsStation, IsRegion, IsMoreName}
+use Rattle.bike_catalogue.specs.Rows.{PlanRow, TypeRow, RegionRow, MoreNameRow, IsPlan, IsType, IsStation, IsRegion}
+use Rattle.bike_catalogue.specs.Rows.{IsMoreName}
 use Rattle.bike_ledger.specs.Entries.{Entry, greatest_amount}
 use Rattle.bike_ledger.specs.declared.entry.EntryKind.{EntryKind}
 use Rattle.bike_ledger.specs.declared.entry.EntryKind.TheVariants.{TopUp, Fare, Refund}

@@ -1,5 +1,6 @@
 -- What single columns spell, beside the numbers, flags, identifiers and names that bike_schema reads.
-use Rattle.std.specs.Prelude.{ℕ, ℤ, pos, neg_ℤ, int_le, ◌==◌, ◌&&◌, List, [], ◌∷◌, length, Bool, if◌then◌else◌, Option, Some, None}
+use Rattle.std.specs.Prelude.{ℕ, ℤ, pos, neg_ℤ, int_le, ◌==◌, ◌&&◌, List, [], ◌∷◌, length, Bool, if◌then◌else◌, Option}
+use Rattle.std.specs.Prelude.{Some, None}
 use Rattle.std.specs.Ordering.{int_eq}
 use Rattle.std.specs.List.{list_all, slice_split}
 use Rattle.std.specs.Str.{bytes_eq}
@@ -7,7 +8,8 @@ use Rattle.bike_fixed.specs.declared.micro.TheConstants.{GREATEST_COORDINATE}
 use Rattle.sqlite_value.specs.declared.value.Value.{Value}
 use Rattle.sqlite_value.specs.Order.{Row}
 use Rattle.sqlite_sql.specs.Ops.{is_null}
-use Rattle.bike_fields.specs.declared.numbers.TheConstants.{GREATEST_NUMBER, GREATEST_PAYMENT, GREATEST_SERIAL, MOST_DOCKS}
+use Rattle.bike_fields.specs.declared.numbers.TheConstants.{GREATEST_NUMBER, GREATEST_PAYMENT, GREATEST_SERIAL}
+use Rattle.bike_fields.specs.declared.numbers.TheConstants.{MOST_DOCKS}
 use Rattle.bike_fields.specs.declared.limits.TheConstants.{GREATEST_LATITUDE, GREATEST_RATE}
 use Rattle.bike_fields.specs.Bytes.{key_of, language_of, currency_of, ascii_of}
 use Rattle.bike_fields.specs.Caller.{◌>>=◌, caller_of}
@@ -127,7 +129,9 @@ serial_in = number_in 1 GREATEST_SERIAL
 -- ---- entries
 
 abbrev pub kind_of : ℤ → Option EntryKind
-kind_of n = if int_eq n (pos 1) then Some TopUp else (if int_eq n (pos 2) then Some Fare else (if int_eq n (pos 3) then Some Refund else None))
+kind_of n =
+    if int_eq n (pos 1) then Some TopUp else (if int_eq n (pos 2) then Some Fare
+    else (if int_eq n (pos 3) then Some Refund else None))
 
 abbrev pub kind_in : Value → Option EntryKind
 kind_in v = whole_in v >>= kind_of
@@ -191,4 +195,5 @@ closed_in to_station finish fare = do
 
 -- .. all NULL while it is open
 abbrev pub closing_in : Value → Value → Value → Option (Option Closing)
-closing_in to_station finish fare = if are_null (to_station ∷ finish ∷ fare ∷ []) then Some None else closed_in to_station finish fare
+closing_in to_station finish fare =
+    if are_null (to_station ∷ finish ∷ fare ∷ []) then Some None else closed_in to_station finish fare

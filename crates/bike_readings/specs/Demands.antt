@@ -1,5 +1,5 @@
--- What is demanded of a row: of the record that it spells, in the operator that is read off the tables. `below` is how many rows of the table have a
--- lesser key. Which row is to blame where the operator is not sound:
+-- What is demanded of a row: of the record that it spells, in the operator that is read off the tables. `below` is how
+-- many rows of the table have a lesser key. Which row is to blame where the operator is not sound:
 --
 --   a name that stands for no record, a bound of a record       the row that has it
 --   a further name where no system is set                       the row of the name
@@ -20,7 +20,8 @@
 --   delivered and bicycles on the truck over the count          the order
 --   entries and open rentals over their limit                   the first entry past it
 --   a number stored beside a record that isn't the figure       the row that has it
-use Rattle.std.specs.Prelude.{◌≡◌, ℕ, ℤ, ◌+◌, ◌<◌, ◌≤◌, ◌≤ℤ◌, pos, List, Bool, true, false, filter, length, Option, Some, None, is_some}
+use Rattle.std.specs.Prelude.{◌≡◌, ℕ, ℤ, ◌+◌, ◌<◌, ◌≤◌, ◌≤ℤ◌, pos, List, Bool, true, false, filter, length, Option}
+use Rattle.std.specs.Prelude.{Some, None, is_some}
 use Rattle.std.specs.Ordering.{is_lt}
 use Rattle.std.specs.FinMap as fin
 use Rattle.bike_fields.specs.declared.numbers.TheConstants.{GREATEST_NUMBER}
@@ -31,7 +32,9 @@ use Rattle.bike_ledger.specs.Entries.{Entry}
 use Rattle.bike_ledger.specs.declared.entry.EntryKind.{EntryKind}
 use Rattle.bike_ledger.specs.declared.entry.EntryKind.TheVariants.{TopUp, Fare, Refund}
 use Rattle.bike_ledger.specs.Ledger.{balance_of, cash_of, revenue_of, refunded_of}
-use Rattle.bike_operator.specs.declared.limits.TheConstants.{MOST_PLANS, MOST_TYPES, MOST_REGIONS, MOST_FURTHER_NAMES, MOST_STATIONS, MOST_BIKES, MOST_TRUCKS, MOST_RIDERS, MOST_ORDERS, MOST_ENTRIES}
+use Rattle.bike_operator.specs.declared.limits.TheConstants.{MOST_PLANS, MOST_TYPES, MOST_REGIONS, MOST_FURTHER_NAMES}
+use Rattle.bike_operator.specs.declared.limits.TheConstants.{MOST_STATIONS, MOST_BIKES, MOST_TRUCKS, MOST_RIDERS}
+use Rattle.bike_operator.specs.declared.limits.TheConstants.{MOST_ORDERS, MOST_ENTRIES}
 use Rattle.bike_operator.specs.declared.records.Place.{Place}
 use Rattle.bike_operator.specs.declared.records.Place.TheVariants as place
 use Rattle.bike_operator.specs.declared.records.Bike.{Bike}
@@ -41,7 +44,8 @@ use Rattle.bike_operator.specs.declared.records.Order.{Order}
 use Rattle.bike_operator.specs.Operator.{Operator, Station, Truck, Rider, Kept, Key, text_cmp, item_numbered}
 use Rattle.bike_operator.specs.Counts.{is_open, is_retired, open_rentals, docks_available, docks_broken, available_of}
 use Rattle.bike_operator.specs.Names.{has_named, is_own_language, further_names}
-use Rattle.bike_operator.specs.Sound.{IsTypeAt, IsStationAt, HasDock, IsTruckAt, IsOrderAt, IsOpenOrClosed, most_refunded, fares_of, IsRiderNumber, IsEntryAt, IsKept}
+use Rattle.bike_operator.specs.Sound.{IsTypeAt, IsStationAt, HasDock, IsTruckAt, IsOrderAt, IsOpenOrClosed}
+use Rattle.bike_operator.specs.Sound.{most_refunded, fares_of, IsRiderNumber, IsEntryAt, IsKept}
 use Rattle.bike_laws.specs.SingleSteps.Numbers.{disabled_of}
 use Rattle.bike_book.specs.declared.version.TheConstants.{NEWEST}
 use Rattle.bike_book.specs.Tables.{Tables}
@@ -81,7 +85,8 @@ module _ (s : Operator) where
   -- no entry of a lesser number is a fare of the rental
   abbrev pub IsFirstFare : ℕ → ℕ → Type 0
   IsFirstFare number rental =
-      (other : ℕ) (x : Entry) → other < number → item_numbered other s.entries ≡ Some x → x.kind ≡ Fare → x.rental ≡ rental → ⊥
+      (other : ℕ) (x : Entry) → other < number → item_numbered other s.entries ≡ Some x → x.kind ≡ Fare
+      → x.rental ≡ rental → ⊥
 
   -- a fare is its rental's, and the first of it
   abbrev pub IsOneFare : Entry → EntryKind → Type 0
@@ -89,7 +94,8 @@ module _ (s : Operator) where
   IsOneFare e Fare = IsFareOf e.rental e.amount × IsFirstFare e.number e.rental
   IsOneFare e Refund = Unit {0}
 
--- Where a bicycle says that it is, by the rows with those numbers: numbering without gaps is demanded of rentals and orders themselves.
+-- Where a bicycle says that it is, by the rows with those numbers:
+-- numbering without gaps is demanded of rentals and orders themselves.
 module _ (t : Tables) (s : Operator) where
   -- the open rental of this bicycle
   pub record IsInRental (bike rental : ℕ) : Type 0 where

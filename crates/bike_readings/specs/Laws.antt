@@ -27,7 +27,8 @@ OfIsReadOff = (t : Tables) (s : Operator) (m : Listed) → AreOf t s m → (oper
 
 -- Where a key is bad, the tables are those of no operator.
 abbrev pub BadAreOfNone : Type 0
-BadAreOfNone = (t : Tables) (bad : TableName × Row) → IsVerdict t (Some bad) → (s : Operator) (m : Listed) → AreOf t s m → ⊥
+BadAreOfNone =
+    (t : Tables) (bad : TableName × Row) → IsVerdict t (Some bad) → (s : Operator) (m : Listed) → AreOf t s m → ⊥
 
 -- There is one verdict: where a key is bad not all are good, and two first bad keys are of one table and tie.
 abbrev pub OneVerdict : Type 0
@@ -47,8 +48,10 @@ StoredGood = (db : Database) → HasTables db → IsVerdict (tables_of db) None 
 
 -- where they stand for an operator, all keys are good and the operator is what is read off them,
 abbrev pub StoredReadOff : Type 0
-StoredReadOff = (db : Database) (s : Operator) → Stores db s → IsVerdict (tables_of db) None × (operator_of (tables_of db) ≡ s)
+StoredReadOff =
+    (db : Database) (s : Operator) → Stores db s → IsVerdict (tables_of db) None × (operator_of (tables_of db) ≡ s)
 
 -- and where a key is bad, they stand for none.
 abbrev pub StoredBad : Type 0
-StoredBad = (db : Database) (bad : TableName × Row) → IsVerdict (tables_of db) (Some bad) → (s : Operator) → Stores db s → ⊥
+StoredBad =
+    (db : Database) (bad : TableName × Row) → IsVerdict (tables_of db) (Some bad) → (s : Operator) → Stores db s → ⊥

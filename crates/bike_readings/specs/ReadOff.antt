@@ -1,6 +1,8 @@
--- The operator that is read off tables, and which docks and counts have a row there: what the rows spell. A row that spells nothing is absent.
+-- The operator that is read off tables, and which docks and counts have
+-- a row there: what the rows spell. A row that spells nothing is absent.
 -- No sum and no count is read: they are figures of the records.
-use Rattle.std.specs.Prelude.{ℕ, zero, suc, List, [], ◌∷◌, map, if◌then◌else◌, Option, Some, None, option_map, option_and_then, unwrap_or}
+use Rattle.std.specs.Prelude.{ℕ, zero, suc, List, [], ◌∷◌, map, if◌then◌else◌, Option, Some, None, option_map}
+use Rattle.std.specs.Prelude.{option_and_then, unwrap_or}
 use Rattle.std.specs.List.{filter_map}
 use Rattle.std.specs.FinMap as fin
 use Rattle.std.specs.FinSet as set
@@ -17,13 +19,15 @@ use Rattle.bike_operator.specs.declared.records.Bike.{Bike}
 use Rattle.bike_operator.specs.declared.records.Rental.{Rental}
 use Rattle.bike_operator.specs.declared.records.Order.{Order}
 use Rattle.bike_operator.specs.Operator.{Operator, Station, Rider, Key, NameKey, DockKey, key_of, name_key, dock_key}
-use Rattle.bike_rows.specs.View.{row_with}
+use Rattle.bike_sql.specs.View.{row_with}
 use Rattle.bike_book.specs.Tables.{Tables}
 use Rattle.bike_book.specs.Rows.{number_value}
 use Rattle.bike_book.specs.Stored.{Listed}
 use Rattle.bike_schema.specs.Columns.{ident_in, state_in, or_none}
 use Rattle.bike_readings.specs.ColumnReaders.{where_wide, numbered_in, serial_in, dock_in as dock_number_in}
-use Rattle.bike_readings.specs.Readings.{meta_read, system_read, plan_read, segment_read, type_read, region_read, station_read, dock_read, bike_read, truck_read, rider_read, rental_read, order_read, entry_read, kept_read, count_read, name_read}
+use Rattle.bike_readings.specs.Readings.{meta_read, system_read, plan_read, segment_read, type_read, region_read}
+use Rattle.bike_readings.specs.Readings.{station_read, dock_read, bike_read, truck_read, rider_read, rental_read}
+use Rattle.bike_readings.specs.Readings.{order_read, entry_read, kept_read, count_read, name_read}
 
 abbrev pub first : {A : Type 0} → List A → Option A
 first [] = None
@@ -37,7 +41,8 @@ most_segments = 8
 
 -- the segment with this number of a plan, by its row
 abbrev pub segment_at : List Row → List ℕ → ℕ → Option SegmentRow
-segment_at rows plan seq = option_map (λ g. g.2) (option_and_then segment_read (row_with 2 (Text plan ∷ number_value seq ∷ []) rows))
+segment_at rows plan seq =
+    option_map (λ g. g.2) (option_and_then segment_read (row_with 2 (Text plan ∷ number_value seq ∷ []) rows))
 
 -- a segment and those after it, and none where it is missing
 abbrev pub and_after : Option SegmentRow → List SegmentRow → List SegmentRow
@@ -96,9 +101,12 @@ truck_place truck order = do
   for ← order
   Some (place.Truck n for)
 
--- the first whole place among what the columns of a place hold: a dock, a rental, a truck with its order; the depot where there is none
+-- the first whole place among what the columns of a place hold: a dock,
+-- a rental, a truck with its order; the depot where there is none
 abbrev pub first_place : Option (List ℕ) → Option ℕ → Option ℕ → Option ℕ → Option ℕ → Place
-first_place station dock rental truck order = unwrap_or (first_of (dock_place station dock) (first_of (option_map place.Rental rental) (truck_place truck order))) place.Depot
+first_place station dock rental truck order =
+    unwrap_or (first_of (dock_place station dock)
+    (first_of (option_map place.Rental rental) (truck_place truck order))) place.Depot
 
 -- the first place that the columns name: each of them is NULL or keeps its bounds, and else they name none
 abbrev pub first_place_in : Value → Value → Value → Value → Value → Option Place
@@ -119,8 +127,8 @@ misplaced_bike row = where_wide 8 row (do
   place ← first_place_in (column row 3) (column row 4) (column row 5) (column row 6) (column row 7)
   Some (bike, record { type_id = type_id; state = state; place = place }))
 
--- A row that names several places, or a part of one, is bad, yet its bicycle is there, at the first of them: no other row that counts it is to
--- blame. A row with a column out of its bounds spells nothing, whatever place it names beside.
+-- A row that names several places, or a part of one, is bad, yet its bicycle is there, at the first of them: no other
+-- row that counts it is to blame. A row with a column out of its bounds spells nothing, whatever place it names beside.
 abbrev pub bike_in : Row → Option (ℕ × Bike)
 bike_in row = first_of (bike_read row) (misplaced_bike row)
 
@@ -175,4 +183,8 @@ operator_of t = record {
 
 -- which docks and which counts have a row
 abbrev pub listed_of : Tables → Listed
-listed_of t = record { docks = fin.from_sorted (filter_map dock_in t.docks); counts = fin.from_sorted (filter_map count_in t.counts) }
+listed_of t =
+    record {
+      docks = fin.from_sorted (filter_map dock_in t.docks);
+      counts = fin.from_sorted (filter_map count_in t.counts);
+    }

@@ -1,8 +1,10 @@
--- What any row of each table spells: the record of which the row is made, or nothing. Nothing is spelled by a row of another width, by a column of
--- another kind or out of its bounds, and by columns that don't agree. Whether a name stands for a record isn't asked here.
+-- What any row of each table spells: the record of which the row is made, or nothing. Nothing is spelled by a row of
+-- another width, by a column of another kind or out of its bounds, and by columns that don't agree. Whether a name
+-- stands for a record isn't asked here.
 use Rattle.std.specs.Prelude.{ℕ, ℤ, List, [], Bool, if◌then◌else◌, Option, Some, None, codes}
 use Rattle.sqlite_value.specs.Order.{Row, column}
-use Rattle.bike_fields.specs.declared.numbers.TheConstants.{GREATEST_PRICE, GREATEST_RANGE, LAST_MINUTE, LONGEST_TIME_TO_LIVE, MOST_CARRIED}
+use Rattle.bike_fields.specs.declared.numbers.TheConstants.{GREATEST_PRICE, GREATEST_RANGE, LAST_MINUTE}
+use Rattle.bike_fields.specs.declared.numbers.TheConstants.{LONGEST_TIME_TO_LIVE, MOST_CARRIED}
 use Rattle.bike_fields.specs.declared.limits.TheConstants.{MOST_SEGMENTS}
 use Rattle.bike_fields.specs.Caller.{◌>>=◌, caller_text}
 use Rattle.bike_fields.specs.Values.{SegmentRow, is_range, is_after}
@@ -14,7 +16,11 @@ use Rattle.bike_operator.specs.declared.records.Rental.{Rental}
 use Rattle.bike_operator.specs.declared.records.Order.{Order}
 use Rattle.bike_operator.specs.Operator.{Station, Truck, Rider, Kept, Key, key_of}
 use Rattle.bike_schema.specs.Columns.{number_in, moment_in, flag_in, state_in, whole_in, ident_in, name_in, or_none}
-use Rattle.bike_readings.specs.ColumnReaders.{where_wide, language_in, currency_in, ascii_in, key_in, caller_in, form_in, propulsion_in, named_kind_in, end_in, word_in, command_in, reply_in, rate_in, latitude_in, longitude_in, greatest_count, count_in, numbered_in, dock_in, serial_in, kind_in, rental_in, amount_in, place_in, closing_in}
+use Rattle.bike_readings.specs.ColumnReaders.{where_wide, language_in, currency_in, ascii_in, key_in, caller_in}
+use Rattle.bike_readings.specs.ColumnReaders.{form_in, propulsion_in, named_kind_in, end_in, word_in, command_in}
+use Rattle.bike_readings.specs.ColumnReaders.{reply_in, rate_in, latitude_in, longitude_in, greatest_count, count_in}
+use Rattle.bike_readings.specs.ColumnReaders.{numbered_in, dock_in, serial_in, kind_in, rental_in, amount_in, place_in}
+use Rattle.bike_readings.specs.ColumnReaders.{closing_in}
 
 -- version, now (seconds), cash, revenue (hundredths)
 abbrev pub meta_read : Row → Option (ℕ × ℕ × ℤ × ℤ)
@@ -39,7 +45,17 @@ system_read row = where_wide 10 row (do
   currency ← currency_in (column row 7)
   base_url ← ascii_in (column row 8)
   ttl ← number_in 0 LONGEST_TIME_TO_LIVE (column row 9)
-  Some (record { system_id = system_id; language = language; name = name; opening_hours = opening_hours; feed_contact_email = feed_contact_email; timezone = timezone; currency = currency; base_url = base_url; ttl = ttl }))
+  Some (record {
+    system_id = system_id;
+    language = language;
+    name = name;
+    opening_hours = opening_hours;
+    feed_contact_email = feed_contact_email;
+    timezone = timezone;
+    currency = currency;
+    base_url = base_url;
+    ttl = ttl;
+  }))
 
 -- under its identifier, with no segments: these are rows of their own
 abbrev pub plan_read : Row → Option (List ℕ × PlanRow)
@@ -49,7 +65,17 @@ plan_read row = where_wide 5 row (do
   price ← number_in 0 GREATEST_PRICE (column row 2)
   taxable ← flag_in (column row 3)
   description ← name_in (column row 4)
-  Some (plan_id, record { plan_id = plan_id; name = name; price = price; taxable = taxable; description = description; segments = [] }))
+  Some (
+    plan_id,
+    record {
+      plan_id = plan_id;
+      name = name;
+      price = price;
+      taxable = taxable;
+      description = description;
+      segments = [];
+    },
+  ))
 
 -- the plan, the number of the segment in it from 1, and the segment
 abbrev pub segment_read : Row → Option (List ℕ × ℕ × SegmentRow)
@@ -60,7 +86,8 @@ segment_read row = where_wide 6 row (do
   rate ← rate_in (column row 3)
   interval ← number_in 0 LAST_MINUTE (column row 4)
   end ← or_none (number_in 0 LAST_MINUTE) (column row 5)
-  if is_after start end then Some (plan_id, seq, record { start = start; rate = rate; interval = interval; end = end }) else None)
+  if is_after start end then Some (plan_id, seq, record { start = start; rate = rate; interval = interval; end = end })
+      else None)
 
 abbrev pub type_read : Row → Option (List ℕ × TypeRow)
 type_read row = where_wide 6 row (do
@@ -70,7 +97,17 @@ type_read row = where_wide 6 row (do
   propulsion ← propulsion_in (column row 3)
   max_range ← number_in 0 GREATEST_RANGE (column row 4)
   plan_id ← ident_in (column row 5)
-  if is_range propulsion max_range then Some (type_id, record { type_id = type_id; name = name; form = form; propulsion = propulsion; max_range = max_range; plan_id = plan_id }) else None)
+  if is_range propulsion max_range then Some (
+    type_id,
+    record {
+      type_id = type_id;
+      name = name;
+      form = form;
+      propulsion = propulsion;
+      max_range = max_range;
+      plan_id = plan_id;
+    },
+  ) else None)
 
 abbrev pub region_read : Row → Option (List ℕ × RegionRow)
 region_read row = where_wide 2 row (do
@@ -148,7 +185,18 @@ rental_read row = where_wide 10 row (do
   start ← moment_in (column row 5)
   closing ← closing_in (column row 6) (column row 7) (column row 8)
   refunded ← whole_in (column row 9)
-  Some (rental, record { rider = rider; bike = bike; plan = plan; from_station = from_station; start = start; closing = closing }, refunded))
+  Some (
+    rental,
+    record {
+      rider = rider;
+      bike = bike;
+      plan = plan;
+      from_station = from_station;
+      start = start;
+      closing = closing;
+    },
+    refunded,
+  ))
 
 abbrev pub order_read : Row → Option (ℕ × Order)
 order_read row = where_wide 8 row (do
@@ -160,7 +208,18 @@ order_read row = where_wide 8 row (do
   count ← number_in 1 MOST_CARRIED (column row 5)
   delivered ← number_in 0 MOST_CARRIED (column row 6)
   is_open ← flag_in (column row 7)
-  Some (order, record { truck = truck; from_end = from_end; to_end = to_end; type_id = type_id; count = count; delivered = delivered; is_open = is_open }))
+  Some (
+    order,
+    record {
+      truck = truck;
+      from_end = from_end;
+      to_end = to_end;
+      type_id = type_id;
+      count = count;
+      delivered = delivered;
+      is_open = is_open;
+    },
+  ))
 
 abbrev pub entry_read : Row → Option Entry
 entry_read row = where_wide 6 row (do

@@ -5,17 +5,23 @@ use Rattle.std.specs.declared.cmp.Ordering.TheVariants.{Less}
 use Rattle.sqlite_value.specs.declared.value.Value.TheVariants.{Text}
 use Rattle.sqlite_value.specs.Order.{Row, row_cmp}
 use Rattle.sqlite_trees.specs.Tree.{IsAscending}
-use Rattle.bike_rows.specs.View.{by_key, row_with}
+use Rattle.bike_sql.specs.View.{by_key, row_with}
 use Rattle.bike_operator.specs.Operator.{Operator}
 use Rattle.bike_operator.specs.Counts.{count, available_of}
 use Rattle.bike_operator.specs.Sound.{IsSound}
 use Rattle.bike_laws.specs.SingleSteps.Numbers.{disabled_of}
-use Rattle.bike_book.specs.Tables.{TableName, Tables, rows_in, keys_of, table_place, Meta, System, Plans, Segments, Types, Regions, Stations, Docks, Bikes, Trucks, Riders, Rentals, Orders, Entries, Kept, Counts, MoreNames}
+use Rattle.bike_book.specs.Tables.{TableName, Tables, rows_in, keys_of, table_place, Meta, System, Plans, Segments}
+use Rattle.bike_book.specs.Tables.{Types, Regions, Stations, Docks, Bikes, Trucks, Riders, Rentals, Orders, Entries}
+use Rattle.bike_book.specs.Tables.{Kept, Counts, MoreNames}
 use Rattle.bike_book.specs.Rows.{number_value}
 use Rattle.bike_book.specs.Stored.{Listed, IsListing, tables_for}
-use Rattle.bike_readings.specs.Readings.{meta_read, system_read, plan_read, segment_read, type_read, region_read, station_read, dock_read, bike_read, truck_read, rider_read, rental_read, order_read, entry_read, kept_read, count_read, name_read}
+use Rattle.bike_readings.specs.Readings.{meta_read, system_read, plan_read, segment_read, type_read, region_read}
+use Rattle.bike_readings.specs.Readings.{station_read, dock_read, bike_read, truck_read, rider_read, rental_read}
+use Rattle.bike_readings.specs.Readings.{order_read, entry_read, kept_read, count_read, name_read}
 use Rattle.bike_readings.specs.ReadOff.{operator_of}
-use Rattle.bike_readings.specs.Demands.{IsGoodMeta, IsGoodPlan, IsGoodSegment, IsGoodType, IsGoodRegion, IsGoodStation, IsGoodDock, IsGoodBike, IsGoodTruck, IsGoodRider, IsGoodRental, IsGoodOrder, IsGoodEntry, IsGoodKept, IsGoodCount, IsGoodName}
+use Rattle.bike_readings.specs.Demands.{IsGoodMeta, IsGoodPlan, IsGoodSegment, IsGoodType, IsGoodRegion, IsGoodStation}
+use Rattle.bike_readings.specs.Demands.{IsGoodDock, IsGoodBike, IsGoodTruck, IsGoodRider, IsGoodRental, IsGoodOrder}
+use Rattle.bike_readings.specs.Demands.{IsGoodEntry, IsGoodKept, IsGoodCount, IsGoodName}
 
 -- ---- tables
 
@@ -75,7 +81,8 @@ AllGood t = (name : TableName) (key : Row) → IsGoodKey t name key
 
 -- ---- the verdict
 
--- The key is the first bad one, by the order of the tables and then of the keys of the table. Where it has a row, it is written as the row has it.
+-- The key is the first bad one, by the order of the tables and then of the
+-- keys of the table. Where it has a row, it is written as the row has it.
 pub record IsFirstBad (t : Tables) (name : TableName) (key : Row) : Type 0 where
   pub bad : IsGoodKey t name key → ⊥
   pub own : IfSome (row_under t name key) (λ row. take (keys_of name) row ≡ key)

@@ -13,17 +13,21 @@ use Rattle.bike_operator.specs.Counts.{docks_broken, available_of}
 use Rattle.bike_operator.specs.Sound.{HasDock}
 use Rattle.bike_laws.specs.SingleSteps.Numbers.{disabled_of}
 use Rattle.bike_book.specs.declared.version.TheConstants.{NEWEST}
-use Rattle.bike_readings.specs.Bounds.{IsNumbered, IsStoredMeta, IsStoredPlan, IsStoredSegment, IsStoredType, IsStoredRegion, IsStoredStation, IsStoredDock, IsStoredBike, IsStoredTruck, IsStoredRental, IsStoredOrder, IsStoredEntry, IsStoredCount, IsStoredName}
+use Rattle.bike_readings.specs.Bounds.{IsNumbered, IsStoredMeta, IsStoredPlan, IsStoredSegment, IsStoredType}
+use Rattle.bike_readings.specs.Bounds.{IsStoredRegion, IsStoredStation, IsStoredDock, IsStoredBike, IsStoredTruck}
+use Rattle.bike_readings.specs.Bounds.{IsStoredRental, IsStoredOrder, IsStoredEntry, IsStoredCount, IsStoredName}
 
 -- Each record keeps the bounds of its row. The segment at position n of its plan, from 0, has the number n + 1.
 pub record HasBounds (s : Operator) : Type 0 where
   pub meta : IsStoredMeta NEWEST s.now
   pub system : (x : SystemRow) → s.system ≡ Some x → IsSystem x
   pub plans : (id : List ℕ) (p : PlanRow) → fin.get s.plans id ≡ Some p → IsStoredPlan id p
-  pub segments : (id : List ℕ) (p : PlanRow) → fin.get s.plans id ≡ Some p → (n : ℕ) (g : SegmentRow) → item_at n p.segments ≡ Some g → IsStoredSegment id (n + 1) g
+  pub segments : (id : List ℕ) (p : PlanRow) → fin.get s.plans id ≡ Some p → (n : ℕ) (g : SegmentRow)
+      → item_at n p.segments ≡ Some g → IsStoredSegment id (n + 1) g
   pub types : (id : List ℕ) (t : TypeRow) → fin.get s.types id ≡ Some t → IsStoredType id t
   pub regions : (id : List ℕ) (r : RegionRow) → fin.get s.regions id ≡ Some r → IsStoredRegion id r
-  pub stations : (id : List ℕ) (x : Station) → fin.get s.stations id ≡ Some x → IsStoredStation id x (docks_broken s id x.row.docks)
+  pub stations : (id : List ℕ) (x : Station) → fin.get s.stations id ≡ Some x
+      → IsStoredStation id x (docks_broken s id x.row.docks)
   pub docks : (station : List ℕ) (dock : ℕ) → HasDock s station dock → IsStoredDock station dock
   pub bikes : (number : ℕ) (b : Bike) → fin.get s.bikes number ≡ Some b → IsStoredBike number b
   pub trucks : (number : ℕ) (t : Truck) → fin.get s.trucks number ≡ Some t → IsStoredTruck number t
@@ -31,7 +35,9 @@ pub record HasBounds (s : Operator) : Type 0 where
   pub rentals : (number : ℕ) (r : Rental) → item_numbered number s.rentals ≡ Some r → IsStoredRental number r
   pub orders : (number : ℕ) (o : Order) → item_numbered number s.orders ≡ Some o → IsStoredOrder number o
   pub entries : (number : ℕ) (e : Entry) → item_numbered number s.entries ≡ Some e → IsStoredEntry e
-  pub counts : (station type_id : List ℕ) → fin.contains_key s.stations station ≡ true → fin.contains_key s.types type_id ≡ true
+  pub counts : (station type_id : List ℕ) → fin.contains_key s.stations station ≡ true
+      → fin.contains_key s.types type_id ≡ true
       → IsStoredCount station type_id (available_of s station type_id) (disabled_of s station type_id)
-  pub more_names : (kind : NameKind) (id language name : List ℕ) → fin.get s.more_names (name_key kind id language) ≡ Some name
+  pub more_names : (kind : NameKind) (id language name : List ℕ)
+      → fin.get s.more_names (name_key kind id language) ≡ Some name
       → IsStoredName id (record { language = language; name = name })

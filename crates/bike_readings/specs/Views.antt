@@ -55,13 +55,33 @@ system_of x = record {
 
 -- with no segments: these are rows of their own
 abbrev pub plan_of : StoredPlan → List ℕ × PlanRow
-plan_of x = (x.plan_id.now, record { plan_id = x.plan_id.now; name = x.name.now; price = x.price; taxable = x.taxable; description = x.description.now; segments = [] })
+plan_of x = (
+  x.plan_id.now,
+  record {
+    plan_id = x.plan_id.now;
+    name = x.name.now;
+    price = x.price;
+    taxable = x.taxable;
+    description = x.description.now;
+    segments = [];
+  },
+)
 
 abbrev pub segment_of : StoredSegment → List ℕ × ℕ × SegmentRow
 segment_of x = (x.plan_id.now, x.seq, record { start = x.start; rate = x.rate; interval = x.interval; end = x.end })
 
 abbrev pub type_of : StoredType → List ℕ × TypeRow
-type_of x = (x.type_id.now, record { type_id = x.type_id.now; name = x.name.now; form = x.form; propulsion = x.propulsion; max_range = x.max_range; plan_id = x.plan_id.now })
+type_of x = (
+  x.type_id.now,
+  record {
+    type_id = x.type_id.now;
+    name = x.name.now;
+    form = x.form;
+    propulsion = x.propulsion;
+    max_range = x.max_range;
+    plan_id = x.plan_id.now;
+  },
+)
 
 abbrev pub region_of : StoredRegion → List ℕ × RegionRow
 region_of x = (x.region_id.now, record { region_id = x.region_id.now; name = x.name.now })
@@ -107,7 +127,18 @@ end_of stored_end.Depot = end.Depot
 end_of (stored_end.Station station) = end.Station station.now
 
 abbrev pub order_of : StoredOrder → ℕ × Order
-order_of x = (x.order, record { truck = x.truck; from_end = end_of x.from_end; to_end = end_of x.to_end; type_id = x.type_id.now; count = x.count; delivered = x.delivered; is_open = x.is_open })
+order_of x = (
+  x.order,
+  record {
+    truck = x.truck;
+    from_end = end_of x.from_end;
+    to_end = end_of x.to_end;
+    type_id = x.type_id.now;
+    count = x.count;
+    delivered = x.delivered;
+    is_open = x.is_open;
+  },
+)
 
 abbrev pub rider_of : StoredRider → ℕ × Rider × ℤ
 rider_of x = (x.rider, record { is_blocked = x.is_blocked }, x.balance)
@@ -116,10 +147,22 @@ abbrev pub closing_of : StoredClosing → Closing
 closing_of x = record { to_station = option_map (λ text. text.now) x.to_station; finish = x.finish; fare = x.fare }
 
 abbrev pub rental_of : StoredRental → ℕ × Rental × ℤ
-rental_of x = (x.rental, record { rider = x.rider; bike = x.bike; plan = x.plan.now; from_station = x.from_station.now; start = x.start; closing = option_map closing_of x.closing }, x.refunded)
+rental_of x = (
+  x.rental,
+  record {
+    rider = x.rider;
+    bike = x.bike;
+    plan = x.plan.now;
+    from_station = x.from_station.now;
+    start = x.start;
+    closing = option_map closing_of x.closing;
+  },
+  x.refunded,
+)
 
 abbrev pub entry_of : StoredEntry → Entry
-entry_of x = record { number = x.number; kind = x.kind; rider = x.rider; rental = x.rental; amount = x.amount; at = x.at }
+entry_of x =
+    record { number = x.number; kind = x.kind; rider = x.rider; rental = x.rental; amount = x.amount; at = x.at }
 
 -- under the texts of its caller and key
 abbrev pub kept_of : StoredKept → Key × Kept

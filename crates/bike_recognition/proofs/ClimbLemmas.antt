@@ -19,13 +19,13 @@ use Rattle.sqlite_sql.specs.Term.{col}
 use Rattle.sqlite_trees.specs.Tree.{Trees, rowid}
 use Rattle.sqlite_trees.specs.View.{is_int}
 use Rattle.sqlite_rules.specs.Lists.{Has}
-use Rattle.bike_rows.specs.Queries.{by_columns}
-use Rattle.bike_rows.specs.View.{by_key, AreSpread}
-use Rattle.bike_rows.proofs.AnswerLemmas.{out, answered}
-use Rattle.bike_rows.proofs.ListLemmas.{map_map, filter_all, has_map, map_has, permuted}
-use Rattle.bike_rows.proofs.OrderLemmas.{Rises}
-use Rattle.bike_rows.proofs.SortLemmas.{AreApartAll, rising_apart}
-use Rattle.bike_rows.proofs.TreeLemmas.{by_key_total}
+use Rattle.bike_sql.specs.Queries.{by_columns}
+use Rattle.bike_sql.specs.View.{by_key, AreSpread}
+use Rattle.bike_sql.proofs.AnswerLemmas.{out, answered}
+use Rattle.bike_sql.proofs.RowListLemmas.{map_map, filter_all, has_map, map_has, permuted}
+use Rattle.bike_sql.proofs.OrderLemmas.{Rises}
+use Rattle.bike_sql.proofs.SortLemmas.{AreApartAll, rising_apart}
+use Rattle.bike_sql.proofs.TreeLemmas.{by_key_total}
 use Rattle.bike_recognition.specs.declared.rowids.Rowid.{Rowid}
 use Rattle.bike_recognition.specs.Rowids.{rowids_query, AreApart, rowid_row, shown_rowid, is_above, Climb, ReachUpTo}
 
@@ -47,7 +47,8 @@ reached : (last : Option Rowid) (id : Rowid) (ids : List ℤ) → ReachUpTo last
 reached None id ids none above = subst (AllByRecursion (λ m. m <ℤ id.number)) (sym none) tt
 reached (Some last) id ids reach above = reach id.number (int_below last.number id.number above)
 
-pub climb_more : (last : Option Rowid) (id : Rowid) (ids : List ℤ) → Climb ids → ReachUpTo last ids → is_above last id ≡ true → Climb (ids ++ id.number ∷ []) × ReachUpTo (Some id) (ids ++ id.number ∷ [])
+pub climb_more : (last : Option Rowid) (id : Rowid) (ids : List ℤ) → Climb ids → ReachUpTo last ids → is_above last id ≡ true
+    → Climb (ids ++ id.number ∷ []) × ReachUpTo (Some id) (ids ++ id.number ∷ [])
 climb_more last id ids climb reach above =
     let low = reached last id ids reach above in
     (climb_on ids id.number climb low, λ n high. below_both ids id.number (λ m lower. omega (arith, ints, lower, high)) low high)
@@ -73,7 +74,8 @@ rows_rise (m ∷ ids) climb = (above_all ids climb.0, rows_rise ids climb.1)
 one_value : (v : Value) (n : ℤ) → ◌≡◌ {A = Row} (v ∷ []) (rowid_row n) → is_int v ≡ true
 one_value v n same = let e : v ≡ Int n = cc in ap is_int e
 
-ties_not : (r : Row) (rows : List Row) → AllByRecursion (λ other. eq_by_cmp (by_key 1) (shown_rowid r) other ≡ false) (map shown_rowid rows) → AllByRecursion (λ x. value_cmp (rowid r) (rowid x) ≡ Equal → ⊥) rows
+ties_not : (r : Row) (rows : List Row) → AllByRecursion (λ other. eq_by_cmp (by_key 1) (shown_rowid r) other ≡ false) (map shown_rowid rows)
+    → AllByRecursion (λ x. value_cmp (rowid r) (rowid x) ≡ Equal → ⊥) rows
 ties_not r [] h = tt
 ties_not r (x ∷ rows) h = (no_tie, ties_not r rows h.1)
   where
@@ -88,10 +90,13 @@ spread_of (r ∷ rows) h = (ties_not r rows h.0, spread_of rows h.1)
 -- rowids that were all given, and climbed
 pub given_apart : (rows : List Row) (ids : List ℤ) → Climb ids → IsPermutation (map shown_rowid rows) (map rowid_row ids) → AreApart rows
 unfolding IsDistinct
-given_apart rows ids climb same = (spread_of rows apart, λ r h. number r (map_has rowid_row ids (shown_rowid r) (permuted (map shown_rowid rows) (map rowid_row ids) (shown_rowid r) same (has_map shown_rowid rows r h))))
+given_apart rows ids climb same =
+    (spread_of rows apart, λ r h. number r (map_has rowid_row ids (shown_rowid r) (permuted (map shown_rowid rows) (map rowid_row ids) (shown_rowid r) same (has_map shown_rowid rows r h))))
   where
     apart : AreApartAll (by_key_total 1) (map shown_rowid rows)
-    apart = IsDistinct-IsPermutation (eq_by_cmp (by_key 1)) (eq_by_cmp_equiv (by_key_total 1)).symm (map rowid_row ids) (map shown_rowid rows) (IsPermutation-sym _ _ same) (rising_apart (by_key_total 1) (map rowid_row ids) (rows_rise ids climb))
+    apart =
+        IsDistinct-IsPermutation (eq_by_cmp (by_key 1)) (eq_by_cmp_equiv (by_key_total 1)).symm (map rowid_row ids) (map shown_rowid rows) (IsPermutation-sym _ _ same)
+        (rising_apart (by_key_total 1) (map rowid_row ids) (rows_rise ids climb))
 
     number : (r : Row) → (n : ℤ) × Has ids n × (shown_rowid r ≡ rowid_row n) → is_int (rowid r) ≡ true
     number r h = one_value (rowid r) h.0 h.2

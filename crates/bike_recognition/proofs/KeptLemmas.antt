@@ -10,10 +10,10 @@ use Rattle.sqlite_trees.specs.declared.store.Store.{Ghosts}
 use Rattle.sqlite.specs.Effect.{Database, IsDatabase}
 use Rattle.sqlite.specs.Held.{Held, state}
 use Rattle.sqlite.specs.State.{IsLive}
-use Rattle.bike_rows.specs.Layout.{table_of}
-use Rattle.bike_rows.specs.Stands.{Stands}
-use Rattle.bike_rows.specs.View.{IsKeyed}
-use Rattle.bike_rows.proofs.KeyLemmas.{IsKeyOf}
+use Rattle.bike_sql.specs.Layout.{table_of}
+use Rattle.bike_sql.specs.Stands.{Stands}
+use Rattle.bike_sql.specs.View.{IsKeyed}
+use Rattle.bike_sql.proofs.KeyLemmas.{IsKeyOf}
 use Rattle.bike_book.specs.Tables.{TableName, is_table, keys_of, Kept, Counts, MoreNames}
 use Rattle.bike_schema.specs.Layouts.{layout_of, layout_by, has_primary, name_of, every_table}
 use Rattle.bike_schema.specs.Tables.{HasTables}
@@ -42,7 +42,8 @@ pub record IsLooked (db : Database) (t : TableName) (keyed lies : Bool) : Type 0
   pub same : keyed ≡ has_primary db.schema (name_of Kept)
   pub told : IsTrue lies ↔ Lies db (layout_by keyed t)
 
-pub looked : {S E : Type 0} {g : Ghosts S} {old new : Held S} {lies : Bool} (t : TableName) (keyed : Bool) → IsLive (state g old) → keyed ≡ has_primary (state g old).now.schema (name_of Kept) → ReadsAny {E = E} g old new (Ok lies) (λ db lies. IsTrue lies ↔ Lies db (layout_by keyed t))
+pub looked : {S E : Type 0} {g : Ghosts S} {old new : Held S} {lies : Bool} (t : TableName) (keyed : Bool) → IsLive (state g old) → keyed ≡ has_primary (state g old).now.schema (name_of Kept)
+    → ReadsAny {E = E} g old new (Ok lies) (λ db lies. IsTrue lies ↔ Lies db (layout_by keyed t))
     → ReadsAny {E = E} g old new (Ok lies) (λ db lies. IsLooked db t keyed lies)
 looked t keyed live same it = record {
   found = λ clean any. record { sound = (live (it.same clean any).0.was_open).0; same = same; told = it.found clean any };
@@ -90,7 +91,8 @@ told_stands db (Some key) false is it tells = (
       absurd (not_keyed plain.tree (db.trees plain.tree) key (tells (lies_of plain)).0 plain.keyed),
 )
 
-pub kept_stands_if : (db : Database) (t : TableName) (found : Option Row) (none : Bool) → t ≡ Kept → is_some found ≡ not none → KeptLies db × ((it : KeptLies db) → TellsKeys db it.tree found) → IsTrue none ↔ TableStands t db
+pub kept_stands_if : (db : Database) (t : TableName) (found : Option Row) (none : Bool) → t ≡ Kept → is_some found ≡ not none → KeptLies db × ((it : KeptLies db) → TellsKeys db it.tree found)
+    → IsTrue none ↔ TableStands t db
 kept_stands_if db t found none same is both = subst (λ u. IsTrue none ↔ TableStands u db) (sym same) (told_stands db found none is both.0 both.1)
 
 -- ---- all tables but kept
@@ -101,12 +103,15 @@ missing_is db (u ∷ ts) t (inl lacking) stands = let same : t ≡ u = cc in lac
 missing_is db (u ∷ ts) t (inr standing) stands = missing_is db ts t standing.1 stands
 
 -- those before a first missing kept stand
-stood : (db : Database) (front rest : List TableName) → list_all (λ t. not (is_table t Kept)) front ≡ true → IsFirstMissing db (front ++ Kept ∷ rest) (Some Kept) → AllByRecursion (λ t. TableStands t db) front
+stood : (db : Database) (front rest : List TableName) → list_all (λ t. not (is_table t Kept)) front ≡ true → IsFirstMissing db (front ++ Kept ∷ rest) (Some Kept)
+    → AllByRecursion (λ t. TableStands t db) front
 stood db [] rest others missing = tt
-stood db (t ∷ front) rest others (inl lacking) = absurd (let same : Kept ≡ t = cc in true≢false (sym (subst (λ u. not (is_table u Kept) ≡ true) (sym same) (and_parts (not (is_table t Kept)) _ others).0)))
+stood db (t ∷ front) rest others (inl lacking) =
+    absurd (let same : Kept ≡ t = cc in true≢false (sym (subst (λ u. not (is_table u Kept) ≡ true) (sym same) (and_parts (not (is_table t Kept)) _ others).0)))
 stood db (t ∷ front) rest others (inr standing) = (standing.0, stood db front rest (and_parts (not (is_table t Kept)) _ others).1 standing.1)
 
-all_but : (db : Database) (front rest : List TableName) → AllByRecursion (λ t. TableStands t db) front → IsFirstMissing db rest None → AllByRecursion (λ t. is_table t Kept ≡ false → TableStands t db) (front ++ Kept ∷ rest)
+all_but : (db : Database) (front rest : List TableName) → AllByRecursion (λ t. TableStands t db) front → IsFirstMissing db rest None
+    → AllByRecursion (λ t. is_table t Kept ≡ false → TableStands t db) (front ++ Kept ∷ rest)
 all_but db [] rest before after = ((λ other. absurd (true≢false other)), each rest after)
   where
     each : (ts : List TableName) → IsFirstMissing db ts None → AllByRecursion (λ t. is_table t Kept ≡ false → TableStands t db) ts
@@ -117,7 +122,8 @@ all_but db (t ∷ front) rest before after = ((λ other. before.0), all_but db f
 
 -- ---- what the database is, where this table is the first that is missing
 
-module _ (db : Database) (missing : Option Name) (name : Name) (some : missing ≡ Some name) (first : IsFirstMissing db every_table (option_map table_named missing)) (kept : Bool) (is : kept ≡ is_table (table_named name) Kept) where
+module _ (db : Database) (missing : Option Name) (name : Name) (some : missing ≡ Some name) (first : IsFirstMissing db every_table (option_map table_named missing)) (kept : Bool)
+    (is : kept ≡ is_table (table_named name) Kept) where
   lacking : IsFirstMissing db every_table (Some (table_named name))
   lacking = subst (λ (o : Option Name). IsFirstMissing db every_table (option_map table_named o)) some first
 
@@ -134,7 +140,8 @@ module _ (db : Database) (missing : Option Name) (name : Name) (some : missing �
     pub kept_doubled : rest ≡ true → IsByTables db Doubled
     kept_doubled is_there = inr (inl (
       record {
-        others = of_every (λ t. is_table t Kept ≡ false → TableStands t db) (all_but db (take 14 every_table) after_kept (stood db (take 14 every_table) after_kept refl kept_lacking) (there.0 is_there).1);
+        others =
+            of_every (λ t. is_table t Kept ≡ false → TableStands t db) (all_but db (take 14 every_table) after_kept (stood db (take 14 every_table) after_kept refl kept_lacking) (there.0 is_there).1);
         kept = (there.0 is_there).0;
         unkeyed = missing_is db every_table Kept kept_lacking;
       },

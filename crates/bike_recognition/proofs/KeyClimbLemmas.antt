@@ -1,5 +1,6 @@
 -- Callers and keys that climb, or two neighbours that are one, when those of all rows of `kept` are listed.
-use Rattle.std.proofs.Common.{◌≡◌, ℕ, ◌+◌, ◌≤◌, inl, inr, List, [], ◌∷◌, ◌++◌, map, filter, cond, Bool, true, false, Option, Some, None, Ordering, Less, Equal, Greater, nat_cmp, refl, ap, ap₂, subst, sym, ◌∙◌, arith, append_assoc}
+use Rattle.std.proofs.Common.{◌≡◌, ℕ, ◌+◌, ◌≤◌, inl, inr, List, [], ◌∷◌, ◌++◌, map, filter, cond, Bool, true, false, Option, Some, None, Ordering, Less, Equal, Greater, nat_cmp, refl, ap, ap₂, subst}
+use Rattle.std.proofs.Common.{sym, ◌∙◌, arith, append_assoc}
 use Rattle.std.specs.List.{AllByRecursion, IsDistinct, sum_by}
 use Rattle.std.specs.List.Sorted.{IsPermutation}
 use Rattle.std.specs.Ordering.{eq_by_cmp, is_eq, is_lt, ordering_then}
@@ -23,14 +24,14 @@ use Rattle.sqlite_sql.specs.Term.{col}
 use Rattle.sqlite_trees.specs.Tree.{Trees, rowid}
 use Rattle.sqlite_trees.proofs.ListLemmas.{IsPermutation-filter, filter-map}
 use Rattle.sqlite_rules.specs.Lists.{Has}
-use Rattle.bike_rows.specs.Layout.{table_of}
-use Rattle.bike_rows.specs.Queries.{by_columns}
-use Rattle.bike_rows.specs.View.{IsKeyed, AreSpread}
-use Rattle.bike_rows.proofs.AnswerLemmas.{Answered, out, answered, out_from}
-use Rattle.bike_rows.proofs.KeyOrderLemmas.{compares}
-use Rattle.bike_rows.proofs.ListLemmas.{map_map, filter_all, filter_has}
-use Rattle.bike_rows.proofs.OrderLemmas.{all_has}
-use Rattle.bike_rows.proofs.SortLemmas.{AreApartAll, NoneAbove, ascends, rising_apart}
+use Rattle.bike_sql.specs.Layout.{table_of}
+use Rattle.bike_sql.specs.Queries.{by_columns}
+use Rattle.bike_sql.specs.View.{IsKeyed, AreSpread}
+use Rattle.bike_sql.proofs.AnswerLemmas.{Answered, out, answered, out_from}
+use Rattle.bike_sql.proofs.KeyOrderLemmas.{compares}
+use Rattle.bike_sql.proofs.RowListLemmas.{map_map, filter_all, filter_has}
+use Rattle.bike_sql.proofs.OrderLemmas.{all_has}
+use Rattle.bike_sql.proofs.SortLemmas.{AreApartAll, NoneAbove, ascends, rising_apart}
 use Rattle.bike_book.specs.Tables.{Kept, keys_of}
 use Rattle.bike_schema.specs.Layouts.{layout_of}
 use Rattle.bike_recognition.specs.Keys.{keys_query, shown_key, IsKeyRow, AreTwo, IsFirst, IsDoubled, order_after, Climb, EndsWith}
@@ -77,7 +78,8 @@ text_tied text (Blob bytes) tie = absurd (let apart = value_cmp-apart (Text text
 texts_ranked : (a b c d : List ℕ) → ordering_then (slice_cmp nat_cmp a c) (slice_cmp nat_cmp b d) ≡ row_cmp (Text a ∷ Text b ∷ []) (Text c ∷ Text d ∷ [])
 texts_ranked a b c d = ap₂ ordering_then (sym (value_cmp-Text a c)) (sym (value_cmp-Text b d) ∙ sym (then-Equal (value_cmp (Text b) (Text d))))
 
-pub key_ranked : (last : Option Row) (before row : Row) (a b c d : List ℕ) → last ≡ Some before → before ≡ Text a ∷ Text b ∷ [] → row ≡ Text c ∷ Text d ∷ [] → ordering_then (slice_cmp nat_cmp a c) (slice_cmp nat_cmp b d) ≡ order_after last row
+pub key_ranked : (last : Option Row) (before row : Row) (a b c d : List ℕ) → last ≡ Some before → before ≡ Text a ∷ Text b ∷ [] → row ≡ Text c ∷ Text d ∷ []
+    → ordering_then (slice_cmp nat_cmp a c) (slice_cmp nat_cmp b d) ≡ order_after last row
 key_ranked last before row a b c d is first second = texts_ranked a b c d ∙ ap₂ row_cmp (sym first) (sym second) ∙ ap (λ (o : Option Row). order_after o row) (sym is)
 
 -- a row that ties with two texts is the two texts
@@ -88,11 +90,13 @@ key_tied row other it tie = by other (subst (λ r. row_cmp r other ≡ Equal) it
     by [] t = absurd (cc)
     by (v ∷ []) t = absurd (let rest : ◌≡◌ {A = Ordering} Greater Equal = (then_tied (value_cmp (Text it.0) v) Greater t).1 in cc)
     by (v ∷ w ∷ []) t = let one = then_tied _ _ t in let two = then_tied _ _ one.1 in ap₂ (λ a b. a ∷ b ∷ []) (text_tied it.0 v one.0) (text_tied it.1 w two.0)
-    by (v ∷ w ∷ u ∷ more) t = absurd (let one = then_tied (value_cmp (Text it.0) v) (ordering_then (value_cmp (Text it.1) w) Less) t in let rest : ◌≡◌ {A = Ordering} Less Equal = (then_tied (value_cmp (Text it.1) w) Less one.1).1 in cc)
+    by (v ∷ w ∷ u ∷ more) t =
+        absurd (let one = then_tied (value_cmp (Text it.0) v) (ordering_then (value_cmp (Text it.1) w) Less) t in let rest : ◌≡◌ {A = Ordering} Less Equal = (then_tied (value_cmp (Text it.1) w) Less one.1).1 in cc)
 
 -- ---- all of them, where they climb
 
-far : (r : Row) (rows : List Row) (x : Row) → AllByRecursion (λ other. eq_by_cmp row_cmp (shown_key r) other ≡ false) (map shown_key rows) → Has rows x → is_eq (row_cmp (shown_key r) (shown_key x)) ≡ false
+far : (r : Row) (rows : List Row) (x : Row) → AllByRecursion (λ other. eq_by_cmp row_cmp (shown_key r) other ≡ false) (map shown_key rows) → Has rows x
+    → is_eq (row_cmp (shown_key r) (shown_key x)) ≡ false
 far r [] x all h = elim h [ ]
 far r (y ∷ rows) x all (inl is) = subst (λ z. is_eq (row_cmp (shown_key r) (shown_key z)) ≡ false) (sym is) all.0
 far r (y ∷ rows) x all (inr later) = far r rows x all.1 later
@@ -102,7 +106,8 @@ unfolding IsDistinct
 same_row [] apart a b p q tie = elim p [ ]
 same_row (r ∷ rows) apart a b (inl p) (inl q) tie = p ∙ sym q
 same_row (r ∷ rows) apart a b (inl p) (inr q) tie = absurd (true≢false (sym (ap is_eq (subst (λ x. row_cmp (shown_key x) (shown_key b) ≡ Equal) p tie)) ∙ far r rows b apart.0 q))
-same_row (r ∷ rows) apart a b (inr p) (inl q) tie = absurd (true≢false (sym (ap is_eq (tied_back row_cmp_total (shown_key a) (shown_key r) (subst (λ x. row_cmp (shown_key a) (shown_key x) ≡ Equal) q tie))) ∙ far r rows a apart.0 p))
+same_row (r ∷ rows) apart a b (inr p) (inl q) tie =
+    absurd (true≢false (sym (ap is_eq (tied_back row_cmp_total (shown_key a) (shown_key r) (subst (λ x. row_cmp (shown_key a) (shown_key x) ≡ Equal) q tie))) ∙ far r rows a apart.0 p))
 same_row (r ∷ rows) apart a b (inr p) (inr q) tie = same_row rows apart.1 a b p q tie
 
 -- keys that were all given, and climbed
@@ -134,7 +139,8 @@ module _ (key : Row) (it : IsKeyRow key) where
   one_of [] some = absurd (omega (arith, some))
   one_of (r ∷ rows) some = by (is_eq (row_cmp key (shown_key r))) refl (subst (λ n. 1 ≤ n) (sum_by-cons (ties key) (shown_key r) (map shown_key rows)) some) (one_of rows)
     where
-      by : (b : Bool) → is_eq (row_cmp key (shown_key r)) ≡ b → 1 ≤ cond b 1 0 + sum_by (ties key) (map shown_key rows) → (1 ≤ sum_by (ties key) (map shown_key rows) → (x : Row) × Has rows x × (shown_key x ≡ key)) → (x : Row) × Has (r ∷ rows) x × (shown_key x ≡ key)
+      by : (b : Bool) → is_eq (row_cmp key (shown_key r)) ≡ b → 1 ≤ cond b 1 0 + sum_by (ties key) (map shown_key rows)
+          → (1 ≤ sum_by (ties key) (map shown_key rows) → (x : Row) × Has rows x × (shown_key x ≡ key)) → (x : Row) × Has (r ∷ rows) x × (shown_key x ≡ key)
       by true e h rest = (r, inl refl, shows r e)
       by false e h rest = let found = rest (omega (arith, h)) in (found.0, inr found.1, found.2)
 
@@ -142,7 +148,8 @@ module _ (key : Row) (it : IsKeyRow key) where
   two_of [] spread some = absurd (omega (arith, some))
   two_of (r ∷ rows) spread some = by (is_eq (row_cmp key (shown_key r))) refl (subst (λ n. 2 ≤ n) (sum_by-cons (ties key) (shown_key r) (map shown_key rows)) some) (two_of rows spread.1)
     where
-      by : (b : Bool) → is_eq (row_cmp key (shown_key r)) ≡ b → 2 ≤ cond b 1 0 + sum_by (ties key) (map shown_key rows) → (2 ≤ sum_by (ties key) (map shown_key rows) → AreTwo rows key) → AreTwo (r ∷ rows) key
+      by : (b : Bool) → is_eq (row_cmp key (shown_key r)) ≡ b → 2 ≤ cond b 1 0 + sum_by (ties key) (map shown_key rows) → (2 ≤ sum_by (ties key) (map shown_key rows) → AreTwo rows key)
+          → AreTwo (r ∷ rows) key
       by true e h rest = let other = one_of rows (omega (arith, h)) in record {
         first = r;
         second = other.0;
@@ -172,7 +179,8 @@ module _ (key : Row) (it : IsKeyRow key) where
 
   -- two neighbours of those that were given, and what was not given yet
   given_doubled : (rows front more : List Row) → AreSpread rows → IsPermutation (map shown_key rows) (front ++ key ∷ key ∷ more) → AreTwo rows key
-  given_doubled rows front more spread same = let all = sum_by-IsPermutation (ties key) (map shown_key rows) (front ++ key ∷ key ∷ more) same in two_of rows spread (omega (arith, counted front more, all))
+  given_doubled rows front more spread same =
+      let all = sum_by-IsPermutation (ties key) (map shown_key rows) (front ++ key ∷ key ∷ more) same in two_of rows spread (omega (arith, counted front more, all))
 
 -- ---- and none before them
 
@@ -201,7 +209,8 @@ front_climbs (a ∷ front) key climb = (all_of front climb.0, front_climbs front
     all_of [] all = tt
     all_of (b ∷ rows) all = (all.0, all_of rows all.1)
 
-given_first : (rows front more : List Row) (key : Row) → IsPermutation (map shown_key rows) (front ++ key ∷ more) → Climb (front ++ key ∷ []) → NoneAbove row_cmp_total (front ++ key ∷ more) → IsFirst rows key
+given_first : (rows front more : List Row) (key : Row) → IsPermutation (map shown_key rows) (front ++ key ∷ more) → Climb (front ++ key ∷ []) → NoneAbove row_cmp_total (front ++ key ∷ more)
+    → IsFirst rows key
 given_first rows front more key same climb up = record {
   alone = λ a b p q tie low.
       let one : a ≡ b = same_row kept apart a b (below a p low) (below b q (sym (row_cmp_total.congr (shown_key a) (shown_key b) key tie) ∙ low)) tie in
@@ -215,13 +224,19 @@ given_first rows front more key same climb up = record {
     below r h low = filter_has (λ x. is_below key (shown_key x)) rows r h (ap is_lt low)
 
     found : IsPermutation (map shown_key kept) front
-    found = subst (λ ks. IsPermutation ks front) (filter-map (is_below key) shown_key rows) (subst (IsPermutation (filter (is_below key) (map shown_key rows))) (kept_are key front more (all_below front key climb) up) (IsPermutation-filter (is_below key) (map shown_key rows) (front ++ key ∷ more) same))
+    found =
+        subst (λ ks. IsPermutation ks front) (filter-map (is_below key) shown_key rows)
+        (subst (IsPermutation (filter (is_below key) (map shown_key rows))) (kept_are key front more (all_below front key climb) up)
+        (IsPermutation-filter (is_below key) (map shown_key rows) (front ++ key ∷ more) same))
 
     apart : AreApartAll row_cmp_total (map shown_key kept)
-    apart = IsDistinct-IsPermutation (eq_by_cmp row_cmp) (eq_by_cmp_equiv row_cmp_total).symm front (map shown_key kept) (IsPermutation-sym _ _ found) (rising_apart row_cmp_total front (front_climbs front key climb))
+    apart =
+        IsDistinct-IsPermutation (eq_by_cmp row_cmp) (eq_by_cmp_equiv row_cmp_total).symm front (map shown_key kept) (IsPermutation-sym _ _ found)
+        (rising_apart row_cmp_total front (front_climbs front key climb))
 
 -- the last row that was given, and the next one, which ties with it
-pub pair_doubled : (last : Option Row) (row : Row) (rows given more : List Row) → EndsWith last given → order_after last row ≡ Equal → IsKeyRow row → AreSpread rows → Climb given → IsPermutation (map shown_key rows) ((given ++ row ∷ []) ++ more) → NoneAbove row_cmp_total ((given ++ row ∷ []) ++ more)
+pub pair_doubled : (last : Option Row) (row : Row) (rows given more : List Row) → EndsWith last given → order_after last row ≡ Equal → IsKeyRow row → AreSpread rows → Climb given
+    → IsPermutation (map shown_key rows) ((given ++ row ∷ []) ++ more) → NoneAbove row_cmp_total ((given ++ row ∷ []) ++ more)
     → IsDoubled rows row
 pair_doubled None row rows given more ends tie it spread climb same up = absurd (cc)
 pair_doubled (Some last) row rows given more ends tie it spread climb same up =
@@ -248,7 +263,8 @@ all_given tree trees rows answer =
 -- and in the order of callers and keys
 pub all_ordered : (tree : ℕ) (trees : Trees) (rows : List Row) → IsAnswerAs Null (keys_query tree) (overlay trees []) [] rows → NoneAbove row_cmp_total rows
 all_ordered tree trees rows answer =
-    subst (NoneAbove row_cmp_total) (sym it.shown) (in_turn it.outs (λ o h. let from = out_from tree [] (by_columns (1 ∷ 2 ∷ [])) (col 1 1 ∷ col 1 2 ∷ []) trees [] rows it o h in (from.0, from.2)) (ascends (output_cmp_total (keys_query tree)) it.outs it.sorted))
+    subst (NoneAbove row_cmp_total) (sym it.shown) (in_turn it.outs (λ o h. let from = out_from tree [] (by_columns (1 ∷ 2 ∷ [])) (col 1 1 ∷ col 1 2 ∷ []) trees [] rows it o h in (from.0, from.2))
+    (ascends (output_cmp_total (keys_query tree)) it.outs it.sorted))
   where
     shows : Row → Output
     shows = out tree [] (by_columns (1 ∷ 2 ∷ [])) (col 1 1 ∷ col 1 2 ∷ []) trees []
@@ -265,7 +281,8 @@ all_ordered tree trees rows answer =
         let shown : is_lt (row_cmp (shown_key of_y.0) (shown_key of_x.0)) ≡ false = sym (ap is_lt (compares (1 ∷ 2 ∷ []) [] of_y.0 of_x.0 [] [])) ∙ named in
         subst (λ z. is_lt (row_cmp z.1 x.1) ≡ false) (sym of_y.1) (subst (λ z. is_lt (row_cmp (shown_key of_y.0) z.1) ≡ false) (sym of_x.1) shown)
 
-    each : (x : Output) (ys : List Output) → IsOf x → ((o : Output) → Has ys o → IsOf o) → AllByRecursion (λ y. is_lt (output_cmp (keys_query tree) y x) ≡ false) ys → AllByRecursion (λ y. is_lt (row_cmp y x.1) ≡ false) (map (λ (o : Output). o.1) ys)
+    each : (x : Output) (ys : List Output) → IsOf x → ((o : Output) → Has ys o → IsOf o) → AllByRecursion (λ y. is_lt (output_cmp (keys_query tree) y x) ≡ false) ys
+        → AllByRecursion (λ y. is_lt (row_cmp y x.1) ≡ false) (map (λ (o : Output). o.1) ys)
     each x [] of_x of up = tt
     each x (y ∷ ys) of_x of up = (not_above x y of_x (of y (inl refl)) up.0, each x ys of_x (λ o h. of o (inr h)) up.1)
 

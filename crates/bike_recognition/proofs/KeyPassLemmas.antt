@@ -15,11 +15,11 @@ use Rattle.sqlite.specs.Listing.{understood}
 use Rattle.sqlite.specs.State.{State, HasCleanDisk, IsUnchanged, Survives, CommitsShowing, Shown}
 use Rattle.sqlite.proofs.Callers.{IsPlain, reads_as as shown_as, begins_as, given_begin, begun_plain, never_commits}
 use Rattle.sqlite.proofs.StateLemmas.{survives_weaker}
-use Rattle.bike_rows.specs.Calls.{IsQuiet, ReadsWhere, StopsWhere}
-use Rattle.bike_rows.proofs.CallLaws.{FollowsQuery, TellsLender}
-use Rattle.bike_rows.proofs.ChainLaws.{reads_as, reads_both}
-use Rattle.bike_rows.proofs.ReadLemmas.{query_stopped}
-use Rattle.bike_rows.proofs.SortLemmas.{NoneAbove}
+use Rattle.bike_sql.specs.Calls.{IsQuiet, ReadsWhere, StopsWhere}
+use Rattle.bike_sql.proofs.CallLaws.{FollowsQuery, TellsLender}
+use Rattle.bike_sql.proofs.ChainLaws.{reads_as, reads_both}
+use Rattle.bike_sql.proofs.ReadLemmas.{query_stopped}
+use Rattle.bike_sql.proofs.SortLemmas.{NoneAbove}
 use Rattle.bike_recognition.specs.Keys.{KeptLies, TellsKeys, shown_key, keys_text, IsKeyRow, order_after, AreClimbing, BeginsKeys, GivesNext}
 use Rattle.bike_recognition.proofs.KeyClimbLemmas.{climb_more, given_keyed, pair_doubled, all_given, all_ordered}
 use Rattle.bike_recognition.proofs.KeyTexts.{asks_keys}
@@ -50,13 +50,17 @@ module _ {S : Type 0} (g : Ghosts S) where
 
   -- ---- the query
 
-  quiet_query : (old new : Held S) → (old.in_transaction ≡ false → new.in_transaction ≡ false) → Survives (state g old) (state g new) (CommitsShowing keys_text [] (state g old)) → IsQuiet g KeptLies old new
+  quiet_query : (old new : Held S) → (old.in_transaction ≡ false → new.in_transaction ≡ false) → Survives (state g old) (state g new) (CommitsShowing keys_text [] (state g old))
+      → IsQuiet g KeptLies old new
   quiet_query old new mode survives = record {
     mode = mode;
-    survives = survives_weaker (state g old) (state g new) _ (λ _. ¬ KeptLies (state g old).now) (λ clean db commits has. never_commits keys_text [] (state g old) db (plain (state g old).now has) commits) survives;
+    survives =
+        survives_weaker (state g old) (state g new) _ (λ _. ¬ KeptLies (state g old).now)
+        (λ clean db commits has. never_commits keys_text [] (state g old) db (plain (state g old).now has) commits) survives;
   }
 
-  begins : (old new : Held S) → (HasCleanDisk (state g new) → HasBegun g keys_text [] old new) → (old.in_transaction ≡ false → new.in_transaction ≡ false) → Survives (state g old) (state g new) (CommitsShowing keys_text [] (state g old))
+  begins : (old new : Held S) → (HasCleanDisk (state g new) → HasBegun g keys_text [] old new) → (old.in_transaction ≡ false → new.in_transaction ≡ false)
+      → Survives (state g old) (state g new) (CommitsShowing keys_text [] (state g old))
       → ReadsWhere g KeptLies old new {X = Unit {0}} {E = Error} (Ok tt) (λ db _. AreClimbing g new None)
   begins old new begun mode survives = record {
     found = λ clean has. record { given = []; climb = tt; ends = refl; gave = (both clean has).0 };
@@ -68,7 +72,8 @@ module _ {S : Type 0} (g : Ghosts S) where
       both : HasCleanDisk (state g new) → KeptLies (state g old).now → HasGiven g keys_text [] new [] × IsUnchanged (state g old) (state g new)
       both clean has = begun_plain g keys_text [] old new (plain (state g old).now has) (begun clean)
 
-  pub walk_begins : (conn : MutBor (Held S)) (r : Result (Rows S g) Error) (sent : Row) (query : FollowsQuery g conn keys_text sent r) → sent ≡ [] → TellsLender g KeptLies conn query.lender query.lender-at-none r × record { lends : Unit {0}; begins : BeginsKeys g conn r }
+  pub walk_begins : (conn : MutBor (Held S)) (r : Result (Rows S g) Error) (sent : Row) (query : FollowsQuery g conn keys_text sent r) → sent ≡ []
+      → TellsLender g KeptLies conn query.lender query.lender-at-none r × record { lends : Unit {0}; begins : BeginsKeys g conn r }
   walk_begins conn r sent query same =
       let h = query.claims in (
         (refl, query.holds, stops query.lender-at-none r (subst (λ values. OnErr r (IsRefused g keys_text values conn.now r query.lender-at-none)) same query.holds-at-none)),
@@ -76,7 +81,9 @@ module _ {S : Type 0} (g : Ghosts S) where
           lends = tt;
           begins = record {
             same_reference = h.0;
-            begun = begun r (subst (λ values. IfOk r (λ rows. HasCleanDisk (state g rows.conn.now) → HasBegun g keys_text values conn.now rows.conn.now)) same h.1.0) h.1.1.0 (subst (λ values. IfOk r (λ rows. Survives (state g conn.now) (state g rows.conn.now) (CommitsShowing keys_text values (state g conn.now)))) same h.1.1.1);
+            begun =
+                begun r (subst (λ values. IfOk r (λ rows. HasCleanDisk (state g rows.conn.now) → HasBegun g keys_text values conn.now rows.conn.now)) same h.1.0) h.1.1.0
+                (subst (λ values. IfOk r (λ rows. Survives (state g conn.now) (state g rows.conn.now) (CommitsShowing keys_text values (state g conn.now)))) same h.1.1.1);
           };
         },
       )
@@ -88,8 +95,10 @@ module _ {S : Type 0} (g : Ghosts S) where
         quiet = quiet_query conn.now last it.mode it.survives;
       }
 
-      begun : (q : Result (Rows S g) Error) → IfOk q (λ rows. HasCleanDisk (state g rows.conn.now) → HasBegun g keys_text [] conn.now rows.conn.now) → IfOk q (λ rows. conn.now.in_transaction ≡ false → rows.conn.now.in_transaction ≡ false)
-          → IfOk q (λ rows. Survives (state g conn.now) (state g rows.conn.now) (CommitsShowing keys_text [] (state g conn.now))) → IfOk q (λ rows. ReadsWhere g KeptLies conn.now rows.conn.now {X = Unit {0}} {E = Error} (Ok tt) (λ db _. AreClimbing g rows.conn.now None))
+      begun : (q : Result (Rows S g) Error) → IfOk q (λ rows. HasCleanDisk (state g rows.conn.now) → HasBegun g keys_text [] conn.now rows.conn.now)
+          → IfOk q (λ rows. conn.now.in_transaction ≡ false → rows.conn.now.in_transaction ≡ false)
+          → IfOk q (λ rows. Survives (state g conn.now) (state g rows.conn.now) (CommitsShowing keys_text [] (state g conn.now)))
+          → IfOk q (λ rows. ReadsWhere g KeptLies conn.now rows.conn.now {X = Unit {0}} {E = Error} (Ok tt) (λ db _. AreClimbing g rows.conn.now None))
       begun (Ok rows) it mode survives = begins conn.now rows.conn.now it mode survives
       begun (Err e) it mode survives = tt
 
@@ -117,14 +126,16 @@ module _ {S : Type 0} (g : Ghosts S) where
 
     module _ {E : Type 0} (old : Held S) (last : Option Row) (so_far : ReadsWhere g KeptLies old mid {X = Unit {0}} {E = E} (Ok tt) (λ db _. AreClimbing g mid last)) where
       -- a row above the last
-      pub walks_on : {F : Type 0} (row : Row) (order : Ordering) → GivesNext g mid new {E = F} (Ok (Some row)) → order ≡ Less → IsKeyRow row × (order ≡ order_after last row) → ReadsWhere g KeptLies old new {X = Unit {0}} {E = E} (Ok tt) (λ db _. AreClimbing g new (Some row))
+      pub walks_on : {F : Type 0} (row : Row) (order : Ordering) → GivesNext g mid new {E = F} (Ok (Some row)) → order ≡ Less → IsKeyRow row × (order ≡ order_after last row)
+          → ReadsWhere g KeptLies old new {X = Unit {0}} {E = E} (Ok tt) (λ db _. AreClimbing g new (Some row))
       walks_on row order it above ranks = reads_as (reads_both so_far (step (Some row) it)) (λ db both.
           let was = both.0 in
           let more = both.1 was.given was.gave in
           record { given = was.given ++ row ∷ []; climb = climb_more last row was.given was.climb was.ends (sym ranks.1 ∙ above); ends = (was.given, refl); gave = more.0 })
 
       -- the last once more
-      pub walk_doubled : {F G : Type 0} (row : Row) (order : Ordering) → GivesNext g mid new {E = F} (Ok (Some row)) → order ≡ Equal → IsKeyRow row × (order ≡ order_after last row) → ReadsWhere g KeptLies old new {E = G} (Ok (Some row)) (λ db found. (it : KeptLies db) → TellsKeys db it.tree found)
+      pub walk_doubled : {F G : Type 0} (row : Row) (order : Ordering) → GivesNext g mid new {E = F} (Ok (Some row)) → order ≡ Equal → IsKeyRow row × (order ≡ order_after last row)
+          → ReadsWhere g KeptLies old new {E = G} (Ok (Some row)) (λ db found. (it : KeptLies db) → TellsKeys db it.tree found)
       walk_doubled row order it tie ranks = reads_as (reads_both so_far (step (Some row) it)) (λ db both kept.
           let was = both.0 in
           let first = (both.1 was.given was.gave).1 kept in
@@ -132,4 +143,5 @@ module _ {S : Type 0} (g : Ghosts S) where
 
       -- the end
       pub walk_ends : {F G : Type 0} → GivesNext g mid new {E = F} (Ok None) → ReadsWhere g KeptLies old new {E = G} (Ok None) (λ db found. (it : KeptLies db) → TellsKeys db it.tree found)
-      walk_ends it = reads_as (reads_both so_far (step None it)) (λ db both kept. let was = both.0 in given_keyed kept.tree (db.trees kept.tree) was.given kept.apart was.climb (both.1 was.given was.gave kept))
+      walk_ends it =
+          reads_as (reads_both so_far (step None it)) (λ db both kept. let was = both.0 in given_keyed kept.tree (db.trees kept.tree) was.given kept.apart was.climb (both.1 was.given was.gave kept))

@@ -3,9 +3,9 @@ use Rattle.std.proofs.Common.{ℕ, List, refl}
 use Rattle.sqlite_schema.specs.declared.schema.Schema.{Schema}
 use Rattle.sqlite_tied.specs.Compute.{everything}
 use Rattle.bike_sql.specs.Has.{HasTable}
-use Rattle.bike_rows.specs.Answer.{MeansQuery}
-use Rattle.bike_rows.specs.Layout.{table_of}
-use Rattle.bike_rows.proofs.TextLemmas.{IsSelect, select_means}
+use Rattle.bike_sql.specs.Answer.{MeansQuery}
+use Rattle.bike_sql.specs.Layout.{table_of}
+use Rattle.bike_sql.proofs.TextLemmas.{IsSelect, select_means}
 use Rattle.bike_book.specs.Tables.{Kept}
 use Rattle.bike_schema.specs.Layouts.{layout_of}
 use Rattle.bike_recognition.specs.Keys.{keys_text, keys_query}

@@ -8,9 +8,9 @@ use Rattle.sqlite.specs.Effect.{Database}
 use Rattle.sqlite.specs.Held.{Held, state}
 use Rattle.sqlite.specs.State.{State, HasCleanDisk, IsNotRun, Survives}
 use Rattle.sqlite.proofs.StateLemmas.{survives_weaker}
-use Rattle.bike_rows.specs.Calls.{IsQuiet, ReadsWhere}
-use Rattle.bike_rows.specs.Outcome.{IsLeft}
-use Rattle.bike_rows.proofs.ChainLaws.{quiet_survives, reads_both}
+use Rattle.bike_sql.specs.Calls.{IsQuiet, ReadsWhere}
+use Rattle.bike_sql.specs.Outcome.{IsLeft}
+use Rattle.bike_sql.proofs.ChainLaws.{quiet_survives, reads_both}
 use Rattle.bike_schema.proofs.AnswerLemmas.{reads_weaker}
 use Rattle.bike_recognition.specs.Recognition.{AnyDatabase, ReadsAny}
 
@@ -25,13 +25,16 @@ module _ {S : Type 0} {g : Ghosts S} {old new : Held S} where
   quiet_any mode survives = record { mode = mode; survives = survives_weaker (state g old) (state g new) (λ _. ⊥) _ (λ clean db none. absurd none) survives }
 
   -- a statement that couldn't be prepared
-  pub unprepared : {X E : Type 0} {result : Result X E} {says : Database → X → Type 0} (text : List ℕ) (e : Error) → IsErr result → (HasCleanDisk (state g new) → (params : Row) → IsNotRun (state g old) (state g new) text params e)
+  pub unprepared : {X E : Type 0} {result : Result X E} {says : Database → X → Type 0} (text : List ℕ) (e : Error) → IsErr result
+      → (HasCleanDisk (state g new) → (params : Row) → IsNotRun (state g old) (state g new) text params e)
       → (old.in_transaction ≡ false → new.in_transaction ≡ false) → Survives (state g old) (state g new) (λ _. ⊥) → ReadsAny g old new result says
   unprepared {result = Ok x} text e is refused mode survives = absurd (let never = is in cc)
-  unprepared {result = Err f} text e is refused mode survives = record { found = λ clean _. tt; same = λ clean _. tt; failed = λ clean _. not_run (state g old) (state g new) text [] e (refused clean []); quiet = quiet_any mode survives }
+  unprepared {result = Err f} text e is refused mode survives =
+      record { found = λ clean _. tt; same = λ clean _. tt; failed = λ clean _. not_run (state g old) (state g new) text [] e (refused clean []); quiet = quiet_any mode survives }
 
   -- a read where something was known after all
-  pub reads_any : {P : Database → Type 0} {X E : Type 0} {result : Result X E} {says : Database → X → Type 0} → P (state g old).now → ReadsWhere g P old new result says → ReadsAny g old new result says
+  pub reads_any : {P : Database → Type 0} {X E : Type 0} {result : Result X E} {says : Database → X → Type 0} → P (state g old).now → ReadsWhere g P old new result says
+      → ReadsAny g old new result says
   reads_any has it = record {
     found = λ clean _. it.found clean has;
     same = λ clean _. it.same clean has;
@@ -40,7 +43,8 @@ module _ {S : Type 0} {g : Ghosts S} {old new : Held S} where
   }
 
   -- More follows of a value that was read, from what is known of the database that the read left.
-  pub reads_more : {X Y E F : Type 0} {x : X} {y : Y} {says : Database → X → Type 0} {told : Database → Y → Type 0} → ReadsAny {E = E} g old new (Ok x) says → (HasCleanDisk (state g new) → IsTrue (state g new).is_open → says (state g new).now x → told (state g new).now y)
+  pub reads_more : {X Y E F : Type 0} {x : X} {y : Y} {says : Database → X → Type 0} {told : Database → Y → Type 0} → ReadsAny {E = E} g old new (Ok x) says
+      → (HasCleanDisk (state g new) → IsTrue (state g new).is_open → says (state g new).now x → told (state g new).now y)
       → ReadsAny {E = F} g old new (Ok y) told
   reads_more {x = x} {y = y} {says = says} {told = told} it more = record {
     found = λ clean any. let same = it.same clean any in subst (λ db. told db y) same.0.now_is (more clean same.0.is_open (subst (λ db. says db x) (sym same.0.now_is) (it.found clean any)));
@@ -50,7 +54,8 @@ module _ {S : Type 0} {g : Ghosts S} {old new : Held S} where
   }
 
   -- what was known of the database is known of it still
-  pub reads_here : {X E : Type 0} {result : Result X E} {says told : Database → X → Type 0} → ReadsAny g old new result says → ((x : X) → says (state g old).now x → told (state g old).now x) → ReadsAny g old new result told
+  pub reads_here : {X E : Type 0} {result : Result X E} {says told : Database → X → Type 0} → ReadsAny g old new result says → ((x : X) → says (state g old).now x → told (state g old).now x)
+      → ReadsAny g old new result told
   reads_here {result = result} it then = record { found = λ clean any. IfOk-weaker result _ _ then (it.found clean any); same = it.same; failed = it.failed; quiet = it.quiet }
 
   -- a read of any database is one of some
@@ -63,7 +68,8 @@ module _ {S : Type 0} {g : Ghosts S} {old new : Held S} where
   }
 
 -- A read that finds out what the next one asks for.
-pub reads_once : {S X Y E F : Type 0} {g : Ghosts S} {old mid new : Held S} {P : Database → Type 0} {x : X} {result : Result Y F} {says : Database → X → Type 0} {told : Database → Y → Type 0} → ReadsAny {E = E} g old mid (Ok x) says → ((db : Database) → says db x → P db)
+pub reads_once : {S X Y E F : Type 0} {g : Ghosts S} {old mid new : Held S} {P : Database → Type 0} {x : X} {result : Result Y F} {says : Database → X → Type 0} {told : Database → Y → Type 0}
+    → ReadsAny {E = E} g old mid (Ok x) says → ((db : Database) → says db x → P db)
     → ReadsWhere g P mid new result told → ReadsAny g old new result (λ db y. P db × told db y)
 reads_once {F = F} {g = g} {old = old} {mid = mid} {new = new} {P = P} {result = result} {told = told} one finds two = reads_weaker (reads_both one at_mid) (λ db y both. both.1)
   where

@@ -14,10 +14,10 @@ use Rattle.sqlite.specs.Held.{Held, state}
 use Rattle.sqlite.specs.State.{HasCleanDisk, IsUnchanged, Survives, CommitsShowing}
 use Rattle.sqlite.proofs.Callers.{reads_as, begun_plain, never_commits, unchanged_then}
 use Rattle.sqlite.proofs.StateLemmas.{survives_weaker}
-use Rattle.bike_rows.specs.Calls.{IsQuiet, ReadsWhere, StopsWhere}
-use Rattle.bike_rows.proofs.CallLaws.{FollowsQuery, TellsLender}
-use Rattle.bike_rows.proofs.ChainLaws.{quiet_step}
-use Rattle.bike_rows.proofs.ReadLemmas.{query_stopped}
+use Rattle.bike_sql.specs.Calls.{IsQuiet, ReadsWhere, StopsWhere}
+use Rattle.bike_sql.proofs.CallLaws.{FollowsQuery, TellsLender}
+use Rattle.bike_sql.proofs.ChainLaws.{quiet_step}
+use Rattle.bike_sql.proofs.ReadLemmas.{query_stopped}
 use Rattle.bike_recognition.specs.declared.rowids.Rowid.{Rowid}
 use Rattle.bike_recognition.specs.declared.rowids.NextRowid.{NextRowid}
 use Rattle.bike_recognition.specs.declared.rowids.NextRowid.TheVariants.{Number, End}
@@ -60,7 +60,8 @@ module _ {S : Type 0} (g : Ghosts S) (text : List ℕ) where
         quiet = quiet_of conn.now last it.mode it.survives;
       }
 
-      quiets : (q : Result (Rows S g) Error) → IfOk q (λ rows. conn.now.in_transaction ≡ false → rows.conn.now.in_transaction ≡ false) → IfOk q (λ rows. Survives (state g conn.now) (state g rows.conn.now) (CommitsShowing text [] (state g conn.now)))
+      quiets : (q : Result (Rows S g) Error) → IfOk q (λ rows. conn.now.in_transaction ≡ false → rows.conn.now.in_transaction ≡ false)
+          → IfOk q (λ rows. Survives (state g conn.now) (state g rows.conn.now) (CommitsShowing text [] (state g conn.now)))
           → IfOk q (λ rows. IsQuiet g Asks conn.now rows.conn.now)
       quiets (Ok rows) mode survives = quiet_of conn.now rows.conn.now mode survives
       quiets (Err e) mode survives = tt
@@ -85,7 +86,12 @@ module _ {S : Type 0} (g : Ghosts S) (text : List ℕ) where
       climbing = λ clean asks.
           let so_far = was.climbing (before it clean) asks in
           let more = climb_more last id so_far.ids so_far.climb so_far.reach above in
-          record { ids = so_far.ids ++ id.number ∷ []; climb = more.0; reach = more.1; gave = subst (HasGiven g text [] new) (sym (map-append rowid_row so_far.ids (id.number ∷ []))) (it.next clean text (map rowid_row so_far.ids) so_far.gave) };
+          record {
+            ids = so_far.ids ++ id.number ∷ [];
+            climb = more.0;
+            reach = more.1;
+            gave = subst (HasGiven g text [] new) (sym (map-append rowid_row so_far.ids (id.number ∷ []))) (it.next clean text (map rowid_row so_far.ids) so_far.gave);
+          };
     }
 
     -- the end

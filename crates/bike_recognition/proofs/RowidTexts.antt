@@ -12,8 +12,8 @@ use Rattle.sqlite_tied.specs.Compute.{everything}
 use Rattle.bike_sql.specs.Has.{HasTable, of_tables}
 use Rattle.bike_sql.specs.Reads.{draft_of, of_query, one_select, IsDraft}
 use Rattle.bike_sql.proofs.ReadLaws.{select_is}
-use Rattle.bike_rows.specs.Layout.{Layout, table_of}
-use Rattle.bike_rows.proofs.TextLemmas.{IsSelect, Drafts, alone, select_means}
+use Rattle.bike_sql.specs.Layout.{Layout, table_of}
+use Rattle.bike_sql.proofs.TextLemmas.{IsSelect, Drafts, alone, select_means}
 use Rattle.bike_book.specs.Tables.{Meta, System, Plans, Segments, Types, Regions, Stations, Docks, Bikes, Trucks, Riders, Rentals, Orders, Entries, Kept, Counts, MoreNames}
 use Rattle.bike_schema.specs.Layouts.{layout_of, layout_by}
 use Rattle.bike_recognition.specs.Rowids.{rowids_query}

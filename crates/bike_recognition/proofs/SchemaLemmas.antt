@@ -6,8 +6,8 @@ use Rattle.sqlite_schema.specs.declared.schema.Schema.{Schema}
 use Rattle.sqlite_schema.specs.declared.schema.Table.{Table}
 use Rattle.bike_sql.specs.Found.{IsPlainTable, StandsAt, with_tree}
 use Rattle.bike_sql.specs.Has.{HasTable}
-use Rattle.bike_rows.specs.Stands.{is_referred_to}
-use Rattle.bike_rows.proofs.ListLemmas.{same_some}
+use Rattle.bike_sql.specs.Stands.{is_referred_to}
+use Rattle.bike_sql.proofs.RowListLemmas.{same_some}
 use Rattle.bike_recognition.specs.Wanted.{HasWanted}
 
 some_none : {X : Type 0} {x : X} {o : Option X} → o ≡ Some x → o ≡ None → ⊥

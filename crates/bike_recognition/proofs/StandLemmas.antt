@@ -14,12 +14,12 @@ use Rattle.sqlite.specs.Effect.{Database, IsDatabase}
 use Rattle.sqlite.specs.Held.{Held, state}
 use Rattle.sqlite.specs.State.{IsLive}
 use Rattle.bike_sql.specs.Found.{IsPlainTable, HasNoDefaults}
-use Rattle.bike_rows.specs.Calls.{ReadsWhere}
-use Rattle.bike_rows.specs.Layout.{Layout, table_of}
-use Rattle.bike_rows.specs.Stands.{Stands}
-use Rattle.bike_rows.specs.View.{IsKeyed}
-use Rattle.bike_rows.proofs.KeyLemmas.{IsKeyOf}
-use Rattle.bike_rows.proofs.ChainLaws.{reads_both}
+use Rattle.bike_sql.specs.Calls.{ReadsWhere}
+use Rattle.bike_sql.specs.Layout.{Layout, table_of}
+use Rattle.bike_sql.specs.Stands.{Stands}
+use Rattle.bike_sql.specs.View.{IsKeyed}
+use Rattle.bike_sql.proofs.KeyLemmas.{IsKeyOf}
+use Rattle.bike_sql.proofs.ChainLaws.{reads_both}
 use Rattle.bike_book.specs.Tables.{TableName}
 use Rattle.bike_schema.specs.Layouts.{layout_of, layout_by, every_table}
 use Rattle.bike_schema.specs.Tables.{HasTables}
@@ -81,7 +81,8 @@ module _ (layout : Layout) (plain : IsPlainTable (table_of layout 0)) where
   SaysLies db lies = IsTrue lies ↔ Lies db layout
 
   -- the schema doesn't have it
-  pub lacks : {S E F : Type 0} {g : Ghosts S} {old mid : Held S} → ReadsAny {E = E} g old mid (Ok (tt {0})) (λ db _. AnyDatabase db) → (HasWanted (state g mid).now.schema wanted → ⊥) → ReadsAny {E = F} g old mid (Ok false) SaysLies
+  pub lacks : {S E F : Type 0} {g : Ghosts S} {old mid : Held S} → ReadsAny {E = E} g old mid (Ok (tt {0})) (λ db _. AnyDatabase db) → (HasWanted (state g mid).now.schema wanted → ⊥)
+      → ReadsAny {E = F} g old mid (Ok false) SaysLies
   lacks first not_there = reads_more first (λ clean opened any. (
     (λ never. absurd (true≢false (sym never))),
     λ it. absurd (not_there (record { plain = plain; tree = it.tree; there = record { at = it.at; has = it.has; unreferred = it.unreferred } })),
@@ -91,14 +92,16 @@ module _ (layout : Layout) (plain : IsPlainTable (table_of layout 0)) where
     abbrev asks_there : (db : Database) → HasWanted db.schema wanted → AsksRowids db text
     asks_there db it = let asked = asks db.schema it.there.at it.tree it.there.has in record { tree = it.tree; names = asked.0; means = asked.1 }
 
-    module _ {S : Type 0} {g : Ghosts S} {old mid new : Held S} {E F : Type 0} (first : ReadsAny {E = E} g old mid (Ok (tt {0})) (λ db _. AnyDatabase db)) (there : HasWanted (state g mid).now.schema wanted) where
+    module _ {S : Type 0} {g : Ghosts S} {old mid new : Held S} {E F : Type 0} (first : ReadsAny {E = E} g old mid (Ok (tt {0})) (λ db _. AnyDatabase db))
+        (there : HasWanted (state g mid).now.schema wanted) where
       -- the schema has it, and its rowids were passed over
       pub passed_over : {result : Result Bool F} → ReadsWhere g (λ db. AsksRowids db text) mid new result (λ db y. IsTrue y → (it : AsksRowids db text) → AreApart (db.trees it.tree))
           → ReadsAny g old new result (λ db y. AnyDatabase db × (IsTrue y → (it : AsksRowids db text) → AreApart (db.trees it.tree)))
       passed_over it = reads_both first (reads_any (asks_there (state g mid).now there) it)
 
       -- .. and are apart: what follows of a table that lies in an open database
-      pub apart_then : {says : Database → Bool → Type 0} {apart : Bool} → apart ≡ true → ReadsWhere g (λ db. AsksRowids db text) mid new {E = E} (Ok apart) (λ db y. IsTrue y → (it : AsksRowids db text) → AreApart (db.trees it.tree))
+      pub apart_then : {says : Database → Bool → Type 0} {apart : Bool} → apart ≡ true
+          → ReadsWhere g (λ db. AsksRowids db text) mid new {E = E} (Ok apart) (λ db y. IsTrue y → (it : AsksRowids db text) → AreApart (db.trees it.tree))
           → (IsTrue (state g mid).is_open → Lies (state g mid).now layout → says (state g mid).now true) → ReadsAny {E = F} g old new (Ok true) says
       apart_then {says = says} same it then = reads_weaker (reads_both first at_mid) (λ db y both. both.1)
         where
@@ -116,24 +119,28 @@ module _ (layout : Layout) (plain : IsPlainTable (table_of layout 0)) where
             quiet = (reads_any asked it).quiet;
           }
 
-      pub lies : {apart : Bool} → apart ≡ true → ReadsWhere g (λ db. AsksRowids db text) mid new {E = E} (Ok apart) (λ db y. IsTrue y → (it : AsksRowids db text) → AreApart (db.trees it.tree)) → ReadsAny {E = F} g old new (Ok true) SaysLies
+      pub lies : {apart : Bool} → apart ≡ true → ReadsWhere g (λ db. AsksRowids db text) mid new {E = E} (Ok apart) (λ db y. IsTrue y → (it : AsksRowids db text) → AreApart (db.trees it.tree))
+          → ReadsAny {E = F} g old new (Ok true) SaysLies
       lies same it = apart_then same it (λ opened lying. ((λ _. lying), λ _. refl))
 
 -- a table whose key the engine keeps
-module _ (keys : ℕ) (layout : Layout) (plain : IsPlainTable (table_of layout 0)) (key : IsKeyOf keys layout) (text : List ℕ) (asks : AsksRowidsOf layout text) {S : Type 0} {g : Ghosts S} {old mid new : Held S} {E F : Type 0}
+module _ (keys : ℕ) (layout : Layout) (plain : IsPlainTable (table_of layout 0)) (key : IsKeyOf keys layout) (text : List ℕ) (asks : AsksRowidsOf layout text) {S : Type 0} {g : Ghosts S}
+    {old mid new : Held S} {E F : Type 0}
     (first : ReadsAny {E = E} g old mid (Ok (tt {0})) (λ db _. AnyDatabase db)) (there : HasWanted (state g mid).now.schema (table_of layout 0)) where
   pub passed : {result : Result Bool F} → ReadsWhere g (λ db. AsksRowids db text) mid new result (λ db y. IsTrue y → (it : AsksRowids db text) → AreApart (db.trees it.tree))
       → ReadsAny g old new result (λ db y. AnyDatabase db × (IsTrue y → (it : AsksRowids db text) → AreApart (db.trees it.tree)))
   passed it = passed_over layout plain text asks first there it
 
-  pub stands : {apart : Bool} → IsLive (state g mid) → apart ≡ true → ReadsWhere g (λ db. AsksRowids db text) mid new {E = E} (Ok apart) (λ db y. IsTrue y → (it : AsksRowids db text) → AreApart (db.trees it.tree))
+  pub stands : {apart : Bool} → IsLive (state g mid) → apart ≡ true → ReadsWhere g (λ db. AsksRowids db text) mid new {E = E} (Ok apart)
+      (λ db y. IsTrue y → (it : AsksRowids db text) → AreApart (db.trees it.tree))
       → ReadsAny {E = F} g old new (Ok true) (λ db stands. IsTrue stands ↔ Stands db keys layout)
   stands live same it = apart_then layout plain text asks first there same it (λ opened lying. ((λ _. own_stands key (state g mid).now (live opened).0 lying), λ _. refl))
 
 -- ---- all tables
 
 -- the first of some tables stands, and the rest of the slice was looked at
-pub first_on : (db : Database) (tables : List Name) (missing : Option TableName) → 1 ≤ length tables → TableStands (table_named (get_or tables 0 name.Meta)) db → IsFirstMissing db (map table_named (take (length tables - 1) (drop 1 tables))) missing → IsFirstMissing db (map table_named tables) missing
+pub first_on : (db : Database) (tables : List Name) (missing : Option TableName) → 1 ≤ length tables → TableStands (table_named (get_or tables 0 name.Meta)) db
+    → IsFirstMissing db (map table_named (take (length tables - 1) (drop 1 tables))) missing → IsFirstMissing db (map table_named tables) missing
 first_on db [] missing some first more = absurd (omega (arith, some))
 first_on db (t ∷ tables) missing some first more = inr (first, subst (λ ts. IsFirstMissing db (map table_named ts) missing) (take_all (length (t ∷ tables) - 1) tables (omega arith)) more)
 

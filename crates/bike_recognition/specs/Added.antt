@@ -1,4 +1,5 @@
--- UNIQUE indexes that somebody added to a table of the product's. A change of rows that breaks no rule of ours could fail on one.
+-- UNIQUE indexes that somebody added to a table of the product's.
+-- A change of rows that breaks no rule of ours could fail on one.
 use Rattle.std.specs.Prelude.{ℕ, ◌==◌, ◌&&◌, Bool, not, List, bytes_eq}
 use Rattle.std.specs.List.{list_any}
 use Rattle.sqlite_value.specs.Keys.{plain}
@@ -12,7 +13,8 @@ use Rattle.bike_schema.specs.Layouts.{name_of, every_table}
 abbrev pub is_over : Index → List ℕ → Bool
 is_over index key = bytes_eq index.columns key
 
--- the index is over the columns of a key of the table, a PRIMARY KEY or UNIQUE of its CREATE TABLE, each by its bytes and ascending, as the keys of the product's tables are
+-- the index is over the columns of a key of the table, a PRIMARY KEY or UNIQUE of its
+-- CREATE TABLE, each by its bytes and ascending, as the keys of the product's tables are
 abbrev pub is_of_key : Table → Index → Bool
 is_of_key table index = (index.order.digits == plain.digits) && list_any (is_over index) table.uniques
 
@@ -32,7 +34,7 @@ is_product_name name = list_any (λ t. same_name name (name_of t)) every_table
 abbrev pub is_hindered : Schema → Table → Bool
 is_hindered schema table = is_product_name table.name && has_added schema table
 
--- SOMEBODY ADDED a UNIQUE index to a table of the product's. Earlier versions have these tables too, but for that of stations, whose rows are only read and
--- which goes when the database is raised.
+-- SOMEBODY ADDED a UNIQUE index to a table of the product's. Earlier versions have these tables too, but for that of
+-- stations, whose rows are only read and which goes when the database is raised.
 abbrev pub has_added_unique : Schema → Bool
 has_added_unique schema = list_any (is_hindered schema) schema.tables

@@ -1,5 +1,7 @@
--- The callers and keys of a `kept` whose layout keeps no key: that no two rows have one is found out by a walk over them.
-use Rattle.std.specs.Prelude.{◌≡◌, ℕ, List, [], ◌∷◌, ◌++◌, codes, false, Option, Some, None, Result, Ok, IfOk, OnOk, OnErr}
+-- The callers and keys of a `kept` whose layout keeps no key:
+-- that no two rows have one is found out by a walk over them.
+use Rattle.std.specs.Prelude.{◌≡◌, ℕ, List, [], ◌∷◌, ◌++◌, codes, false, Option, Some, None, Result, Ok, IfOk, OnOk}
+use Rattle.std.specs.Prelude.{OnErr}
 use Rattle.std.specs.declared.cmp.Ordering.{Ordering}
 use Rattle.std.specs.declared.cmp.Ordering.TheVariants.{Less, Equal}
 use Rattle.std.specs.Borrow.{MutBor}
@@ -15,11 +17,11 @@ use Rattle.sqlite.specs.Effect.{Database}
 use Rattle.sqlite.specs.Given.{HasGiven, Advances}
 use Rattle.sqlite.specs.Held.{Held, state}
 use Rattle.sqlite.specs.State.{HasCleanDisk, IsUnchanged, Survives}
-use Rattle.bike_rows.specs.Calls.{ReadsWhere}
-use Rattle.bike_rows.specs.Layout.{table_of}
-use Rattle.bike_rows.specs.Outcome.{IsLeft}
-use Rattle.bike_rows.specs.Queries.{table_query, by_columns}
-use Rattle.bike_rows.specs.View.{IsKeyed}
+use Rattle.bike_sql.specs.Calls.{ReadsWhere}
+use Rattle.bike_sql.specs.Layout.{table_of}
+use Rattle.bike_sql.specs.Outcome.{IsLeft}
+use Rattle.bike_sql.specs.Queries.{table_query, by_columns}
+use Rattle.bike_sql.specs.View.{IsKeyed}
 use Rattle.bike_book.specs.Tables.{Kept, keys_of}
 use Rattle.bike_schema.specs.Layouts.{layout_of}
 use Rattle.bike_recognition.specs.Wanted.{Lies}
@@ -53,7 +55,8 @@ pub record IsFirst (rows : List Row) (key : Row) : Type 0 where
 abbrev pub IsDoubled : List Row → Row → Type 0
 IsDoubled rows key = AreTwo rows key × IsFirst rows key
 
--- what is told of the table in the tree: nothing, and its first columns are a key; or the first caller and key that two rows have
+-- what is told of the table in the tree: nothing, and its first
+-- columns are a key; or the first caller and key that two rows have
 abbrev pub TellsKeys : Database → ℕ → Option Row → Type 0
 TellsKeys db tree None = IsKeyed (keys_of Kept) (table_of (layout_of Kept) tree) (db.trees tree)
 TellsKeys db tree (Some key) = IsDoubled (db.trees tree) key
@@ -98,7 +101,8 @@ module _ {S : Type 0} (g : Ghosts S) where
   -- The walk began, if it did: no row was given yet.
   pub record BeginsKeys (entry : MutBor (Held S)) {E : Type 0} (result : Result (Rows S g) E) : Type 0 where
     pub same_reference : IfOk result (λ rows. rows.conn.ghost_name ≡ entry.ghost_name)
-    pub begun : IfOk result (λ rows. ReadsWhere g KeptLies entry.now rows.conn.now {X = Unit {0}} {E = E} (Ok tt) (λ db _. AreClimbing rows.conn.now None))
+    pub begun : IfOk result (λ rows. ReadsWhere g KeptLies entry.now rows.conn.now {X = Unit {0}} {E = E} (Ok tt)
+        (λ db _. AreClimbing rows.conn.now None))
 
   -- The next row was given, or there was none.
   pub record GivesNext (old new : Held S) {E : Type 0} (result : Result (Option Row) E) : Type 0 where

@@ -1,7 +1,9 @@
 -- Which table of the schema each name of the code is.
 use Rattle.bike_book.specs.Tables as book
 use Rattle.bike_recognition.specs.declared.table.TableName.{TableName}
-use Rattle.bike_recognition.specs.declared.table.TableName.TheVariants.{Meta, System, Plans, Segments, Types, Regions, Stations, Docks, Bikes, Trucks, Riders, Rentals, Orders, Entries, Kept, Counts, MoreNames}
+use Rattle.bike_recognition.specs.declared.table.TableName.TheVariants.{Meta, System, Plans, Segments, Types, Regions}
+use Rattle.bike_recognition.specs.declared.table.TableName.TheVariants.{Stations, Docks, Bikes, Trucks, Riders, Rentals}
+use Rattle.bike_recognition.specs.declared.table.TableName.TheVariants.{Orders, Entries, Kept, Counts, MoreNames}
 
 abbrev pub table_named : TableName → book.TableName
 table_named Meta = book.Meta

@@ -1,5 +1,6 @@
 -- What a database is to this product, of which nothing is known before.
-use Rattle.std.specs.Prelude.{◌≡◌, ◌⊎◌, ◌==◌, ℤ, pos, if◌then◌else◌, Bool, false, List, [], ◌∷◌, Option, Some, None, Result}
+use Rattle.std.specs.Prelude.{◌≡◌, ◌⊎◌, ◌==◌, ℤ, pos, if◌then◌else◌, Bool, false, List, [], ◌∷◌, Option, Some, None}
+use Rattle.std.specs.Prelude.{Result}
 use Rattle.std.specs.Str.{bytes_eq}
 use Rattle.std.specs.Ordering.{nat_cmp, match_ordering}
 use Rattle.sqlite_value.specs.declared.value.Value.{Value}
@@ -8,9 +9,9 @@ use Rattle.sqlite_value.specs.Order.{Row, column}
 use Rattle.sqlite_trees.specs.declared.store.Store.{Ghosts}
 use Rattle.sqlite.specs.Effect.{Database}
 use Rattle.sqlite.specs.Held.{Held}
-use Rattle.bike_rows.specs.Calls.{ReadsWhere}
-use Rattle.bike_rows.specs.Stands.{rows_of, Stands}
-use Rattle.bike_rows.specs.View.{row_with}
+use Rattle.bike_sql.specs.Calls.{ReadsWhere}
+use Rattle.bike_sql.specs.Stands.{rows_of, Stands}
+use Rattle.bike_sql.specs.View.{row_with}
 use Rattle.bike_book.specs.declared.version.TheConstants.{NEWEST}
 use Rattle.bike_book.specs.Tables.{TableName, Meta, Kept, Counts, MoreNames, is_table, keys_of}
 use Rattle.bike_schema.specs.declared.create.TheConstants.{APP}
@@ -20,7 +21,8 @@ use Rattle.bike_schema.specs.Tables.{HasTables, HasNone}
 use Rattle.bike_recognition.specs.declared.version.MetaVersion.{MetaVersion}
 use Rattle.bike_recognition.specs.declared.version.MetaVersion.TheVariants.{Missing, Version, NotOurs}
 use Rattle.bike_recognition.specs.declared.recognition.Recognition.{Recognition}
-use Rattle.bike_recognition.specs.declared.recognition.Recognition.TheVariants.{Empty, Foreign, Older, Newer, Doubled, Ours}
+use Rattle.bike_recognition.specs.declared.recognition.Recognition.TheVariants.{Empty, Foreign, Older, Newer, Doubled}
+use Rattle.bike_recognition.specs.declared.recognition.Recognition.TheVariants.{Ours}
 use Rattle.bike_recognition.specs.Keys.{KeptLies}
 
 -- ---- calls
@@ -34,7 +36,8 @@ ReadsAny g old new result says = ReadsWhere g AnyDatabase old new result says
 
 -- ---- the tables
 
--- The table stands in the database: found by its name at whatever place, with exactly its columns and keys. `kept` may have its PRIMARY KEY or none.
+-- The table stands in the database: found by its name at whatever place, with
+-- exactly its columns and keys. `kept` may have its PRIMARY KEY or none.
 abbrev pub TableStands : TableName → Database → Type 0
 TableStands t db = Stands db (keys_of t) (layout_in db.schema t)
 
@@ -45,7 +48,8 @@ after_kept = Counts ∷ MoreNames ∷ []
 -- the first of the tables that doesn't stand, or none where all do
 abbrev pub IsFirstMissing : Database → List TableName → Option TableName → Type 0
 IsFirstMissing db [] missing = missing ≡ None
-IsFirstMissing db (t ∷ tables) missing = ((¬ TableStands t db) × (missing ≡ Some t)) ⊎ (TableStands t db × IsFirstMissing db tables missing)
+IsFirstMissing db (t ∷ tables) missing =
+    ((¬ TableStands t db) × (missing ≡ Some t)) ⊎ (TableStands t db × IsFirstMissing db tables missing)
 
 -- ---- the version
 

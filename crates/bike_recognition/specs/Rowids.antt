@@ -1,5 +1,7 @@
--- The rowids of a table of which its columns alone are known: that they are numbers and apart is found out by a pass over them.
-use Rattle.std.specs.Prelude.{◌≡◌, ℕ, ℤ, ◌<ℤ◌, int_lt, Bool, true, false, List, [], ◌∷◌, ◌++◌, map, Option, Some, None, Result, IfOk, OnOk, OnErr}
+-- The rowids of a table of which its columns alone are known: that
+-- they are numbers and apart is found out by a pass over them.
+use Rattle.std.specs.Prelude.{◌≡◌, ℕ, ℤ, ◌<ℤ◌, int_lt, Bool, true, false, List, [], ◌∷◌, ◌++◌, map, Option, Some, None}
+use Rattle.std.specs.Prelude.{Result, IfOk, OnOk, OnErr}
 use Rattle.std.specs.List.{AllByRecursion}
 use Rattle.sqlite_value.specs.declared.value.Value.TheVariants.{Int}
 use Rattle.sqlite_value.specs.Order.{Row}
@@ -11,11 +13,11 @@ use Rattle.sqlite.specs.Effect.{Database}
 use Rattle.sqlite.specs.Given.{HasGiven}
 use Rattle.sqlite.specs.Held.{Held, state}
 use Rattle.sqlite.specs.State.{Shown, HasCleanDisk, IsUnchanged, Survives}
-use Rattle.bike_rows.specs.Answer.{MeansQuery}
-use Rattle.bike_rows.specs.Calls.{IsQuiet}
-use Rattle.bike_rows.specs.Outcome.{IsLeft}
-use Rattle.bike_rows.specs.Queries.{table_query, by_columns}
-use Rattle.bike_rows.specs.View.{AreSpread, AreNumbered}
+use Rattle.bike_sql.specs.Answer.{MeansQuery}
+use Rattle.bike_sql.specs.Calls.{IsQuiet}
+use Rattle.bike_sql.specs.Outcome.{IsLeft}
+use Rattle.bike_sql.specs.Queries.{table_query, by_columns}
+use Rattle.bike_sql.specs.View.{AreSpread, AreNumbered}
 use Rattle.bike_recognition.specs.declared.rowids.Rowid.{Rowid}
 use Rattle.bike_recognition.specs.declared.rowids.NextRowid.{NextRowid}
 use Rattle.bike_recognition.specs.declared.rowids.NextRowid.TheVariants.{Number, Other, End}
@@ -93,7 +95,8 @@ module _ {S : Type 0} (g : Ghosts S) where
 
   -- What one step of a pass tells.
   pub record Steps (old new : Held S) {E : Type 0} (result : Result NextRowid E) : Type 0 where
-    pub next : HasCleanDisk (state g new) → IfOk result (λ next. (text : List ℕ) (given : List Row) → HasGiven g text [] old given → GoesTo text old new given next)
+    pub next : HasCleanDisk (state g new) → IfOk result
+        (λ next. (text : List ℕ) (given : List Row) → HasGiven g text [] old given → GoesTo text old new given next)
     pub same : HasCleanDisk (state g new) → OnOk result (IsUnchanged (state g old) (state g new))
     pub failed : HasCleanDisk (state g new) → OnErr result (IsLeft (state g old) (state g new))
     pub mode : old.in_transaction ≡ false → new.in_transaction ≡ false

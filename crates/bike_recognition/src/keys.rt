@@ -3,7 +3,7 @@
 ghost use Rattle.std.specs.Prelude.{◌≡◌, ◌∷◌, [], IfSome};
 ghost use Rattle.std.specs.Borrow.{sem};
 ghost use Rattle.sqlite_value.specs.declared.value.Value.TheVariants.{Text};
-ghost use Rattle.bike_rows.specs.Calls.{LendsWhere, ReadsWhere};
+ghost use Rattle.bike_sql.specs.Calls.{LendsWhere, ReadsWhere};
 ghost use Rattle.bike_recognition.specs.Keys.{KeptLies, TellsKeys, IsKeyRow, order_after, BeginsKeys, GivesNext};
 
 use bike_schema::StatementFault;

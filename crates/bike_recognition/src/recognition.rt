@@ -2,7 +2,7 @@
 
 ghost use Rattle.std.specs.Prelude.{◌≡◌};
 ghost use Rattle.bike_book.specs.Tables.{Meta};
-ghost use Rattle.bike_rows.specs.Calls.{ReadsWhere};
+ghost use Rattle.bike_sql.specs.Calls.{ReadsWhere};
 ghost use Rattle.bike_recognition.specs.Recognition.{ReadsAny, TableStands, told_by, IsByTables, IsByVersion, IsByMeta};
 ghost use Rattle.bike_recognition.specs.Recognition.{IsRecognised};
 

@@ -4,7 +4,7 @@ ghost use Rattle.std.specs.Prelude.{◌≡◌, IfOk, IsTrue};
 ghost use Rattle.std.specs.Borrow.{sem};
 ghost use Rattle.sqlite.specs.Held.{state};
 ghost use Rattle.sqlite.specs.State.{HasCleanDisk};
-ghost use Rattle.bike_rows.specs.Calls.{IsQuiet, LendsWhere, ReadsWhere};
+ghost use Rattle.bike_sql.specs.Calls.{IsQuiet, LendsWhere, ReadsWhere};
 ghost use Rattle.bike_recognition.specs.Rowids.{AsksRowids, AreApart, Holds, is_above, BeginsPass, Steps};
 
 use bike_schema::StatementFault;

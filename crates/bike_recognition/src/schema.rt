@@ -2,8 +2,8 @@
 
 ghost use Rattle.std.specs.Prelude.{◌≡◌, ◌↔◌, IfErr, IfOk, IsTrue};
 ghost use Rattle.std.specs.List.{list_any};
-ghost use Rattle.bike_rows.specs.Layout.{table_of};
-ghost use Rattle.bike_rows.specs.Stands.{refers_to, is_referred_to};
+ghost use Rattle.bike_sql.specs.Layout.{table_of};
+ghost use Rattle.bike_sql.specs.Stands.{refers_to, is_referred_to};
 ghost use Rattle.bike_book.specs.Tables.{Kept};
 ghost use Rattle.bike_schema.specs.Layouts.{layout_by, has_primary, name_of};
 ghost use Rattle.bike_schema.specs.declared.fault.StatementFault.TheVariants.{NoMemory};

@@ -1,7 +1,7 @@
 //! The tables of the schema by name.
 
 ghost use Rattle.std.specs.Prelude.{◌≡◌, Bool, IfOk, IfErr};
-ghost use Rattle.bike_rows.specs.Layout.{table_of};
+ghost use Rattle.bike_sql.specs.Layout.{table_of};
 ghost use Rattle.bike_book.specs.Tables.{Kept, is_table};
 ghost use Rattle.bike_schema.specs.Layouts.{layout_by, name_of};
 ghost use Rattle.bike_schema.specs.declared.fault.StatementFault.TheVariants.{NoMemory};

@@ -4,16 +4,16 @@ ghost use Rattle.std.specs.Prelude.{◌≡◌, pos, [], ◌∷◌};
 ghost use Rattle.sqlite_value.specs.declared.value.Value.TheVariants.{Int};
 ghost use Rattle.sqlite_value.specs.Order.{column};
 ghost use Rattle.bike_book.specs.Tables.{Meta, keys_of};
-ghost use Rattle.bike_rows.specs.Calls.{ReadsWhere};
-ghost use Rattle.bike_rows.specs.Stands.{rows_of};
-ghost use Rattle.bike_rows.specs.View.{row_with};
+ghost use Rattle.bike_sql.specs.Calls.{ReadsWhere};
+ghost use Rattle.bike_sql.specs.Stands.{rows_of};
+ghost use Rattle.bike_sql.specs.View.{row_with};
 ghost use Rattle.bike_schema.specs.Columns.{whole_in};
 ghost use Rattle.bike_schema.specs.Layouts.{name_of};
 ghost use Rattle.bike_recognition.specs.Recognition.{TableStands, is_app, version_of, version_in, meta_version};
 
 use bike_book::columns::meta;
-use bike_rows::lookup::first_row;
 use bike_schema::{APP, StatementFault};
+use bike_sql::lookup::first_row;
 use sqlite::types::ValueRef;
 use sqlite::{Alter, Connection, Row, params};
 

@@ -32,7 +32,8 @@ pub record MayHold {D : Type 0} {g : disk.Ghosts D} (it : FileStore D g) (image 
 abbrev pub LeavesTrees : State → Trees → Type 0
 LeavesTrees s trees = ∥ s.may_leave trees ∥₁
 
--- Why files aren't open that hold what a stop left: the system refused them, or memory; the disk had a fault; or they are too long.
+-- Why files aren't open that hold what a stop left: the system refused
+-- them, or memory; the disk had a fault; or they are too long.
 abbrev pub IsExcused : {D : Type 0} {g : disk.Ghosts D} → Error → Option (Leftover D g) → Type 0
 IsExcused e None = (e ≡ SqliteFailure CannotOpen) ⊎ ((e ≡ SqliteFailure OutOfMemory) ⊎ (e ≡ SqliteFailure DatabaseBusy))
 IsExcused e (Some left) = IsCleanLeft left
@@ -45,7 +46,8 @@ IsAtSomeFront g d s calls k = ∥ IsAtFront g d s calls k ∥₁
 -- THE PROMISE over files: what is read is of the operator after some such front
 abbrev pub ReadsSomeFront : {S : Type 0} → Ghosts S → DeskValue S → Operator → List Call → ℕ → ℕ → ℕ
     → Option (List ℕ) → Option (List ℕ) → Reading → Type 0
-ReadsSomeFront g d s calls k bike moment before written reading = ∥ ReadsFront g d s calls k bike moment before written reading ∥₁
+ReadsSomeFront g d s calls k bike moment before written reading =
+    ∥ ReadsFront g d s calls k bike moment before written reading ∥₁
 
 -- files that a stop left aren't opened, and what they hold is refused, for memory or storage alone
 abbrev pub IsOnlyStorage : {D : Type 0} {g : disk.Ghosts D} → LostFiles D g → Type 0

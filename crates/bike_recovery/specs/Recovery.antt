@@ -19,8 +19,8 @@ use Rattle.bike_feeds.specs.Publishing.{IsPublished, IsBegun}
 use Rattle.bike_feeds.specs.declared.fault.FeedFault.TheVariants.{SystemMissing, Desk}
 use Rattle.bike_recovery.specs.declared.reading.Reading.{Reading}
 
--- WHAT IS READ is the operator's: the bicycle's one place, and the bytes of the feed. Only a failed store leaves the place unread; then the
--- desk is stopped, and nothing is written. However it ends, a crash leaves the operator.
+-- WHAT IS READ is the operator's: the bicycle's one place, and the bytes of the feed. Only a failed store leaves the
+-- place unread; then the desk is stopped, and nothing is written. However it ends, a crash leaves the operator.
 pub record ReadsOf {S : Type 0} (g : Ghosts S) (d : DeskValue S) (s : Operator)
     (bike moment : ℕ) (before written : Option (List ℕ)) (reading : Reading) : Type 0 where
   pub place : IfOk reading.place (λ p. p ≡ place_at s bike)
@@ -34,7 +34,8 @@ pub record ReadsOf {S : Type 0} (g : Ghosts S) (d : DeskValue S) (s : Operator)
   pub unstopped : OnOk reading.place (reading.status ≢ Err (Desk Stopped))
   pub left : AllLeft (desk_state g d) (TreesStandFor s)
 
--- THE PROMISE: what is read is of the operator after such a front, and it is sound: no dock and no rental holds two bicycles.
+-- THE PROMISE: what is read is of the operator after such a front,
+-- and it is sound: no dock and no rental holds two bicycles.
 abbrev pub ReadsFront : {S : Type 0} → Ghosts S → DeskValue S → Operator → List Call → ℕ → ℕ → ℕ
     → Option (List ℕ) → Option (List ℕ) → Reading → Type 0
 ReadsFront g d s calls k bike moment before written reading =

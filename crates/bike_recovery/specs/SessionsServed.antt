@@ -5,11 +5,14 @@ use Rattle.bike_commands.specs.declared.reply.Reply.{Reply}
 use Rattle.bike_operator.specs.Operator.{Operator}
 use Rattle.bike_operator.specs.Runs.{Call}
 use Rattle.bike_feeds.specs.Desk.{DeskValue, IsAt}
-use Rattle.bike_laws.specs.Sessions.{Session, AreSessions, after_sessions, answers_given, AcceptsOnce, AnswersAgain, RefusesOthers, LeavesRetriesOut}
+use Rattle.bike_laws.specs.Sessions.{Session, AreSessions, after_sessions, answers_given, AcceptsOnce, AnswersAgain}
+use Rattle.bike_laws.specs.Sessions.{RefusesOthers, LeavesRetriesOut}
 
--- THE LAWS OF RETRIES, OF WHAT WAS ANSWERED: the lists were served as sessions, each by the operator which those before it left, and what was
--- told is what they answer. So no caller and key is accepted twice, and a request that comes again is answered as before, or refused.
-pub record ServesSessions {S : Type 0} (g : Ghosts S) (d : DeskValue S) (s : Operator) (lists : List (List Call)) (told : List (List Reply)) : Type 0 where
+-- THE LAWS OF RETRIES, OF WHAT WAS ANSWERED: the lists were served as sessions, each by the operator which those before
+-- it left, and what was told is what they answer. So no caller and key is accepted twice, and a request that comes
+-- again is answered as before, or refused.
+pub record ServesSessions {S : Type 0} (g : Ghosts S) (d : DeskValue S) (s : Operator) (lists : List (List Call))
+    (told : List (List Reply)) : Type 0 where
   pub served : List Session
   pub are : AreSessions served
   pub calls : map (λ x. x.calls) served ≡ lists

@@ -16,9 +16,9 @@ ghost use Rattle.bike_book.specs.declared.version.TheConstants.{NEWEST};
 ghost use Rattle.bike_http_head.specs.declared.head.TheConstants.{HEAD_LENGTH, MOST_FIELDS};
 ghost use Rattle.bike_http_head.specs.declared.length.TheConstants.{BODY_LENGTH};
 ghost use Rattle.bike_http_request.specs.declared.input.TheConstants as http;
-ghost use Rattle.bike_lines.specs.declared.lines.TheConstants as lines;
-ghost use Rattle.bike_imports.specs.declared.import.TheConstants.{MOST_ROWS};
-ghost use Rattle.bike_imports.specs.declared.input.TheConstants as csv;
+ghost use Rattle.bike_batch.specs.declared.lines.TheConstants as lines;
+ghost use Rattle.bike_batch.specs.declared.import.TheConstants.{MOST_ROWS};
+ghost use Rattle.bike_batch.specs.declared.input.TheConstants as csv;
 ghost use Rattle.bike_stream.specs.declared.buffer.TheConstants.{READ_LENGTH};
 ghost use Rattle.bike_queries.specs.declared.pages.TheConstants.{STATIONS_A_PAGE};
 
@@ -92,7 +92,7 @@ pub fn input_bounds()
     // Reads that one call makes.
     ensures http_reads { http.MOST_READS ≡ 20000 }
     ensures line_reads { lines.MOST_READS ≡ 1000000000 }
-    ensures import_reads { csv.MOST_READS ≡ 1000000 }
+    ensures import_reads { csv.MOST_TABLE_READS ≡ 1000000 }
     // Bytes that are read for a record of an import, and its rows.
     ensures import_record { csv.MOST_RECORD ≡ 65536 }
     ensures import_rows { MOST_ROWS ≡ 1000000 }

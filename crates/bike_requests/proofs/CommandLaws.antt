@@ -146,21 +146,32 @@ not_made k fit made holds ps e (Err x) read passed = subst (λ (y : Unread). IsR
   by BadField nothing = rw nothing refl
   by NoMemory is = some (all_at (reads k) ps) refl is
 
-pub plan_not_made : (ps : Parts) (e : Unread) (s : Result Command Unread) → IsReading {A = Value plan_kind} (all_at (reads plan_kind) ps) (Err e) → IsErr s × IsErrAnd s (λ x. x ≡ e) → IsReading (command_by (codes "add-plan") ps) s
+pub plan_not_made : (ps : Parts) (e : Unread) (s : Result Command Unread) → IsReading {A = Value plan_kind} (all_at (reads plan_kind) ps) (Err e) → IsErr s × IsErrAnd s (λ x. x ≡ e)
+    → IsReading (command_by (codes "add-plan") ps) s
 unfolding command_by
-plan_not_made = not_made plan_kind refl (λ v. option_map command.AddPlan (plan_within (plan_of_fields v.0 v.1.0 v.1.1.0 v.1.1.1.0 v.1.1.1.1.0 v.1.1.1.1.1))) (λ v g. rw (le-leb (length v.1.1.1.1.1) 8 g.1.1.1.1.1.0.1) refl)
+plan_not_made =
+    not_made plan_kind refl (λ v. option_map command.AddPlan (plan_within (plan_of_fields v.0 v.1.0 v.1.1.0 v.1.1.1.0 v.1.1.1.1.0 v.1.1.1.1.1)))
+    (λ v g. rw (le-leb (length v.1.1.1.1.1) 8 g.1.1.1.1.1.0.1) refl)
 
-pub type_not_made : (ps : Parts) (e : Unread) (s : Result Command Unread) → IsReading {A = Value type_kind} (all_at (reads type_kind) ps) (Err e) → IsErr s × IsErrAnd s (λ x. x ≡ e) → IsReading (command_by (codes "add-type") ps) s
+pub type_not_made : (ps : Parts) (e : Unread) (s : Result Command Unread) → IsReading {A = Value type_kind} (all_at (reads type_kind) ps) (Err e) → IsErr s × IsErrAnd s (λ x. x ≡ e)
+    → IsReading (command_by (codes "add-type") ps) s
 unfolding command_by
-type_not_made = not_made type_kind refl (λ v. option_map command.AddType (type_within (type_of_fields v.0 v.1.0 v.1.1.0 v.1.1.1.0.0 v.1.1.1.0.1 v.1.1.1.1))) (λ v g. rw (range_holds v.1.1.1.0.0 v.1.1.1.0.1 g.1.1.1.1.0) refl)
+type_not_made =
+    not_made type_kind refl (λ v. option_map command.AddType (type_within (type_of_fields v.0 v.1.0 v.1.1.0 v.1.1.1.0.0 v.1.1.1.0.1 v.1.1.1.1)))
+    (λ v g. rw (range_holds v.1.1.1.0.0 v.1.1.1.0.1 g.1.1.1.1.0) refl)
 
-pub station_not_made : (ps : Parts) (e : Unread) (s : Result Command Unread) → IsReading {A = Value station_kind} (all_at (reads station_kind) ps) (Err e) → IsErr s × IsErrAnd s (λ x. x ≡ e) → IsReading (command_by (codes "add-station") ps) s
+pub station_not_made : (ps : Parts) (e : Unread) (s : Result Command Unread) → IsReading {A = Value station_kind} (all_at (reads station_kind) ps) (Err e) → IsErr s × IsErrAnd s (λ x. x ≡ e)
+    → IsReading (command_by (codes "add-station") ps) s
 unfolding command_by
-station_not_made = not_made station_kind refl (λ v. option_map command.AddStation (station_within (station_of_fields v.0 v.1.0 v.1.1.0 v.1.1.1.0 v.1.1.1.1))) (λ v g. rw (latitude_holds v.1.1.0 (g.1.1.0.0, g.1.1.0.1)) refl)
+station_not_made =
+    not_made station_kind refl (λ v. option_map command.AddStation (station_within (station_of_fields v.0 v.1.0 v.1.1.0 v.1.1.1.0 v.1.1.1.1)))
+    (λ v g. rw (latitude_holds v.1.1.0 (g.1.1.0.0, g.1.1.0.1)) refl)
 
-pub position_not_made : (ps : Parts) (e : Unread) (s : Result Command Unread) → IsReading {A = Value position_kind} (all_at (reads position_kind) ps) (Err e) → IsErr s × IsErrAnd s (λ x. x ≡ e) → IsReading (command_by (codes "move-station") ps) s
+pub position_not_made : (ps : Parts) (e : Unread) (s : Result Command Unread) → IsReading {A = Value position_kind} (all_at (reads position_kind) ps) (Err e) → IsErr s × IsErrAnd s (λ x. x ≡ e)
+    → IsReading (command_by (codes "move-station") ps) s
 unfolding command_by
-position_not_made = not_made position_kind refl (λ v. option_map (command.MoveStation v.0) (position_within (position_of_fields v.1.0 v.1.1))) (λ v g. rw (latitude_holds v.1.0 (g.1.0.0, g.1.0.1)) refl)
+position_not_made =
+    not_made position_kind refl (λ v. option_map (command.MoveStation v.0) (position_within (position_of_fields v.1.0 v.1.1))) (λ v g. rw (latitude_holds v.1.0 (g.1.0.0, g.1.0.1)) refl)
 
 pub word_no_tab : (c : Command) → HasNoTab (word_of c)
 word_no_tab c =

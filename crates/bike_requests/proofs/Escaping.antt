@@ -23,7 +23,8 @@ stays_none : escapes_of [] ≡ []
 unfolding escapes_of
 stays_none = refl
 
-first_of_four : (a b c : Bool) (w x y z : List ℕ) → escapes_of w ≡ w → escapes_of x ≡ x → escapes_of y ≡ y → escapes_of z ≡ z → escapes_of (cond a w (cond b x (cond c y z))) ≡ cond a w (cond b x (cond c y z))
+first_of_four : (a b c : Bool) (w x y z : List ℕ) → escapes_of w ≡ w → escapes_of x ≡ x → escapes_of y ≡ y → escapes_of z ≡ z
+    → escapes_of (cond a w (cond b x (cond c y z))) ≡ cond a w (cond b x (cond c y z))
 first_of_four true b c w x y z e f g h = e
 first_of_four false true c w x y z e f g h = f
 first_of_four false false true w x y z e f g h = g
@@ -70,7 +71,8 @@ unmapped [] = refl
 unmapped (c ∷ cs) = ap (λ (ds : List ℕ). c ∷ ds) (unmapped cs)
 
 -- all characters of a text
-pub escaped_whole : (text cs start before now : List ℕ) → IsUtf8 text → map (λ (c : ℕ). c) cs ≡ chars text → before ≡ start ++ encode 9 → now ≡ before ++ escapes_of (encodes cs) → now ≡ start ++ 9 ∷ escapes_of text
+pub escaped_whole : (text cs start before now : List ℕ) → IsUtf8 text → map (λ (c : ℕ). c) cs ≡ chars text → before ≡ start ++ encode 9 → now ≡ before ++ escapes_of (encodes cs)
+    → now ≡ start ++ 9 ∷ escapes_of text
 escaped_whole text cs start before now utf8 whole tab e =
     let same : escapes_of (encodes cs) ≡ escapes_of text = ap escapes_of (ap encodes (sym (unmapped cs) ∙ whole) ∙ encodes-chars text utf8) in
     let one : encode 9 ≡ 9 ∷ [] = encode_ascii 9 (lit< tt) in

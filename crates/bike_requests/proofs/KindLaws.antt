@@ -13,8 +13,10 @@ use Rattle.bike_texts.specs.Parts.{Parts}
 use Rattle.bike_texts.specs.Fields.{Field, fields_text, field_text}
 use Rattle.bike_texts.specs.Reading.{◌>>=◌, field_at, no_more, metres_of}
 use Rattle.bike_texts.proofs.TabFree.{AreRead}
-use Rattle.bike_texts.proofs.Chains.{IsReader, number_reader, choice_reader, ident_reader, language_reader, currency_reader, name_reader, ascii_reader, degrees_reader, form_reader, propulsion_reader, metres_reader, segments_reader, end_reader, ident_or_none_reader, side_reader, kind_reader}
-use Rattle.bike_requests.specs.Kinds.{Kind, Numbers, Idents, Languages, Currencies, Names, Asciis, Choices, Coordinates, Forms, Ranges, SegmentLists, Ends, IdentsOrNone, Sides, NameKinds, ◌&◌, Value, then_at, reads, fields_with, all_at}
+use Rattle.bike_texts.proofs.Chains.{IsReader, number_reader, choice_reader, ident_reader, language_reader, currency_reader, name_reader, ascii_reader, degrees_reader, form_reader, propulsion_reader}
+use Rattle.bike_texts.proofs.Chains.{metres_reader, segments_reader, end_reader, ident_or_none_reader, side_reader, kind_reader}
+use Rattle.bike_requests.specs.Kinds.{Kind, Numbers, Idents, Languages, Currencies, Names, Asciis, Choices, Coordinates, Forms, Ranges, SegmentLists, Ends, IdentsOrNone, Sides, NameKinds, ◌&◌, Value}
+use Rattle.bike_requests.specs.Kinds.{then_at, reads, fields_with, all_at}
 
 -- the fields stand first in the parts
 pub record IsFirst (fields : List Field) (ps rest : Parts) : Type 0 where
@@ -160,7 +162,8 @@ fields_text_append (f ∷ fs) gs =
     ap (λ (text : List ℕ). 9 ∷ field_text f ++ text) (fields_text_append fs gs) ∙ sym (append_assoc (9 ∷ field_text f) (fields_text fs) (fields_text gs))
 
 -- the one was written, and the other behind it
-pub both_written : {E : Type 0} (r : Result (Unit {0}) E) (fs gs : List Field) (start middle end : List ℕ) → middle ≡ start ++ fields_text fs → OnOk r (end ≡ middle ++ fields_text gs) → OnOk r (end ≡ start ++ fields_text (fs ++ gs))
+pub both_written : {E : Type 0} (r : Result (Unit {0}) E) (fs gs : List Field) (start middle end : List ℕ) → middle ≡ start ++ fields_text fs → OnOk r (end ≡ middle ++ fields_text gs)
+    → OnOk r (end ≡ start ++ fields_text (fs ++ gs))
 both_written (Ok u) fs gs start middle end first other =
     other
     ∙ (ap (λ (text : List ℕ). text ++ fields_text gs) first

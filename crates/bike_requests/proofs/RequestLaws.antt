@@ -94,7 +94,8 @@ made m c k command = (m.0, record { caller = c.0; key = k.0; command = command }
 pub request_sound : (ps : Parts) (x : ℕ × Request) → request_at ps ≡ Some x → IsRequestOf ps x.0 x.1
 unfolding request_at
 request_sound ps x e =
-    option_and_then_some (λ m. field_at caller_of m.1 >>= λ c. field_at key_of c.1 >>= λ k. command_at k.1 >>= λ command. Some (made m c k command)) (field_at (number_of 0 last_moment) ps) x e (λ m em e.
+    option_and_then_some (λ m. field_at caller_of m.1 >>= λ c. field_at key_of c.1 >>= λ k. command_at k.1 >>= λ command. Some (made m c k command)) (field_at (number_of 0 last_moment) ps) x e
+    (λ m em e.
     option_and_then_some (λ c. field_at key_of c.1 >>= λ k. command_at k.1 >>= λ command. Some (made m c k command)) (field_at caller_of m.1) x e (λ c ec e.
     option_and_then_some (λ k. command_at k.1 >>= λ command. Some (made m c k command)) (field_at key_of c.1) x e (λ k ek e.
     option_and_then_some (λ command. Some (made m c k command)) (command_at k.1) x e (λ command es e.

@@ -1,5 +1,6 @@
 -- Kinds of fields: the value that is read, its reader, and the fields in which it stands.
-use Rattle.std.specs.Prelude.{◌≡◌, ℕ, ℤ, List, [], ◌∷◌, ◌++◌, Bool, Option, Some, None, Result, Ok, Err, option_map, codes}
+use Rattle.std.specs.Prelude.{◌≡◌, ℕ, ℤ, List, [], ◌∷◌, ◌++◌, Bool, Option, Some, None, Result, Ok, Err, option_map}
+use Rattle.std.specs.Prelude.{codes}
 use Rattle.bike_fixed.specs.Whole.{number_of}
 use Rattle.bike_fields.specs.Bytes.{ident_of, language_of, currency_of}
 use Rattle.bike_fields.specs.Values.{SegmentRow}
@@ -11,8 +12,10 @@ use Rattle.bike_fields.specs.declared.vehicle.Propulsion.{Propulsion}
 use Rattle.bike_texts.specs.declared.ends.OrderEnd.{OrderEnd}
 use Rattle.bike_texts.specs.declared.ends.Side.{Side}
 use Rattle.bike_texts.specs.Parts.{Parts}
-use Rattle.bike_texts.specs.Fields.{Field, Number, Fixed, Id, Language, Currency, Name, Ascii, Degrees, Metres, Segments, End, Choice, IdOrNone, side_text}
-use Rattle.bike_texts.specs.Reading.{◌>>=◌, field_at, no_more, degrees_of, metres_of, choice_of, side_of, end_of, ident_or_none_of}
+use Rattle.bike_texts.specs.Fields.{Field, Number, Fixed, Id, Language, Currency, Name, Ascii, Degrees, Metres}
+use Rattle.bike_texts.specs.Fields.{Segments, End, Choice, IdOrNone, side_text}
+use Rattle.bike_texts.specs.Reading.{◌>>=◌, field_at, no_more, degrees_of, metres_of, choice_of, side_of, end_of}
+use Rattle.bike_texts.specs.Reading.{ident_or_none_of}
 use Rattle.bike_texts.specs.Escapes.{name_at, ascii_at}
 use Rattle.bike_texts.specs.SegmentReading.{segments_of}
 use Rattle.bike_requests.specs.declared.unread.Unread.{Unread}

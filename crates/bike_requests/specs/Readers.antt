@@ -3,14 +3,19 @@ use Rattle.std.specs.Prelude.{ℕ, List, [], ◌∷◌, Option, Some, None, opti
 use Rattle.std.specs.Str.{bytes_eq}
 use Rattle.bike_fixed.specs.declared.micro.TheConstants.{GREATEST_COORDINATE}
 use Rattle.bike_fields.specs.declared.limits.TheConstants.{GREATEST_LATITUDE}
-use Rattle.bike_fields.specs.declared.numbers.TheConstants.{GREATEST_NUMBER, GREATEST_PAYMENT, GREATEST_PRICE, GREATEST_SERIAL, LONGEST_TIME_TO_LIVE, MOST_CARRIED, MOST_DOCKS}
+use Rattle.bike_fields.specs.declared.numbers.TheConstants.{GREATEST_NUMBER, GREATEST_PAYMENT, GREATEST_PRICE}
+use Rattle.bike_fields.specs.declared.numbers.TheConstants.{GREATEST_SERIAL, LONGEST_TIME_TO_LIVE, MOST_CARRIED}
+use Rattle.bike_fields.specs.declared.numbers.TheConstants.{MOST_DOCKS}
 use Rattle.bike_fields.specs.Values.{position_of_fields, position_within}
-use Rattle.bike_catalogue.specs.Rows.{system_of_fields, plan_of_fields, plan_within, type_of_fields, type_within, station_of_fields, station_within, region_of_fields, settings_of_fields}
+use Rattle.bike_catalogue.specs.Rows.{system_of_fields, plan_of_fields, plan_within, type_of_fields, type_within}
+use Rattle.bike_catalogue.specs.Rows.{station_of_fields, station_within, region_of_fields, settings_of_fields}
 use Rattle.bike_texts.specs.Parts.{Parts}
 use Rattle.bike_texts.specs.Reading.{◌>>=◌, part_at}
 use Rattle.bike_commands.specs.declared.command.Command.{Command}
 use Rattle.bike_commands.specs.declared.command.Command.TheVariants as command
-use Rattle.bike_requests.specs.Kinds.{Kind, Numbers, Idents, Languages, Currencies, Names, Asciis, Choices, Coordinates, Forms, Ranges, SegmentLists, Ends, IdentsOrNone, Sides, NameKinds, ◌&◌, Value, From, at_values, reads, all_at}
+use Rattle.bike_requests.specs.Kinds.{Kind, Numbers, Idents, Languages, Currencies, Names, Asciis, Choices, Coordinates}
+use Rattle.bike_requests.specs.Kinds.{Forms, Ranges, SegmentLists, Ends, IdentsOrNone, Sides, NameKinds, ◌&◌, Value}
+use Rattle.bike_requests.specs.Kinds.{From, at_values, reads, all_at}
 
 -- truth values; riders, bicycles, trucks; docks, and 0 at the depot; rentals, orders; payments; bicycles on a truck
 abbrev pub Flags : Kind
@@ -42,7 +47,8 @@ Longitudes = Coordinates GREATEST_COORDINATE
 
 -- the kinds of the longest row, and of those with a test across their fields
 abbrev pub system_kind : Kind
-system_kind = Idents & Languages & Names & Asciis & Asciis & Asciis & Currencies & Asciis & Numbers 0 LONGEST_TIME_TO_LIVE
+system_kind =
+    Idents & Languages & Names & Asciis & Asciis & Asciis & Currencies & Asciis & Numbers 0 LONGEST_TIME_TO_LIVE
 
 abbrev pub plan_kind : Kind
 plan_kind = Idents & Names & Numbers 0 GREATEST_PRICE & Flags & Names & SegmentLists

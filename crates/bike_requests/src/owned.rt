@@ -5,7 +5,7 @@ ghost use Rattle.bike_requests.specs.Kinds.{Asciis, Currencies, Ends, Idents, Id
 ghost use Rattle.bike_requests.specs.Kinds.{SegmentLists, fields_with, reads};
 
 use crate::put_texts::{put_escaped, put_segments, put_text};
-use crate::spelled::{Lent, Spelled};
+use crate::spelled::{FieldReferences, Spelled};
 use crate::unread::Unread;
 use bike_fields::{Ascii, Currency, Ident, Language, Name, Segment};
 use bike_texts::{Fields, OrderEnd};
@@ -196,7 +196,7 @@ impl Spelled for Segments {
     }
 }
 
-impl Lent for &[Segment] {
+impl FieldReferences for &[Segment] {
     ghost written = { λ segments. fields_with SegmentLists segments.now };
 
     fn put_all(&self, out: &mut String) -> Result<(), AllocError> {

@@ -128,11 +128,11 @@ impl Plain for bool {
 
 /// Whether a dock is broken.
 #[derive(Drop)]
-pub struct Broken {
+pub struct BrokenField {
     pub value: bool,
 }
 
-impl Model for Broken {
+impl Model for BrokenField {
     ghost use Rattle.std.specs.Prelude.{Bool};
 
     ghost Value = { Bool };
@@ -140,14 +140,14 @@ impl Model for Broken {
     ghost view = { λ a. a.value };
 }
 
-impl Plain for Broken {
+impl Plain for BrokenField {
     ghost found = { reads (Choices (codes "broken") (codes "working")) };
 
     ghost stands = { fields_with (Choices (codes "broken") (codes "working")) };
 
-    fn find(fields: &mut Fields) -> Option<Broken> {
+    fn find(fields: &mut Fields) -> Option<BrokenField> {
         let value = fields.choice("broken", "working")?;
-        Some(Broken { value })
+        Some(BrokenField { value })
     }
 
     fn write(&self, out: &mut String) -> Result<(), AllocError> {
@@ -157,11 +157,11 @@ impl Plain for Broken {
 
 /// Whether a bicycle is disabled.
 #[derive(Drop)]
-pub struct Disabled {
+pub struct DisabledField {
     pub value: bool,
 }
 
-impl Model for Disabled {
+impl Model for DisabledField {
     ghost use Rattle.std.specs.Prelude.{Bool};
 
     ghost Value = { Bool };
@@ -169,14 +169,14 @@ impl Model for Disabled {
     ghost view = { λ a. a.value };
 }
 
-impl Plain for Disabled {
+impl Plain for DisabledField {
     ghost found = { reads (Choices (codes "disabled") (codes "fit")) };
 
     ghost stands = { fields_with (Choices (codes "disabled") (codes "fit")) };
 
-    fn find(fields: &mut Fields) -> Option<Disabled> {
+    fn find(fields: &mut Fields) -> Option<DisabledField> {
         let value = fields.choice("disabled", "fit")?;
-        Some(Disabled { value })
+        Some(DisabledField { value })
     }
 
     fn write(&self, out: &mut String) -> Result<(), AllocError> {
@@ -186,11 +186,11 @@ impl Plain for Disabled {
 
 /// Whether a rider is blocked.
 #[derive(Drop)]
-pub struct Blocked {
+pub struct BlockedField {
     pub value: bool,
 }
 
-impl Model for Blocked {
+impl Model for BlockedField {
     ghost use Rattle.std.specs.Prelude.{Bool};
 
     ghost Value = { Bool };
@@ -198,14 +198,14 @@ impl Model for Blocked {
     ghost view = { λ a. a.value };
 }
 
-impl Plain for Blocked {
+impl Plain for BlockedField {
     ghost found = { reads (Choices (codes "blocked") (codes "open")) };
 
     ghost stands = { fields_with (Choices (codes "blocked") (codes "open")) };
 
-    fn find(fields: &mut Fields) -> Option<Blocked> {
+    fn find(fields: &mut Fields) -> Option<BlockedField> {
         let value = fields.choice("blocked", "open")?;
-        Some(Blocked { value })
+        Some(BlockedField { value })
     }
 
     fn write(&self, out: &mut String) -> Result<(), AllocError> {

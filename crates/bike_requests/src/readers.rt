@@ -5,7 +5,7 @@ ghost use Rattle.std.specs.Prelude.{codes};
 ghost use Rattle.bike_requests.specs.Readers.{command_by};
 ghost use Rattle.bike_requests.specs.Unread.{IsReading};
 
-use crate::plain::{Blocked, Broken, Disabled};
+use crate::plain::{BlockedField, BrokenField, DisabledField};
 use crate::spelled::read;
 use crate::unread::Unread;
 use bike_commands::Command;
@@ -43,7 +43,7 @@ pub(crate) fn read_set_station(alloc: Global, fields: Fields) -> Result<Command,
 pub(crate) fn read_mark_dock(alloc: Global, fields: Fields) -> Result<Command, Unread>
     ensures { IsReading (command_by (codes "mark-dock") fields.entry) result }
 {
-    read_as!(alloc, fields => MarkDock: station, dock, broken: Broken)
+    read_as!(alloc, fields => MarkDock: station, dock, broken: BrokenField)
 }
 
 pub(crate) fn read_add_bike(alloc: Global, fields: Fields) -> Result<Command, Unread>
@@ -55,7 +55,7 @@ pub(crate) fn read_add_bike(alloc: Global, fields: Fields) -> Result<Command, Un
 pub(crate) fn read_mark_bike(alloc: Global, fields: Fields) -> Result<Command, Unread>
     ensures { IsReading (command_by (codes "mark-bike") fields.entry) result }
 {
-    read_as!(alloc, fields => MarkBike: bike, disabled: Disabled)
+    read_as!(alloc, fields => MarkBike: bike, disabled: DisabledField)
 }
 
 pub(crate) fn read_retire_bike(alloc: Global, fields: Fields) -> Result<Command, Unread>
@@ -79,7 +79,7 @@ pub(crate) fn read_add_rider(alloc: Global, fields: Fields) -> Result<Command, U
 pub(crate) fn read_set_rider(alloc: Global, fields: Fields) -> Result<Command, Unread>
     ensures { IsReading (command_by (codes "set-rider") fields.entry) result }
 {
-    read_as!(alloc, fields => SetRider: rider, blocked: Blocked)
+    read_as!(alloc, fields => SetRider: rider, blocked: BlockedField)
 }
 
 pub(crate) fn read_top_up(alloc: Global, fields: Fields) -> Result<Command, Unread>

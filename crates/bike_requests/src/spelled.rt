@@ -67,7 +67,7 @@ pub fn read<T: Spelled>(alloc: Global, mut fields: Fields) -> Result<T, Unread>
 }
 
 /// References to values that stand in a text one behind another.
-pub trait Lent {
+pub trait FieldReferences {
     /// The fields in which the values stand.
     ghost written: { Self → List Field };
 
@@ -76,7 +76,7 @@ pub trait Lent {
         ensures { OnOk result (string_bytes out.new ≡ string_bytes out.old ++ fields_text (written self.now)) };
 }
 
-impl<T: Spelled> Lent for &T {
+impl<T: Spelled> FieldReferences for &T {
     ghost written = { λ value. T.stands value.now };
 
     fn put_all(&self, out: &mut String) -> Result<(), AllocError> {
@@ -84,7 +84,7 @@ impl<T: Spelled> Lent for &T {
     }
 }
 
-impl<A: Lent, B: Lent> Lent for (A, B) {
+impl<A: FieldReferences, B: FieldReferences> FieldReferences for (A, B) {
     ghost use Rattle.std.specs.Prelude.{◌++◌};
 
     ghost written = { λ both. A.written both.0 ++ B.written both.1 };
@@ -96,7 +96,7 @@ impl<A: Lent, B: Lent> Lent for (A, B) {
 }
 
 /// Appends the word, and the fields behind it.
-pub fn put<L: Lent>(out: &mut String, word: &str, lent: &L) -> Result<(), AllocError>
+pub fn put<L: FieldReferences>(out: &mut String, word: &str, lent: &L) -> Result<(), AllocError>
     ensures { OnOk result (string_bytes out.new ≡ string_bytes out.old
         ++ (word.now ++ fields_text (L.written lent.now))) }
 {

@@ -4,7 +4,7 @@ ghost use Rattle.std.specs.Prelude.{◌≡◌, ◌++◌, ℕ, List, IfOk, OnOk, 
 ghost use Rattle.bike_commands.specs.declared.command.Command.{Command};
 ghost use Rattle.bike_commands.specs.Commands.{text_of, IsCommand, IsSpelling, IsWrittenSpelling};
 
-use crate::plain::{Blocked, Broken, Disabled};
+use crate::plain::{BlockedField, BrokenField, DisabledField};
 use crate::records::{
     put_add_plan, put_add_region, put_add_station, put_add_type, put_change_system,
     put_move_station, put_set_system,
@@ -50,13 +50,13 @@ fn put_command(out: &mut String, command: &Command) -> Result<(), AllocError>
         ]
         "set-plan" SetPlan { type_id, plan }
         "set-station" SetStation { station, installed, renting, returning }
-        "mark-dock" MarkDock { station, dock, broken: Broken }
+        "mark-dock" MarkDock { station, dock, broken: BrokenField }
         "add-bike" AddBike { bike, type_id }
-        "mark-bike" MarkBike { bike, disabled: Disabled }
+        "mark-bike" MarkBike { bike, disabled: DisabledField }
         "retire-bike" RetireBike { bike }
         "add-truck" AddTruck { truck, capacity }
         "add-rider" AddRider { rider }
-        "set-rider" SetRider { rider, blocked: Blocked }
+        "set-rider" SetRider { rider, blocked: BlockedField }
         "top-up" TopUp { rider, amount }
         "start" Start { rider, station, dock }
         "end" End { bike, station, dock }

@@ -9,16 +9,16 @@ use Rattle.sqlite_trees.specs.declared.store.Store.{Ghosts}
 use Rattle.sqlite.specs.declared.error.Error.{Error}
 use Rattle.sqlite.specs.Effect.{Database}
 use Rattle.sqlite.specs.Held.{Held}
-use Rattle.bike_rows.specs.Calls.{ReadsWhere}
-use Rattle.bike_rows.specs.Queries.{table_query, key_tests, key_in}
-use Rattle.bike_rows.specs.Runs.{QueriesFirst}
-use Rattle.bike_rows.specs.Stands.{rows_of}
-use Rattle.bike_rows.specs.View.{row_with}
-use Rattle.bike_rows.proofs.CallLaws.{read_returns}
-use Rattle.bike_rows.proofs.ChainLaws.{reads_as, reads_refused, reads_both}
-use Rattle.bike_rows.proofs.SelectLaws.{every_column, keyed_row}
-use Rattle.bike_rows.proofs.TextLemmas.{IsSelect}
-use Rattle.bike_rows.proofs.WalkLaw.{Finds}
+use Rattle.bike_sql.specs.Calls.{ReadsWhere}
+use Rattle.bike_sql.specs.Queries.{table_query, key_tests, key_in}
+use Rattle.bike_sql.specs.Runs.{QueriesFirst}
+use Rattle.bike_sql.specs.Stands.{rows_of}
+use Rattle.bike_sql.specs.View.{row_with}
+use Rattle.bike_sql.proofs.CallLaws.{read_returns}
+use Rattle.bike_sql.proofs.ChainLaws.{reads_as, reads_refused, reads_both}
+use Rattle.bike_sql.proofs.SelectLaws.{every_column, keyed_row}
+use Rattle.bike_sql.proofs.TextLemmas.{IsSelect}
+use Rattle.bike_sql.proofs.WalkLaw.{Finds}
 use Rattle.bike_book.specs.Operator.{Operator}
 use Rattle.bike_book.specs.Tables.{TableName, Tables, keys_of, rows_in}
 use Rattle.bike_book.specs.Stored.{Listed, tables_for}
@@ -36,18 +36,22 @@ pub record FindsIn (text : List ℕ) (params : Row) (row : Tables → Option Row
   pub finds : (db : Database) → HasTables db → Finds db text params (row (tables_of db))
 
 -- What a text finds in the rows of one table.
-pub in_table : (t : TableName) {text : List ℕ} {params : Row} (found : List Row → Option Row) → ((db : Database) → HasTables db → Finds db text params (found (rows_of (keys_of t) (name_of t) db))) → FindsIn text params (λ tables. found (rows_in tables t))
+pub in_table : (t : TableName) {text : List ℕ} {params : Row} (found : List Row → Option Row) → ((db : Database) → HasTables db → Finds db text params (found (rows_of (keys_of t) (name_of t) db)))
+    → FindsIn text params (λ tables. found (rows_in tables t))
 in_table t {text} {params} found finds = record { finds = λ db has. subst (λ rows. Finds db text params (found rows)) (sym (rows_of_table db t)) (finds db has) }
 
 -- SELECT * FROM the table WHERE its key equals the parameters
-pub keyed_in : (t : TableName) {text : List ℕ} {params : Row} → InEach t (λ layout. IsSelect (table_query 0 (key_tests 0 (key_places t)) [] (every_column (layout_of t))) layout text) → list_any is_null (key_in 0 (key_places t) params) ≡ false
+pub keyed_in : (t : TableName) {text : List ℕ} {params : Row} → InEach t (λ layout. IsSelect (table_query 0 (key_tests 0 (key_places t)) [] (every_column (layout_of t))) layout text)
+    → list_any is_null (key_in 0 (key_places t) params) ≡ false
     → FindsIn text params (λ tables. row_with (keys_of t) (key_in 0 (key_places t) params) (rows_in tables t))
 keyed_in t {params = params} is solid = in_table t (row_with (keys_of t) (key_in 0 (key_places t) params)) (λ db has. keyed_row (key_in_schema db.schema t) (has t) (is db.schema) solid)
 
 -- What a read tells of what it read, it tells of what follows from that.
-pub reads_weaker : {S X E : Type 0} {g : Ghosts S} {P : Database → Type 0} {old new : Held S} {result : Result X E} {says told : Database → X → Type 0} → ReadsWhere g P old new result says → ((db : Database) (x : X) → says db x → told db x)
+pub reads_weaker : {S X E : Type 0} {g : Ghosts S} {P : Database → Type 0} {old new : Held S} {result : Result X E} {says told : Database → X → Type 0} → ReadsWhere g P old new result says
+    → ((db : Database) (x : X) → says db x → told db x)
     → ReadsWhere g P old new result told
-reads_weaker {g = g} {old = old} {result = result} it then = record { found = λ clean has. IfOk-weaker result _ _ (λ x at. then _ x at) (it.found clean has); same = it.same; failed = it.failed; quiet = it.quiet }
+reads_weaker {g = g} {old = old} {result = result} it then =
+    record { found = λ clean has. IfOk-weaker result _ _ (λ x at. then _ x at) (it.found clean has); same = it.same; failed = it.failed; quiet = it.quiet }
 
 -- A function of one statement answers the row that the text finds in the tables of the operator. The values that it sends compute to the parameters.
 pub row_answers : {S E : Type 0} {g : Ghosts S} {old new : Held S} {text : List ℕ} {params sent : Row} {row : Tables → Option Row} {Gives : Error → E → Type 0} {result : Result (Option Row) E}
@@ -68,13 +72,15 @@ pub answers_both : {S X Y E F : Type 0} {g : Ghosts S} {old mid new : Held S} {x
 answers_both says told one two = reads_weaker (reads_both one two) (λ db y both s h. (both.0 s h, both.1 s h))
 
 -- What is made of a value that was read, or an error in its place.
-pub answers_made : {S X Y E F : Type 0} {g : Ghosts S} {P : Database → Type 0} {old new : Held S} {x : X} {result : Result Y F} {says : Database → X → Type 0} {told : Database → Y → Type 0} {Made : Y → Type 0} → ReadsWhere g P old new {E = E} (Ok x) says → IfOk result Made
+pub answers_made : {S X Y E F : Type 0} {g : Ghosts S} {P : Database → Type 0} {old new : Held S} {x : X} {result : Result Y F} {says : Database → X → Type 0} {told : Database → Y → Type 0}
+    {Made : Y → Type 0} → ReadsWhere g P old new {E = E} (Ok x) says → IfOk result Made
     → ((db : Database) (y : Y) → says db x → Made y → told db y) → ReadsWhere g P old new result told
 answers_made {result = Ok y} it made then = reads_as it (λ db at. then db y at made)
 answers_made {result = Err e} it made then = reads_refused it refl
 
 -- What follows of two values, of which the second was read where the first stood.
-pub answers_next : {S X Y E F : Type 0} {g : Ghosts S} {P : Database → Type 0} {old mid new : Held S} {x : X} {result : Result Y F} {says : Database → X → Type 0} {told follows : Database → Y → Type 0} → ReadsWhere g P old mid {E = E} (Ok x) says → ReadsWhere g P mid new result told
+pub answers_next : {S X Y E F : Type 0} {g : Ghosts S} {P : Database → Type 0} {old mid new : Held S} {x : X} {result : Result Y F} {says : Database → X → Type 0}
+    {told follows : Database → Y → Type 0} → ReadsWhere g P old mid {E = E} (Ok x) says → ReadsWhere g P mid new result told
     → ((db : Database) (y : Y) → says db x → told db y → follows db y) → ReadsWhere g P old new result follows
 answers_next {old = old} {result = result} one two then =
     let it = reads_both one two in

@@ -13,15 +13,17 @@ use Rattle.sqlite_resolve.specs.Compile.{first}
 use Rattle.sqlite_tied.specs.Compute.{everything}
 use Rattle.sqlite.specs.Effect.{Database, IsDatabase}
 use Rattle.sqlite.specs.Held.{Held, state}
-use Rattle.bike_rows.specs.Stands.{rows_of, Stands}
-use Rattle.bike_rows.proofs.ListLemmas.{no_list}
-use Rattle.bike_rows.proofs.IndexLaw.{IsOnlyIndex, index_made}
-use Rattle.bike_rows.proofs.CallLaws.{Does}
-use Rattle.bike_rows.proofs.WriteLaws.{Inserts, row_put}
+use Rattle.bike_sql.specs.Stands.{rows_of, Stands}
+use Rattle.bike_sql.proofs.RowListLemmas.{no_list}
+use Rattle.bike_sql.proofs.IndexLaw.{IsOnlyIndex, index_made}
+use Rattle.bike_sql.proofs.CallLaws.{Does}
+use Rattle.bike_sql.proofs.WriteLaws.{Inserts, row_put}
 use Rattle.bike_book.specs.Operator.{no_operator}
-use Rattle.bike_book.specs.Tables.{TableName, Tables, keys_of, rows_in, tables_by, with_rows, Meta, System, Plans, Segments, Types, Regions, Stations, Docks, Bikes, Trucks, Riders, Rentals, Orders, Entries, Kept, Counts, MoreNames}
+use Rattle.bike_book.specs.Tables.{TableName, Tables, keys_of, rows_in, tables_by, with_rows, Meta, System, Plans, Segments, Types, Regions, Stations, Docks, Bikes, Trucks, Riders, Rentals, Orders}
+use Rattle.bike_book.specs.Tables.{Entries, Kept, Counts, MoreNames}
 use Rattle.bike_book.specs.Rows.{meta_row}
-use Rattle.bike_book.specs.Stored.{none_listed, tables_for, stored_plan, plans_segments, stored_type, stored_region, stored_station, stored_dock, stored_bike, stored_truck, stored_rider, stored_kept, stored_count, stored_name}
+use Rattle.bike_book.specs.Stored.{none_listed, tables_for, stored_plan, plans_segments, stored_type, stored_region, stored_station, stored_dock, stored_bike, stored_truck, stored_rider, stored_kept}
+use Rattle.bike_book.specs.Stored.{stored_count, stored_name}
 use Rattle.bike_book.specs.declared.version.TheConstants.{NEWEST}
 use Rattle.bike_schema.specs.Layouts.{layout_of, name_of, every_table}
 use Rattle.bike_schema.specs.Tables.{IsOurs, tables_of, is_parent, is_unused, HasNone, other_names}
@@ -97,7 +99,8 @@ module _ {S : Type 0} (g : Ghosts S) where
   all_continue (text ∷ next ∷ texts) some a c (mid, ran, rest) = continues_then (state g a) (state g mid) (state g c) ran.1.1 (all_continue (next ∷ texts) refl mid c rest)
 
   -- the database obeys its schema after the last of them
-  indexed_sound : (texts : List (List ℕ)) → is_some (slice_get texts 0) ≡ true → (a c : Held S) → AllByRecursion (λ text. IsOnlyIndex (first text)) texts → RanAll g texts a c → IsDatabase (state g c).now
+  indexed_sound : (texts : List (List ℕ)) → is_some (slice_get texts 0) ≡ true → (a c : Held S) → AllByRecursion (λ text. IsOnlyIndex (first text)) texts → RanAll g texts a c
+      → IsDatabase (state g c).now
   indexed_sound [] some a c only ran = absurd (cc)
   indexed_sound (text ∷ []) some a c only (mid, ran, same) = subst (λ h. IsDatabase (state g h).now) same (index_made text only.0 (state g a) (state g mid) ran.0 ran.1.0).sound
   indexed_sound (text ∷ next ∷ texts) some a c only (mid, ran, rest) = indexed_sound (next ∷ texts) refl mid c only.1 rest

@@ -1,5 +1,6 @@
 -- What a table that was made is, and what it leaves of those that stood.
-use Rattle.std.proofs.Common.{◌≡◌, ◌≢◌, ◌==◌, if◌then◌else◌, append_assoc, map, zero, suc, ℕ, ◌<◌, Bool, true, false, List, [], ◌∷◌, ◌++◌, length, find, slice_get, Option, Some, unwrap_or, refl, sym, ap, subst, ◌∙◌, arith}
+use Rattle.std.proofs.Common.{◌≡◌, ◌≢◌, ◌==◌, if◌then◌else◌, append_assoc, map, zero, suc, ℕ, ◌<◌, Bool, true, false, List, [], ◌∷◌, ◌++◌, length, find, slice_get, Option, Some, unwrap_or, refl, sym}
+use Rattle.std.proofs.Common.{ap, subst, ◌∙◌, arith}
 use Rattle.std.specs.List.{AllByRecursion, AllZip, list_any}
 use Rattle.std.specs.Prelude.{option_map}
 use Rattle.std.proofs.Math.Path.{fun_ext}
@@ -15,12 +16,12 @@ use Rattle.sqlite_rules.proofs.ListLemmas.{all_from}
 use Rattle.sqlite.specs.Effect.{Database}
 use Rattle.bike_sql.proofs.ListLemmas.{get_first, get_last}
 use Rattle.bike_sql.proofs.GrowLemmas.{still_has, created_has, created_keeps}
-use Rattle.bike_rows.specs.Layout.{Layout, table_of}
-use Rattle.bike_rows.specs.Keyed.{in_order}
-use Rattle.bike_rows.specs.View.{IsKeyed, by_key, columns_of}
-use Rattle.bike_rows.specs.Stands.{refers_to, is_referred_to, rows_of, Stands, Stays}
-use Rattle.bike_rows.proofs.FrameLemmas.{rows_of_is}
-use Rattle.bike_rows.proofs.ListLemmas.{all_at}
+use Rattle.bike_sql.specs.Layout.{Layout, table_of}
+use Rattle.bike_sql.specs.Keyed.{in_order}
+use Rattle.bike_sql.specs.View.{IsKeyed, by_key, columns_of}
+use Rattle.bike_sql.specs.Stands.{refers_to, is_referred_to, rows_of, Stands, Stays}
+use Rattle.bike_sql.proofs.FrameLemmas.{rows_of_is}
+use Rattle.bike_sql.proofs.RowListLemmas.{all_at}
 use Rattle.bike_schema.specs.Tables.{names_parent, is_parent}
 use Rattle.bike_schema.proofs.MakeLemmas.{Adds, Unreferring, all_both, all_weaker, get_has}
 
@@ -65,9 +66,11 @@ any_of : (p q : Reference → Bool) → ((r : Reference) → p r ≡ false → q
 any_of p q f [] h = refl
 any_of p q f (r ∷ refs) h = let parts = or_parts (p r) (list_any p refs) h in or_from (q r) (list_any q refs) (f r parts.0) (any_of p q f refs parts.1)
 
-any_in : (p q : Reference → Bool) → ((r : Reference) → p r ≡ false → q r ≡ false) → (ts : List Table) → list_any (λ t. list_any p t.references) ts ≡ false → list_any (λ t. list_any q t.references) ts ≡ false
+any_in : (p q : Reference → Bool) → ((r : Reference) → p r ≡ false → q r ≡ false) → (ts : List Table) → list_any (λ t. list_any p t.references) ts ≡ false
+    → list_any (λ t. list_any q t.references) ts ≡ false
 any_in p q f [] h = refl
-any_in p q f (t ∷ ts) h = let parts = or_parts (list_any p t.references) (list_any (λ u. list_any p u.references) ts) h in or_from (list_any q t.references) _ (any_of p q f t.references parts.0) (any_in p q f ts parts.1)
+any_in p q f (t ∷ ts) h =
+    let parts = or_parts (list_any p t.references) (list_any (λ u. list_any p u.references) ts) h in or_from (list_any q t.references) _ (any_of p q f t.references parts.0) (any_in p q f ts parts.1)
 
 -- ---- places and trees
 
@@ -110,8 +113,11 @@ module _ (layout : Layout) (old new : Database) (it : Adds layout old new) where
       let none : (ref : Reference) → same_name layout.name ref.parent ≡ false → refers_to (old.schema.tables ++ grown_by) ours.tree ref ≡ false =
       λ ref other. find_other (λ t. same_name t.name ref.parent) ours.tree (old.schema.tables ++ grown_by)
       (all_both (λ (t : Table). same_name t.name ref.parent ≡ true → t.tree ≢ ours.tree) old.schema.tables grown_by
-      (all_from (λ (t : Table). same_name t.name ref.parent ≡ true → t.tree ≢ ours.tree) old.schema.tables (λ t has _ e. omega (arith, table_below old.schema t has, e)))
-      ((λ same. absurd (let both = sym other ∙ same in cc)), all_weaker (λ (t : Table). next_tree old.schema < t.tree) (λ t. same_name t.name ref.parent ≡ true → t.tree ≢ ours.tree) (λ t above _ e. omega (arith, above, e)) it.more it.above)) in
+      (all_from (λ (t : Table). same_name t.name ref.parent ≡ true → t.tree ≢ ours.tree) old.schema.tables (λ t has _ e. omega (arith, table_below old.schema t has, e))) (
+        (λ same. absurd (let both = sym other ∙ same in cc)),
+        all_weaker (λ (t : Table). next_tree old.schema < t.tree) (λ t. same_name t.name ref.parent ≡ true → t.tree ≢ ours.tree)
+            (λ t above _ e. omega (arith, above, e)) it.more it.above,
+      )) in
       ap (λ ts. list_any (λ t. list_any (refers_to ts ours.tree) t.references) ts) tables_are
       ∙ any_both (λ t. list_any (refers_to (old.schema.tables ++ grown_by) ours.tree) t.references) old.schema.tables grown_by
       (any_in (λ ref. same_name layout.name ref.parent) (refers_to (old.schema.tables ++ grown_by) ours.tree) none old.schema.tables unnamed)

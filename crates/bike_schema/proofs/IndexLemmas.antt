@@ -1,5 +1,6 @@
 -- A CREATE INDEX that is done makes the index that its text tells of the table that it names, and nothing else.
-use Rattle.std.proofs.Common.{◌≡◌, ◌⊎◌, inl, inr, ℕ, ◌+◌, Bool, true, false, List, [], ◌∷◌, ◌++◌, map, is_some, slice_get, slice_range, Option, Some, None, Ok, Err, Result, refl, sym, ap, subst, ◌∙◌, if◌then◌else◌}
+use Rattle.std.proofs.Common.{◌≡◌, ◌⊎◌, inl, inr, ℕ, ◌+◌, Bool, true, false, List, [], ◌∷◌, ◌++◌, map, is_some, slice_get, slice_range, Option, Some, None, Ok, Err, Result, refl, sym, ap, subst, ◌∙◌}
+use Rattle.std.proofs.Common.{if◌then◌else◌}
 use Rattle.std.specs.List.{AllByRecursion, AllZip}
 use Rattle.std.specs.Option.{option_or}
 use Rattle.sqlite_value.specs.Keys.{plain}
@@ -34,8 +35,8 @@ use Rattle.sqlite.specs.Held.{Held, state}
 use Rattle.sqlite.proofs.Callers.{command_of, statement_of, runs_as}
 use Rattle.bike_sql.specs.Has.{HasTable}
 use Rattle.bike_sql.proofs.GrowLemmas.{same_has}
-use Rattle.bike_rows.specs.Layout.{table_of}
-use Rattle.bike_rows.proofs.ListLemmas.{same_some}
+use Rattle.bike_sql.specs.Layout.{table_of}
+use Rattle.bike_sql.proofs.RowListLemmas.{same_some}
 use Rattle.bike_book.specs.Tables.{TableName}
 use Rattle.bike_schema.specs.Layouts.{layout_of, name_of}
 use Rattle.bike_schema.specs.Creates.{RanAll}
@@ -108,7 +109,8 @@ record Makes (s : Schema) (table text : Name) (c : Compiled) : Type 0 where
   timeless : c.formats ≡ []
   whole : text_of text c ≡ text
 
-module _ (text : List ℕ) (p : Parsed) (parsed : first text ≡ Ok p) (def : IndexText) (statement : p.statement ≡ written.CreateIndex def) (once : def.if_missing ≡ false) (timeless : p.formats ≡ []) (whole : slice_range text p.start p.end ≡ text) where
+module _ (text : List ℕ) (p : Parsed) (parsed : first text ≡ Ok p) (def : IndexText) (statement : p.statement ≡ written.CreateIndex def) (once : def.if_missing ≡ false) (timeless : p.formats ≡ [])
+    (whole : slice_range text p.start p.end ≡ text) where
   compiled_makes : (s : Schema) (c : Compiled) → compiled s text ≡ Ok c → Makes s def.table text c
   unfolding compiled planned meaning returning command timed
   compiled_makes s c is =
@@ -116,7 +118,8 @@ module _ (text : List ℕ) (p : Parsed) (parsed : first text ≡ Ok p) (def : In
       let parts : and_then (planned s p) (λ plan. Ok (with_command p plan)) ≡ Ok c = subst (λ o. and_then o (λ q. and_then (planned s q) (λ plan. Ok (with_command q plan))) ≡ Ok c) parsed is in
       let a = then_ok (planned s p) (λ plan. Ok (with_command p plan)) c parts in
       let written : and_then (and_then (create_index s def) (λ k. Ok (k, None))) (λ found. Ok (p.formats, found)) ≡ Ok a.0 =
-      subst (λ st. and_then (and_then (returning s base st) (λ shown. and_then (command s p.formats base st) (λ k. Ok (k, shown)))) (λ found. Ok (timed s p.formats st, found)) ≡ Ok a.0) statement a.1 in
+      subst (λ st. and_then (and_then (returning s base st) (λ shown. and_then (command s p.formats base st) (λ k. Ok (k, shown)))) (λ found. Ok (timed s p.formats st, found))
+      ≡ Ok a.0) statement a.1 in
       let meant : and_then (and_then (create_index s def) (λ k. Ok (k, None))) (λ found. Ok ([], found)) ≡ Ok a.0 = subst (λ formats. and_then (and_then (create_index s def) (λ k. Ok (k, None))) (λ found. Ok (formats, found)) ≡ Ok a.0) timeless written in
       let b = then_ok (and_then (create_index s def) (λ k. Ok (k, None))) (λ found. Ok ([], found)) a.0 meant in
       let d = then_ok (create_index s def) (λ k. Ok (k, None)) b.0 b.1 in
@@ -133,7 +136,8 @@ module _ (text : List ℕ) (p : Parsed) (parsed : first text ≡ Ok p) (def : In
     where
       listed : (o : Checked Compiled) → compiled listing_schema text ≡ o → if_select o ≡ Ok c → Makes s def.table text c
       listed (Err e) was h = absurd (cc)
-      listed (Ok other) was h = absurd (let k = (compiled_makes listing_schema other was).makes.is in let e : if_select (Ok other) ≡ Err NoSuchTable = ap (λ x. if is_select x then Ok other else Err NoSuchTable) k in let f = sym e ∙ h in cc)
+      listed (Ok other) was h =
+          absurd (let k = (compiled_makes listing_schema other was).makes.is in let e : if_select (Ok other) ≡ Err NoSuchTable = ap (λ x. if is_select x then Ok other else Err NoSuchTable) k in let f = sym e ∙ h in cc)
 
       by : (b : Bool) → (if b then if_select (compiled listing_schema text) else compiled s text) ≡ Ok c → Makes s def.table text c
       by true h = listed (compiled listing_schema text) refl h
@@ -174,7 +178,8 @@ module _ (name text : List ℕ) (at : ℕ) (old new : State) (found : table_name
   adds : AddsIndex name text old.now new.now
   adds = by (slice_get old.now.schema.tables at) refl w.changed
     where
-      by : (o : Option Table) → slice_get old.now.schema.tables at ≡ o → AtPlace (λ table. Defines (mode_of old) (MakesIndex text old.now table)) o (Ok (w.tally, new.now)) → AddsIndex name text old.now new.now
+      by : (o : Option Table) → slice_get old.now.schema.tables at ≡ o → AtPlace (λ table. Defines (mode_of old) (MakesIndex text old.now table)) o (Ok (w.tally, new.now))
+          → AddsIndex name text old.now new.now
       by None is h = absurd (cc)
       by (Some table) is h =
           let done = went h in
@@ -214,7 +219,8 @@ pub record Tells (text : List ℕ) (i : TableIndex) : Type 0 where
   pub defined : (tree : ℕ) → index_defined_by (table_of (layout_of i.table) tree) text ≡ Ok (index_as i places tree)
   pub are : (tree : ℕ) → map Some places ≡ places_in (table_of (layout_of i.table) tree) i.columns
 
-pub index_there : (text : List ℕ) (i : TableIndex) → Tells text i → (a b : Database) (at tree : ℕ) → HasTable a.schema at (table_of (layout_of i.table) tree) → AddsIndex (name_of i.table) text a b → HasIndex b.schema i
+pub index_there : (text : List ℕ) (i : TableIndex) → Tells text i → (a b : Database) (at tree : ℕ) → HasTable a.schema at (table_of (layout_of i.table) tree) → AddsIndex (name_of i.table) text a b
+    → HasIndex b.schema i
 index_there text i tells a b at tree has it =
     let t : Table = table_of (layout_of i.table) tree in
     let place : at ≡ it.at = same_some (sym has.found ∙ it.found) in
@@ -258,7 +264,8 @@ abbrev pub HaveTables : Schema → Type 0
 HaveTables s = (t : TableName) → (at : ℕ) × (tree : ℕ) × HasTable s at (table_of (layout_of t) tree)
 
 module _ {S : Type 0} (g : Ghosts S) where
-  still_there : (texts : List (List ℕ)) (indexes : List TableIndex) (a c : Held S) → AllZip Tells texts indexes → RanAll g texts a c → (i : TableIndex) → HasIndex (state g a).now.schema i → HasIndex (state g c).now.schema i
+  still_there : (texts : List (List ℕ)) (indexes : List TableIndex) (a c : Held S) → AllZip Tells texts indexes → RanAll g texts a c → (i : TableIndex) → HasIndex (state g a).now.schema i
+      → HasIndex (state g c).now.schema i
   still_there [] [] a c tell same i was = subst (λ h. HasIndex (state g h).now.schema i) same was
   still_there [] (x ∷ xs) a c tell ran i was = absurd tell
   still_there (text ∷ texts) [] a c tell ran i was = absurd tell
@@ -266,7 +273,8 @@ module _ {S : Type 0} (g : Ghosts S) where
       let it = index_added (name_of x.table) text tells.only (state g a) (state g mid) ran.0 ran.1.0 in
       still_there texts xs mid c more rest i (index_stays (name_of x.table) text (state g a).now (state g mid).now it i was)
 
-  pub all_there : (texts : List (List ℕ)) (indexes : List TableIndex) (a c : Held S) → AllZip Tells texts indexes → HaveTables (state g a).now.schema → RanAll g texts a c → AllByRecursion (HasIndex (state g c).now.schema) indexes
+  pub all_there : (texts : List (List ℕ)) (indexes : List TableIndex) (a c : Held S) → AllZip Tells texts indexes → HaveTables (state g a).now.schema → RanAll g texts a c
+      → AllByRecursion (HasIndex (state g c).now.schema) indexes
   all_there [] [] a c tell have ran = tt
   all_there [] (x ∷ xs) a c tell have ran = absurd tell
   all_there (text ∷ texts) [] a c tell have ran = absurd tell

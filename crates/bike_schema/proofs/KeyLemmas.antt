@@ -2,7 +2,7 @@
 use Rattle.std.proofs.Common.{List, ℕ, true, if◌then◌else◌, is_none, ◌∷◌, [], refl}
 use Rattle.std.specs.List.{range_with_len}
 use Rattle.sqlite_schema.specs.declared.schema.Schema.{Schema}
-use Rattle.bike_rows.proofs.KeyLemmas.{IsKeyAt, IsUniqueAt, number_unique_at, columns_unique_at}
+use Rattle.bike_sql.proofs.KeyLemmas.{IsKeyAt, IsUniqueAt, number_unique_at, columns_unique_at}
 use Rattle.bike_book.specs.Tables.{TableName, keys_of, Meta, System, Plans, Segments, Types, Regions, Stations, Docks, Bikes, Trucks, Riders, Rentals, Orders, Entries, Kept, Counts, MoreNames}
 use Rattle.bike_schema.specs.Layouts.{layout_of, layout_by, layout_in}
 

@@ -3,8 +3,8 @@ use Rattle.std.proofs.Common.{◌≡◌, List, ℕ, [], ◌∷◌, get_or, map, 
 use Rattle.std.specs.List.{AllByRecursion, AllZip}
 use Rattle.sqlite_resolve.specs.Compile.{first, table_defined_by}
 use Rattle.sqlite_tied.specs.Compute.{everything}
-use Rattle.bike_rows.specs.Layout.{Layout, table_of}
-use Rattle.bike_rows.proofs.IndexLaw.{IsOnlyIndex}
+use Rattle.bike_sql.specs.Layout.{Layout, table_of}
+use Rattle.bike_sql.proofs.IndexLaw.{IsOnlyIndex}
 use Rattle.bike_book.specs.Tables.{TableName, table_place, Meta, System, Plans, Segments, Types, Regions, Stations, Docks, Bikes, Trucks, Riders, Rentals, Orders, Entries, Kept, Counts, MoreNames}
 use Rattle.bike_schema.specs.Layouts.{layout_of, every_table}
 use Rattle.bike_schema.specs.Creates.{table_texts, index_texts}

@@ -1,5 +1,6 @@
 -- What each CREATE TABLE makes of the database.
-use Rattle.std.proofs.Common.{◌≡◌, ◌||◌, ◌⊎◌, unwrap_or, zero, suc, ℕ, ◌<◌, ◌≤◌, false, is_some, List, [], ◌∷◌, ◌++◌, slice_get, Option, Some, None, Ok, Err, Result, refl, sym, ap, subst, ◌∙◌, arith, inl, inr}
+use Rattle.std.proofs.Common.{◌≡◌, ◌||◌, ◌⊎◌, unwrap_or, zero, suc, ℕ, ◌<◌, ◌≤◌, false, is_some, List, [], ◌∷◌, ◌++◌, slice_get, Option, Some, None, Ok, Err, Result, refl, sym, ap, subst, ◌∙◌, arith}
+use Rattle.std.proofs.Common.{inl, inr}
 use Rattle.std.specs.List.{AllByRecursion}
 use Rattle.std.proofs.lemmas.Bool.{or_parts, cases_Bool}
 use Rattle.sqlite_trees.specs.Tree.{Trees}
@@ -21,7 +22,7 @@ use Rattle.sqlite.specs.Given.{IsPlain}
 use Rattle.sqlite.specs.Listing.{understood}
 use Rattle.sqlite.specs.State.{State, Writes, Executes, ExecutesIn}
 use Rattle.sqlite.proofs.Callers.{command_of, statement_of, runs_as}
-use Rattle.bike_rows.specs.Layout.{Layout, table_of}
+use Rattle.bike_sql.specs.Layout.{Layout, table_of}
 use Rattle.bike_schema.proofs.MakeTexts.{understood_as}
 use Rattle.bike_schema.proofs.MakeFacts.{Declares}
 
@@ -140,7 +141,8 @@ module _ (text : List ℕ) (layout : Layout) (defined : table_defined_by text �
       uncounted : (mid end : Database) → mid ≡ end → After mid end
       uncounted mid end same = subst (After mid) same (record { more = []; grown = nil_right mid.schema.tables; plain = tt; later = tt; others = kept_same mid.schema.tables mid.trees })
 
-      finish : (mid end : Database) → mid.schema.tables ≡ (created old.now.schema (table_of layout 0)).tables → table_named old.now.schema layout.name ≡ None → mid.trees (next_tree old.now.schema) ≡ []
+      finish : (mid end : Database) → mid.schema.tables ≡ (created old.now.schema (table_of layout 0)).tables → table_named old.now.schema layout.name ≡ None
+          → mid.trees (next_tree old.now.schema) ≡ []
           → KeepsRows old.now.schema.tables old.now.trees mid.trees → end ≡ new.now → After mid end → Adds layout old.now new.now
       finish mid end tables free empty others now a =
           let ours : Table = table_of layout (next_tree old.now.schema) in

@@ -82,7 +82,8 @@ pub record Makes (text : List ℕ) (c : Compiled) : Type 0 where
   pub timeless : c.formats ≡ []
   pub whole : text_of text c ≡ text
 
-module _ (text : List ℕ) (p : Parsed) (parsed : first text ≡ Ok p) (def : TableText) (statement : p.statement ≡ written.CreateTable def) (once : def.if_missing ≡ false) (whole : slice_range text p.start p.end ≡ text) where
+module _ (text : List ℕ) (p : Parsed) (parsed : first text ≡ Ok p) (def : TableText) (statement : p.statement ≡ written.CreateTable def) (once : def.if_missing ≡ false)
+    (whole : slice_range text p.start p.end ≡ text) where
   compiled_makes : (s : Schema) (c : Compiled) → compiled s text ≡ Ok c → Makes text c
   unfolding compiled planned meaning returning command timed
   compiled_makes s c is =
@@ -90,7 +91,8 @@ module _ (text : List ℕ) (p : Parsed) (parsed : first text ≡ Ok p) (def : Ta
       let parts : and_then (planned s p) (λ plan. Ok (with_command p plan)) ≡ Ok c = subst (λ o. and_then o (λ q. and_then (planned s q) (λ plan. Ok (with_command q plan))) ≡ Ok c) parsed is in
       let a = then_ok (planned s p) (λ plan. Ok (with_command p plan)) c parts in
       let meant : and_then (and_then (create_table s p.formats def) (λ k. Ok (k, None))) (λ found. Ok ([], found)) ≡ Ok a.0 =
-      subst (λ st. and_then (and_then (returning s base st) (λ shown. and_then (command s p.formats base st) (λ k. Ok (k, shown)))) (λ found. Ok (timed s p.formats st, found)) ≡ Ok a.0) statement a.1 in
+      subst (λ st. and_then (and_then (returning s base st) (λ shown. and_then (command s p.formats base st) (λ k. Ok (k, shown)))) (λ found. Ok (timed s p.formats st, found))
+      ≡ Ok a.0) statement a.1 in
       let b = then_ok (and_then (create_table s p.formats def) (λ k. Ok (k, None))) (λ found. Ok ([], found)) a.0 meant in
       let d = then_ok (create_table s p.formats def) (λ k. Ok (k, None)) b.0 b.1 in
       let made = makes_table s p.formats def once d.0 d.1 in
@@ -106,7 +108,8 @@ module _ (text : List ℕ) (p : Parsed) (parsed : first text ≡ Ok p) (def : Ta
     where
       listed : (o : Checked Compiled) → compiled listing_schema text ≡ o → if_select o ≡ Ok c → Makes text c
       listed (Err e) was h = absurd (cc)
-      listed (Ok other) was h = absurd (let k = (compiled_makes listing_schema other was).makes in let e : if_select (Ok other) ≡ Err NoSuchTable = ap (λ x. if is_select x then Ok other else Err NoSuchTable) k in let f = sym e ∙ h in cc)
+      listed (Ok other) was h =
+          absurd (let k = (compiled_makes listing_schema other was).makes in let e : if_select (Ok other) ≡ Err NoSuchTable = ap (λ x. if is_select x then Ok other else Err NoSuchTable) k in let f = sym e ∙ h in cc)
 
       by : (b : Bool) → (if b then if_select (compiled listing_schema text) else compiled s text) ≡ Ok c → Makes text c
       by true h = listed (compiled listing_schema text) refl h

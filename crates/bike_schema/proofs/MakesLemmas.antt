@@ -10,12 +10,12 @@ use Rattle.sqlite_trees.specs.declared.store.Store.{Ghosts}
 use Rattle.sqlite.specs.declared.error.Error.{Error}
 use Rattle.sqlite.specs.Held.{Held, state}
 use Rattle.sqlite.specs.State.{State, ExecutesInside}
-use Rattle.bike_rows.specs.Outcome.{ToldAs}
-use Rattle.bike_rows.specs.View.{put_row_by, rows_after_update, rows_after_removal, with_values, IsFree}
-use Rattle.bike_rows.specs.Runs.{RunsInside}
-use Rattle.bike_rows.proofs.CallLaws.{Does, insert_returns}
-use Rattle.bike_rows.proofs.WriteLaws.{Inserts, InsertsFree, Updates, Removes, changes_inside, inserts_inside}
-use Rattle.bike_rows.specs.Stands.{rows_of, is_same_text, Stands, Sets}
+use Rattle.bike_sql.specs.Outcome.{ToldAs}
+use Rattle.bike_sql.specs.View.{put_row_by, rows_after_update, rows_after_removal, with_values, IsFree}
+use Rattle.bike_sql.specs.Runs.{RunsInside}
+use Rattle.bike_sql.proofs.CallLaws.{Does, insert_returns}
+use Rattle.bike_sql.proofs.WriteLaws.{Inserts, InsertsFree, Updates, Removes, changes_inside, inserts_inside}
+use Rattle.bike_sql.specs.Stands.{rows_of, is_same_text, Stands, Sets}
 use Rattle.bike_book.specs.Tables.{TableName, Tables, keys_of, is_table, rows_in, tables_by, with_rows, Kept}
 use Rattle.bike_book.specs.Writes.{RowWrite, Add, Set, Remove, Columns, table_of_write, rows_after, tables_after, tables_after_all}
 use Rattle.bike_schema.specs.Layouts.{layout_in, name_of}
@@ -59,7 +59,8 @@ module _ (old new : Database) (t : TableName) (rows : List Row) (has : HasTables
   set_others keys layout other stands = set.others keys layout (every_false (λ u. is_same_text layout.name (name_of u)) other t) stands
 
 -- a write of rows that are those after it
-pub sets_makes : (old new : Database) (w : RowWrite) → HasTables old → Sets old new (keys_of (table_of_write w)) (layout_in old.schema (table_of_write w)) (rows_after w (tables_of old)) → Makes (w ∷ []) old new
+pub sets_makes : (old new : Database) (w : RowWrite) → HasTables old → Sets old new (keys_of (table_of_write w)) (layout_in old.schema (table_of_write w)) (rows_after w (tables_of old))
+    → Makes (w ∷ []) old new
 sets_makes old new w has set =
     let t = table_of_write w in
     let rows = rows_after w (tables_of old) in record {
@@ -106,10 +107,12 @@ puts_then ws vs a b c first second = record { continues = continues_then a b c f
 -- ---- statements
 
 -- An INSERT of a row into a table is that write, and the row's key was free.
-pub adds_row : (t : TableName) {text : List ℕ} {row : Row} → ((s : Schema) → Inserts (keys_of t) (layout_in s t) text row) → Does (Admits (Add t row)) (λ db. WasFree (Add t row) (tables_of db)) (Puts (Add t row ∷ [])) text row
+pub adds_row : (t : TableName) {text : List ℕ} {row : Row} → ((s : Schema) → Inserts (keys_of t) (layout_in s t) text row)
+    → Does (Admits (Add t row)) (λ db. WasFree (Add t row) (tables_of db)) (Puts (Add t row ∷ [])) text row
 adds_row t {text} {row} it = record { does = λ old new may r ran. on_ok_weaker r (puts old new may.0) (changes_inside (it old.now.schema) old new may.0.sound (may.0.has t) r ran) }
   where
-    puts : (old new : State) (ours : IsOurs old.now) → Continues old new × Sets old.now new.now (keys_of t) (layout_in old.now.schema t) (put_row_by (keys_of t) row (rows_of (keys_of t) (name_of t) old.now)) × IsFree (keys_of t) row (rows_of (keys_of t) (name_of t) old.now)
+    puts : (old new : State) (ours : IsOurs old.now) → Continues old new × Sets old.now new.now (keys_of t) (layout_in old.now.schema t)
+        (put_row_by (keys_of t) row (rows_of (keys_of t) (name_of t) old.now)) × IsFree (keys_of t) row (rows_of (keys_of t) (name_of t) old.now)
         → Puts (Add t row ∷ []) old new × WasFree (Add t row) (tables_of old.now)
     puts old new ours done =
         let w = Add t row in
@@ -118,10 +121,13 @@ adds_row t {text} {row} it = record { does = λ old new may r ran. on_ok_weaker 
         (record { continues = done.0; makes = sets_makes old.now new.now w ours.has set }, subst (IsFree (keys_of t) row) same done.2)
 
 -- An INSERT of a row into `kept` is that write, where the row's key is free.
-pub keeps_row : {text : List ℕ} {row : Row} → ((s : Schema) → InsertsFree (keys_of Kept) (layout_in s Kept) text row) → Does (Admits (Add Kept row)) (λ db. WasFree (Add Kept row) (tables_of db)) (Puts (Add Kept row ∷ [])) text row
+pub keeps_row : {text : List ℕ} {row : Row} → ((s : Schema) → InsertsFree (keys_of Kept) (layout_in s Kept) text row)
+    → Does (Admits (Add Kept row)) (λ db. WasFree (Add Kept row) (tables_of db)) (Puts (Add Kept row ∷ [])) text row
 keeps_row {text} {row} it = record { does = λ old new may r ran. on_ok_weaker r (puts old new may) (inserts_inside (it old.now.schema) old new may.0.sound (may.0.has Kept) (may.1 refl) r ran) }
   where
-    puts : (old new : State) (may : Admits (Add Kept row) old.now) → Continues old new × Sets old.now new.now (keys_of Kept) (layout_in old.now.schema Kept) (put_row_by (keys_of Kept) row (rows_of (keys_of Kept) (name_of Kept) old.now)) → Puts (Add Kept row ∷ []) old new × WasFree (Add Kept row) (tables_of old.now)
+    puts : (old new : State) (may : Admits (Add Kept row) old.now) → Continues old new
+        × Sets old.now new.now (keys_of Kept) (layout_in old.now.schema Kept) (put_row_by (keys_of Kept) row (rows_of (keys_of Kept) (name_of Kept) old.now))
+        → Puts (Add Kept row ∷ []) old new × WasFree (Add Kept row) (tables_of old.now)
     puts old new may done = (record { continues = done.0; makes = sets_makes old.now new.now (Add Kept row) may.0.has done.1 }, may.1 refl)
 
 -- An UPDATE of columns of the row with a key is that write.
@@ -129,7 +135,8 @@ pub sets_columns : (t : TableName) {text : List ℕ} {params : Row} (key : Row) 
     → Does (Admits (Set t key columns)) (λ db. WasFree (Set t key columns) (tables_of db)) (Puts (Set t key columns ∷ [])) text params
 sets_columns t {text} {params} key columns it = record { does = λ old new may r ran. on_ok_weaker r (puts old new may.0) (changes_inside (it old.now.schema) old new may.0.sound (may.0.has t) r ran) }
   where
-    puts : (old new : State) (ours : IsOurs old.now) → Continues old new × Sets old.now new.now (keys_of t) (layout_in old.now.schema t) (rows_after_update (keys_of t) key (with_values columns) (rows_of (keys_of t) (name_of t) old.now)) × Unit {0}
+    puts : (old new : State) (ours : IsOurs old.now) → Continues old new × Sets old.now new.now (keys_of t) (layout_in old.now.schema t)
+        (rows_after_update (keys_of t) key (with_values columns) (rows_of (keys_of t) (name_of t) old.now)) × Unit {0}
         → Puts (Set t key columns ∷ []) old new × WasFree (Set t key columns) (tables_of old.now)
     puts old new ours done =
         let w = Set t key columns in
@@ -141,7 +148,8 @@ pub removes_row : (t : TableName) {text : List ℕ} {params : Row} (key : Row) �
     → Does (Admits (Remove t key)) (λ db. WasFree (Remove t key) (tables_of db)) (Puts (Remove t key ∷ [])) text params
 removes_row t {text} {params} key it = record { does = λ old new may r ran. on_ok_weaker r (puts old new may.0) (changes_inside (it old.now.schema) old new may.0.sound (may.0.has t) r ran) }
   where
-    puts : (old new : State) (ours : IsOurs old.now) → Continues old new × Sets old.now new.now (keys_of t) (layout_in old.now.schema t) (rows_after_removal (keys_of t) key (rows_of (keys_of t) (name_of t) old.now)) × Unit {0}
+    puts : (old new : State) (ours : IsOurs old.now) → Continues old new × Sets old.now new.now (keys_of t) (layout_in old.now.schema t)
+        (rows_after_removal (keys_of t) key (rows_of (keys_of t) (name_of t) old.now)) × Unit {0}
         → Puts (Remove t key ∷ []) old new × WasFree (Remove t key) (tables_of old.now)
     puts old new ours done =
         let w = Remove t key in
@@ -149,14 +157,16 @@ removes_row t {text} {params} key it = record { does = λ old new may r ran. on_
         (record { continues = done.0; makes = sets_makes old.now new.now w ours.has set }, tt)
 
 -- What a function of one statement tells, from what its text does and what the engine makes of it. The values that it sends compute to the parameters.
-pub writes_told : {S X : Type 0} {g : Ghosts S} {w : RowWrite} {text : List ℕ} {params sent : Row} {old new : MutBor (Held S)} {result : Result X StatementFault} → Does (Admits w) (λ db. WasFree w (tables_of db)) (Puts (w ∷ [])) text params
+pub writes_told : {S X : Type 0} {g : Ghosts S} {w : RowWrite} {text : List ℕ} {params sent : Row} {old new : MutBor (Held S)} {result : Result X StatementFault}
+    → Does (Admits w) (λ db. WasFree w (tables_of db)) (Puts (w ∷ [])) text params
     → RunsInside g old new text sent (λ error fault. fault ≡ fault_of error) result → sent ≡ params → Writes g old new result w
 writes_told {X = X} {g = g} {text = text} {sent = sent} {old = old} {new = new} does ran same = record {
   writes = insert_returns does ran same;
   told = λ clean inside. let it = ran.ran clean inside in faults it.0 _ it.1 it.2;
 }
   where
-    faults : (r : Result ℕ Error) (q : Result X StatementFault) → ExecutesInside 0 text sent (state g old.now) (state g new.now) r → ToldAs (λ error fault. fault ≡ fault_of error) (λ count done. Unit {0}) r q → IfErr q (IsFaultOf g old.now new.now)
+    faults : (r : Result ℕ Error) (q : Result X StatementFault) → ExecutesInside 0 text sent (state g old.now) (state g new.now) r
+        → ToldAs (λ error fault. fault ≡ fault_of error) (λ count done. Unit {0}) r q → IfErr q (IsFaultOf g old.now new.now)
     faults (Ok count) (Ok x) ran told = tt
     faults (Err error) (Err fault) ran told = record { text = text; params = sent; error = error; refused = ran; fault_is = told }
     faults (Ok count) (Err fault) ran told = absurd told

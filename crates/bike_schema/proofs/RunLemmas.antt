@@ -4,7 +4,7 @@ use Rattle.std.proofs.lemmas.List.{take_more, map-append}
 use Rattle.sqlite_trees.specs.declared.store.Store.{Ghosts}
 use Rattle.sqlite.specs.Held.{Held, state}
 use Rattle.sqlite.specs.State.{State, KeepsCommit}
-use Rattle.bike_rows.specs.Outcome.{IsLeft}
+use Rattle.bike_sql.specs.Outcome.{IsLeft}
 use Rattle.bike_schema.specs.Makes.{Continues}
 use Rattle.bike_schema.specs.Creates.{Ran, RanAll}
 

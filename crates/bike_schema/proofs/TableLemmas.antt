@@ -3,9 +3,10 @@ use Rattle.std.proofs.Common.{◌≡◌, ◌||◌, Bool, true, false, not, List,
 use Rattle.std.specs.List.{AllByRecursion, list_any, list_all}
 use Rattle.std.proofs.lemmas.Bool.{and_parts, or_parts, eqb-true}
 use Rattle.sqlite_value.specs.Order.{Row}
-use Rattle.bike_rows.specs.Stands.{is_same_text}
-use Rattle.bike_rows.proofs.ListLemmas.{same_some, all_at}
-use Rattle.bike_book.specs.Tables.{TableName, table_place, is_table, rows_in, tables_by, Meta, System, Plans, Segments, Types, Regions, Stations, Docks, Bikes, Trucks, Riders, Rentals, Orders, Entries, Kept, Counts, MoreNames}
+use Rattle.bike_sql.specs.Stands.{is_same_text}
+use Rattle.bike_sql.proofs.RowListLemmas.{same_some, all_at}
+use Rattle.bike_book.specs.Tables.{TableName, table_place, is_table, rows_in, tables_by, Meta, System, Plans, Segments, Types, Regions, Stations, Docks, Bikes, Trucks, Riders, Rentals, Orders}
+use Rattle.bike_book.specs.Tables.{Entries, Kept, Counts, MoreNames}
 use Rattle.bike_schema.specs.Layouts.{name_of, every_table}
 
 -- ---- a line for each table

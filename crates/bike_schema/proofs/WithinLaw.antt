@@ -1,5 +1,6 @@
 -- SELECT from a table the rows of which one column lies between two values, both among them.
-use Rattle.std.proofs.Common.{◌≡◌, ◌<◌, ℕ, List, [], ◌∷◌, map, filter, find, take, slice_get, negsuc, Bool, true, false, not, ◌&&◌, cond, Some, Ordering, Less, Equal, Greater, refl, sym, ap, ap₂, subst, ◌∙◌, arith}
+use Rattle.std.proofs.Common.{◌≡◌, ◌<◌, ℕ, List, [], ◌∷◌, map, filter, find, take, slice_get, negsuc, Bool, true, false, not, ◌&&◌, cond, Some, Ordering, Less, Equal, Greater, refl, sym, ap, ap₂}
+use Rattle.std.proofs.Common.{subst, ◌∙◌, arith}
 use Rattle.std.specs.Ordering.{nat_cmp, is_eq, is_lt, is_le, MatchOrdering}
 use Rattle.std.specs.Cmp.{ranks}
 use Rattle.std.proofs.lemmas.Bool.{true≢false}
@@ -13,17 +14,17 @@ use Rattle.sqlite_sql.specs.Query.{Query}
 use Rattle.sqlite_sql.specs.Term.{Term, lit, col, op2, eval, eval_all}
 use Rattle.sqlite_sql.specs.declared.ops.BinaryOp.TheVariants.{Compare}
 use Rattle.sqlite_sql.specs.declared.ops.CompareOp.TheVariants.{Ge, Le}
-use Rattle.bike_rows.specs.Answer.{HasOneAnswer}
-use Rattle.bike_rows.specs.Layout.{table_of}
-use Rattle.bike_rows.specs.Queries.{table_query, limit_query, by_columns}
-use Rattle.bike_rows.specs.View.{columns_of, row_with, rows_where}
-use Rattle.bike_rows.proofs.ListLemmas.{map_map}
-use Rattle.bike_rows.proofs.PageLaw.{map_same_list}
-use Rattle.bike_rows.proofs.RangeLaw.{ge_test}
-use Rattle.bike_rows.proofs.SelectLaws.{every_column, rows_passing}
-use Rattle.bike_rows.proofs.TestLemmas.{truth_of, then_eq}
-use Rattle.bike_rows.proofs.TextLemmas.{IsSelect}
-use Rattle.bike_rows.proofs.WalkLaw.{Finds}
+use Rattle.bike_sql.specs.Answer.{HasOneAnswer}
+use Rattle.bike_sql.specs.Layout.{table_of}
+use Rattle.bike_sql.specs.Queries.{table_query, limit_query, by_columns}
+use Rattle.bike_sql.specs.View.{columns_of, row_with, rows_where}
+use Rattle.bike_sql.proofs.RowListLemmas.{map_map}
+use Rattle.bike_sql.proofs.PageLaw.{map_same_list}
+use Rattle.bike_sql.proofs.RangeLaw.{ge_test}
+use Rattle.bike_sql.proofs.SelectLaws.{every_column, rows_passing}
+use Rattle.bike_sql.proofs.TestLemmas.{truth_of, then_eq}
+use Rattle.bike_sql.proofs.TextLemmas.{IsSelect}
+use Rattle.bike_sql.proofs.WalkLaw.{Finds}
 use Rattle.bike_book.specs.Operator.{text_cmp}
 use Rattle.bike_book.specs.Tables.{TableName, Tables, rows_in}
 use Rattle.bike_book.specs.Rows.{number_value}
@@ -98,12 +99,14 @@ shows_every t params r = map_map _ (λ term. eval term (params ∷ r ∷ [])) _
 abbrev pub StandsAt : TableName → ℕ → Type 0
 StandsAt t place = (r : Row) → column (columns_of (table_of (layout_of t) 0) r) 0 ≡ column r place
 
-pub lists_within : (t : TableName) {text : List ℕ} (place : ℕ) (from to : Value) → is_null from ≡ false → is_null to ≡ false → StandsAt t place → InEach t (λ layout. IsSelect (within_query t place) layout text)
+pub lists_within : (t : TableName) {text : List ℕ} (place : ℕ) (from to : Value) → is_null from ≡ false → is_null to ≡ false → StandsAt t place
+    → InEach t (λ layout. IsSelect (within_query t place) layout text)
     → ListsIn text (from ∷ to ∷ []) (λ tables. rows_within from to (rows_in tables t))
 lists_within t {text} place from to p q shown is = record {
   lists = λ db has. subst (λ rows. HasOneAnswer db text (from ∷ to ∷ []) (rows_within from to rows)) (sym (rows_of_table db t))
       (subst (HasOneAnswer db text (from ∷ to ∷ [])) (map_same_list _)
-      (rows_passing (key_in_schema db.schema t) (has t) (every_column (layout_of t)) (λ row. row) (shows_every t (from ∷ to ∷ [])) (within_tests place 0 1) (lit (Int (negsuc 0))) (λ row. is_within from to (column row 0)) (is db.schema) (λ r.
+      (rows_passing (key_in_schema db.schema t) (has t) (every_column (layout_of t)) (λ row. row) (shows_every t (from ∷ to ∷ [])) (within_tests place 0 1) (lit (Int (negsuc 0)))
+      (λ row. is_within from to (column row 0)) (is db.schema) (λ r.
       within_test (column r place) from to p q ∙ ap (is_within from to) (sym (shown r)))));
 }
 

@@ -8,8 +8,8 @@ use Rattle.sqlite.specs.Effect.{Database}
 use Rattle.sqlite.specs.declared.error.Error.{Error}
 use Rattle.sqlite.specs.Held.{Held, state}
 use Rattle.sqlite.specs.State.{HasCleanDisk, ExecutesInside}
-use Rattle.bike_rows.specs.View.{IsFree}
-use Rattle.bike_rows.specs.Calls.{ReadsWhere, WritesWhere, WalksWhere, LendsWhere}
+use Rattle.bike_sql.specs.View.{IsFree}
+use Rattle.bike_sql.specs.Calls.{ReadsWhere, WritesWhere, WalksWhere, LendsWhere}
 use Rattle.bike_book.specs.Tables.{Tables, keys_of, rows_in}
 use Rattle.bike_book.specs.Writes.{RowWrite, Add, Set, Remove, MayWrite}
 use Rattle.bike_schema.specs.Tables.{IsOurs, tables_of}
@@ -40,8 +40,10 @@ pub record IsFaultOf {S : Type 0} (g : Ghosts S) (old new : Held S) (fault : Sta
   pub fault_is : fault ≡ fault_of error
 
 -- A write inside a transaction: what it makes of the tables. It is refused where a row has the key that it adds.
-pub record Writes {S : Type 0} (g : Ghosts S) (old new : MutBor (Held S)) {X : Type 0} (result : Result X StatementFault) (w : RowWrite) : Type 0 where
-  pub writes : WritesWhere g (Admits w) old new result (λ before after. Puts (w ∷ []) before after × WasFree w (tables_of before.now))
+pub record Writes {S : Type 0} (g : Ghosts S) (old new : MutBor (Held S)) {X : Type 0}
+    (result : Result X StatementFault) (w : RowWrite) : Type 0 where
+  pub writes : WritesWhere g (Admits w) old new result
+      (λ before after. Puts (w ∷ []) before after × WasFree w (tables_of before.now))
   pub open writes use *
   pub told : HasCleanDisk (state g new.now) → IsTrue old.now.in_transaction → IfErr result (IsFaultOf g old.now new.now)
 
@@ -50,5 +52,6 @@ abbrev pub Walks : {S E : Type 0} (g : Ghosts S) → MutBor (Held S) → Result 
 Walks g conn result all = WalksWhere g IsOurs conn result (λ db. all (tables_of db))
 
 -- the connection that is lent to a walk
-abbrev pub Lends : {E : Type 0} (S : RattleType) (g : Ghosts S.Denot) → MutBor (Held S.Denot) → Result (Rows S.Denot g) E → Fml
+abbrev pub Lends : {E : Type 0} (S : RattleType) (g : Ghosts S.Denot) → MutBor (Held S.Denot)
+    → Result (Rows S.Denot g) E → Fml
 Lends S g conn result = LendsWhere S g IsOurs conn result

@@ -1,5 +1,6 @@
 -- Columns of a row as values of the product.
-use Rattle.std.specs.Prelude.{ℕ, ℤ, pos, negsuc, Bool, true, false, ◌&&◌, nat_le, if◌then◌else◌, List, Option, Some, None, option_map, option_and_then, Result, Ok, Err}
+use Rattle.std.specs.Prelude.{ℕ, ℤ, pos, negsuc, Bool, true, false, ◌&&◌, nat_le, if◌then◌else◌, List, Option, Some}
+use Rattle.std.specs.Prelude.{None, option_map, option_and_then, Result, Ok, Err}
 use Rattle.std.specs.Ordering.{int_eq}
 use Rattle.std.specs.Str.{is_utf8}
 use Rattle.sqlite_value.specs.declared.value.Value.{Value}
@@ -27,7 +28,9 @@ abbrev pub flag_of : ℤ → Option Bool
 flag_of n = if int_eq n (pos 0) then Some false else (if int_eq n (pos 1) then Some true else None)
 
 abbrev pub state_of : ℤ → Option BikeState
-state_of n = if int_eq n (pos 0) then Some Fit else (if int_eq n (pos 1) then Some Disabled else (if int_eq n (pos 2) then Some Retired else None))
+state_of n =
+    if int_eq n (pos 0) then Some Fit else (if int_eq n (pos 1) then Some Disabled
+    else (if int_eq n (pos 2) then Some Retired else None))
 
 -- ---- columns
 

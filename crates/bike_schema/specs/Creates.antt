@@ -37,7 +37,8 @@ index_texts = map (λ text. text.now) INDEXES
 abbrev pub first_write : RowWrite
 first_write = Add Meta (meta_row NEWEST 0 (pos 0) (pos 0))
 
--- The tables are there with their indexes, and are those of the operator of which nothing was asked. Every other table stays.
+-- The tables are there with their indexes, and are those of the
+-- operator of which nothing was asked. Every other table stays.
 pub record IsFresh (old new : Database) : Type 0 where
   pub sound : IsDatabase new
   pub has : HasTables new
@@ -71,4 +72,5 @@ LeavesCommit g old new result =
 -- the fault is that of a statement which the engine refused
 abbrev pub TellsFault : {S X : Type 0} (g : Ghosts S) → Held S → Held S → Result X StatementFault → Type 0
 TellsFault g old new result =
-    HasCleanDisk (state g new) → IsTrue old.in_transaction → IfErr result (λ fault. (mid : Held _) × IsFaultOf g mid new fault)
+    HasCleanDisk (state g new) → IsTrue old.in_transaction
+    → IfErr result (λ fault. (mid : Held _) × IsFaultOf g mid new fault)

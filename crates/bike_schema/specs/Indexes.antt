@@ -1,5 +1,6 @@
 -- The indexes beside those of the keys, and the names that making the tables takes.
-use Rattle.std.specs.Prelude.{◌≡◌, ℕ, Bool, not, false, List, [], ◌∷◌, ◌++◌, map, Option, Some, option_map, codes, IsTrue}
+use Rattle.std.specs.Prelude.{◌≡◌, ℕ, Bool, not, false, List, [], ◌∷◌, ◌++◌, map, Option, Some, option_map, codes}
+use Rattle.std.specs.Prelude.{IsTrue}
 use Rattle.std.specs.List.{list_all, AllByRecursion}
 use Rattle.sqlite_value.specs.Keys.{plain}
 use Rattle.sqlite_schema.specs.declared.schema.Table.{Table}
@@ -42,7 +43,8 @@ abbrev pub kept_by_key : TableIndex
 kept_by_key = index_on (codes "kept_by_key") Kept (codes "caller" ∷ codes "req_key" ∷ [])
 
 abbrev pub every_index : List TableIndex
-every_index = bikes_by_dock ∷ bikes_by_truck ∷ rentals_by_rider ∷ more_names_by_language ∷ more_names_by_thing ∷ kept_by_key ∷ []
+every_index =
+    bikes_by_dock ∷ bikes_by_truck ∷ rentals_by_rider ∷ more_names_by_language ∷ more_names_by_thing ∷ kept_by_key ∷ []
 
 -- where a stored row of the table has the columns of these names
 abbrev pub places_in : Table → List (List ℕ) → List (Option ℕ)

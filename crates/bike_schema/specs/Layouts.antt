@@ -1,12 +1,14 @@
 -- The tables of the schema, each as its CREATE TABLE makes it. Every table is STRICT.
-use Rattle.std.specs.Prelude.{ℕ, Bool, true, false, ◌&&◌, if◌then◌else◌, List, [], ◌∷◌, slice_get, Some, None, is_some, option_map, option_and_then, unwrap_or, codes}
+use Rattle.std.specs.Prelude.{ℕ, Bool, true, false, ◌&&◌, if◌then◌else◌, List, [], ◌∷◌, slice_get, Some, None, is_some}
+use Rattle.std.specs.Prelude.{option_map, option_and_then, unwrap_or, codes}
 use Rattle.sqlite_value.specs.Keys.{plain}
 use Rattle.sqlite_schema.specs.declared.schema.Column.{Column}
 use Rattle.sqlite_schema.specs.declared.schema.Kind.TheVariants.{Integer, Text}
 use Rattle.sqlite_schema.specs.declared.schema.Schema.{Schema}
 use Rattle.sqlite_schema.specs.Names.{table_named}
-use Rattle.bike_rows.specs.Layout.{Layout, strict}
-use Rattle.bike_book.specs.Tables.{TableName, is_table, Meta, System, Plans, Segments, Types, Regions, Stations, Docks, Bikes, Trucks, Riders, Rentals, Orders, Entries, Kept, Counts, MoreNames}
+use Rattle.bike_sql.specs.Layout.{Layout, strict}
+use Rattle.bike_book.specs.Tables.{TableName, is_table, Meta, System, Plans, Segments, Types, Regions, Stations, Docks}
+use Rattle.bike_book.specs.Tables.{Bikes, Trucks, Riders, Rentals, Orders, Entries, Kept, Counts, MoreNames}
 
 -- a column of whole numbers or of texts, NOT NULL
 abbrev pub number : List ℕ → Column
@@ -24,15 +26,25 @@ text_or_null name = strict name Text false
 
 -- a table whose key is one number, its first column: the INTEGER PRIMARY KEY, for which the rowid stands
 abbrev pub numbered_layout : List ℕ → List ℕ → List Column → Layout
-numbered_layout name key others = record { name = name; columns = number_or_null key ∷ others; key = Some 0; primary = 0 ∷ []; uniques = []; orders = [] }
+numbered_layout name key others =
+    record {
+      name = name;
+      columns = number_or_null key ∷ others;
+      key = Some 0;
+      primary = 0 ∷ [];
+      uniques = [];
+      orders = [];
+    }
 
 -- a table whose key is its first columns, which stand at these places of a stored row, after the rowid
 abbrev pub keyed_layout : List ℕ → List ℕ → List Column → Layout
-keyed_layout name places columns = record { name = name; columns = columns; key = None; primary = places; uniques = places ∷ []; orders = plain ∷ [] }
+keyed_layout name places columns =
+    record { name = name; columns = columns; key = None; primary = places; uniques = places ∷ []; orders = plain ∷ [] }
 
 -- a table whose rows are found by plain indexes alone
 abbrev pub plain_layout : List ℕ → List Column → Layout
-plain_layout name columns = record { name = name; columns = columns; key = None; primary = []; uniques = []; orders = [] }
+plain_layout name columns =
+    record { name = name; columns = columns; key = None; primary = []; uniques = []; orders = [] }
 
 abbrev pub kept_columns : List Column
 kept_columns = text (codes "caller") ∷ text (codes "req_key") ∷ text (codes "command") ∷ text (codes "reply") ∷ []
@@ -40,33 +52,47 @@ kept_columns = text (codes "caller") ∷ text (codes "req_key") ∷ text (codes 
 -- THE TABLES. An end of an order is a station's identifier, or *.
 abbrev pub layout_of : TableName → Layout
 layout_of Meta = numbered_layout (codes "meta") (codes "one")
-    (text (codes "app") ∷ number (codes "version") ∷ number (codes "now") ∷ number (codes "cash") ∷ number (codes "revenue") ∷ [])
+    (text (codes "app") ∷ number (codes "version") ∷ number (codes "now") ∷ number (codes "cash")
+    ∷ number (codes "revenue") ∷ [])
 layout_of System = numbered_layout (codes "system") (codes "one")
-    (text (codes "system_id") ∷ text (codes "language") ∷ text (codes "name") ∷ text (codes "hours") ∷ text (codes "contact") ∷ text (codes "zone") ∷ text (codes "currency") ∷ text (codes "base_url") ∷ number (codes "ttl") ∷ [])
+    (text (codes "system_id") ∷ text (codes "language") ∷ text (codes "name") ∷ text (codes "hours")
+    ∷ text (codes "contact") ∷ text (codes "zone") ∷ text (codes "currency") ∷ text (codes "base_url")
+    ∷ number (codes "ttl") ∷ [])
 layout_of Plans = keyed_layout (codes "plans") (1 ∷ [])
-    (text (codes "plan_id") ∷ text (codes "name") ∷ number (codes "price") ∷ number (codes "taxable") ∷ text (codes "description") ∷ [])
+    (text (codes "plan_id") ∷ text (codes "name") ∷ number (codes "price") ∷ number (codes "taxable")
+    ∷ text (codes "description") ∷ [])
 layout_of Segments = keyed_layout (codes "segments") (1 ∷ 2 ∷ [])
-    (text (codes "plan_id") ∷ number (codes "seq") ∷ number (codes "start") ∷ number (codes "rate") ∷ number (codes "every") ∷ number_or_null (codes "finish") ∷ [])
+    (text (codes "plan_id") ∷ number (codes "seq") ∷ number (codes "start") ∷ number (codes "rate")
+    ∷ number (codes "every") ∷ number_or_null (codes "finish") ∷ [])
 layout_of Types = keyed_layout (codes "types") (1 ∷ [])
-    (text (codes "type_id") ∷ text (codes "name") ∷ text (codes "form") ∷ text (codes "propulsion") ∷ number (codes "range_m") ∷ text (codes "plan_id") ∷ [])
+    (text (codes "type_id") ∷ text (codes "name") ∷ text (codes "form") ∷ text (codes "propulsion")
+    ∷ number (codes "range_m") ∷ text (codes "plan_id") ∷ [])
 layout_of Regions = keyed_layout (codes "regions") (1 ∷ [])
     (text (codes "region_id") ∷ text (codes "name") ∷ [])
 layout_of Stations = keyed_layout (codes "stations_3") (1 ∷ [])
-    (text (codes "station_id") ∷ text (codes "name") ∷ number (codes "lat") ∷ number (codes "lon") ∷ number (codes "docks") ∷ number (codes "installed") ∷ number (codes "renting") ∷ number (codes "returning") ∷ number (codes "reported") ∷ number (codes "free") ∷ number (codes "broken") ∷ text_or_null (codes "region_id") ∷ [])
+    (text (codes "station_id") ∷ text (codes "name") ∷ number (codes "lat") ∷ number (codes "lon")
+    ∷ number (codes "docks") ∷ number (codes "installed") ∷ number (codes "renting")
+    ∷ number (codes "returning") ∷ number (codes "reported") ∷ number (codes "free") ∷ number (codes "broken")
+    ∷ text_or_null (codes "region_id") ∷ [])
 layout_of Docks = keyed_layout (codes "docks") (1 ∷ 2 ∷ [])
     (text (codes "station_id") ∷ number (codes "dock") ∷ number (codes "broken") ∷ [])
 layout_of Bikes = numbered_layout (codes "bikes") (codes "bike")
-    (text (codes "type_id") ∷ number (codes "state") ∷ text_or_null (codes "station_id") ∷ number_or_null (codes "dock") ∷ number_or_null (codes "rental") ∷ number_or_null (codes "truck") ∷ number_or_null (codes "ord") ∷ [])
+    (text (codes "type_id") ∷ number (codes "state") ∷ text_or_null (codes "station_id") ∷ number_or_null (codes "dock")
+    ∷ number_or_null (codes "rental") ∷ number_or_null (codes "truck") ∷ number_or_null (codes "ord") ∷ [])
 layout_of Trucks = numbered_layout (codes "trucks") (codes "truck")
     (number (codes "capacity") ∷ [])
 layout_of Riders = numbered_layout (codes "riders") (codes "rider")
     (number (codes "blocked") ∷ number (codes "balance") ∷ [])
 layout_of Rentals = numbered_layout (codes "rentals") (codes "rental")
-    (number (codes "rider") ∷ number (codes "bike") ∷ text (codes "plan_id") ∷ text (codes "from_station") ∷ number (codes "start") ∷ text_or_null (codes "to_station") ∷ number_or_null (codes "finish") ∷ number_or_null (codes "fare") ∷ number (codes "refunded") ∷ [])
+    (number (codes "rider") ∷ number (codes "bike") ∷ text (codes "plan_id") ∷ text (codes "from_station")
+    ∷ number (codes "start") ∷ text_or_null (codes "to_station") ∷ number_or_null (codes "finish")
+    ∷ number_or_null (codes "fare") ∷ number (codes "refunded") ∷ [])
 layout_of Orders = numbered_layout (codes "orders") (codes "ord")
-    (number (codes "truck") ∷ text (codes "from_end") ∷ text (codes "to_end") ∷ text (codes "type_id") ∷ number (codes "quantity") ∷ number (codes "delivered") ∷ number (codes "is_open") ∷ [])
+    (number (codes "truck") ∷ text (codes "from_end") ∷ text (codes "to_end") ∷ text (codes "type_id")
+    ∷ number (codes "quantity") ∷ number (codes "delivered") ∷ number (codes "is_open") ∷ [])
 layout_of Entries = numbered_layout (codes "entries") (codes "entry")
-    (number (codes "kind") ∷ number (codes "rider") ∷ number (codes "rental") ∷ number (codes "amount") ∷ number (codes "at") ∷ [])
+    (number (codes "kind") ∷ number (codes "rider") ∷ number (codes "rental") ∷ number (codes "amount")
+    ∷ number (codes "at") ∷ [])
 layout_of Kept = plain_layout (codes "kept") kept_columns
 layout_of Counts = keyed_layout (codes "counts") (1 ∷ 2 ∷ [])
     (text (codes "station_id") ∷ text (codes "type_id") ∷ number (codes "available") ∷ number (codes "disabled") ∷ [])
@@ -78,7 +104,9 @@ name_of t = (layout_of t).name
 
 -- the tables in the order of the schema
 abbrev pub every_table : List TableName
-every_table = Meta ∷ System ∷ Plans ∷ Segments ∷ Types ∷ Regions ∷ Stations ∷ Docks ∷ Bikes ∷ Trucks ∷ Riders ∷ Rentals ∷ Orders ∷ Entries ∷ Kept ∷ Counts ∷ MoreNames ∷ []
+every_table =
+    Meta ∷ System ∷ Plans ∷ Segments ∷ Types ∷ Regions ∷ Stations ∷ Docks ∷ Bikes ∷ Trucks ∷ Riders ∷ Rentals ∷ Orders
+    ∷ Entries ∷ Kept ∷ Counts ∷ MoreNames ∷ []
 
 -- ---- kept, which stands in either of two layouts
 
@@ -103,7 +131,9 @@ layout_by keyed t = record {
 
 -- whether the schema's table of this name has a PRIMARY KEY for which the rowid doesn't stand
 abbrev pub has_primary : Schema → List ℕ → Bool
-has_primary schema name = unwrap_or (option_map (λ table. is_some (slice_get table.primary 0)) (option_and_then (slice_get schema.tables) (table_named schema name))) false
+has_primary schema name =
+    unwrap_or (option_map (λ table. is_some (slice_get table.primary 0))
+    (option_and_then (slice_get schema.tables) (table_named schema name))) false
 
 -- the table as it has to stand in this schema
 abbrev pub layout_in : Schema → TableName → Layout

@@ -5,7 +5,7 @@ use Rattle.sqlite_schema.specs.declared.schema.Table.{Table}
 use Rattle.sqlite_schema.specs.declared.schema.Schema.{Schema}
 use Rattle.sqlite_schema.specs.Names.{same_name, table_named}
 use Rattle.sqlite.specs.Effect.{Database, IsDatabase}
-use Rattle.bike_rows.specs.Stands.{rows_of, Stands}
+use Rattle.bike_sql.specs.Stands.{rows_of, Stands}
 use Rattle.bike_book.specs.Tables.{TableName, Tables, keys_of, tables_by}
 use Rattle.bike_schema.specs.Layouts.{layout_in, name_of, every_table}
 

@@ -10,12 +10,12 @@ ghost use Rattle.bike_schema.specs.Creates.{first_write};
 use crate::fault::StatementFault;
 use crate::indexes;
 use bike_book::{NEWEST, table};
-use bike_rows::write::run;
+use bike_sql::write::run;
 use sqlite::{Alter, Transaction, params};
 
 /// The open transaction. What it has changed so far is the relation that the caller keeps; it is spent by
 /// its commit, and undone where it is let go.
-pub type Staged<'conn, S> = Transaction<'conn, S>;
+pub type OpenTransaction<'conn, S> = Transaction<'conn, S>;
 
 /// The name by which the product knows its file.
 pub const APP: &str = "bikeshare";
@@ -52,7 +52,10 @@ pub const INDEXES: [&str; 6] = [
 ];
 
 /// Runs the statements one after another, with no parameters, up to the first that fails.
-fn run_all<S: Alter>(staged: &mut Staged<'_, S>, texts: &[&str]) -> Result<(), StatementFault>
+fn run_all<S: Alter>(
+    staged: &mut OpenTransaction<'_, S>,
+    texts: &[&str],
+) -> Result<(), StatementFault>
     ensures same_reference { staged.new.conn.ghost_name ≡ staged.old.conn.ghost_name }
     ensures ran { RunsAll S.Store (map (λ text. text.now) texts.now) staged.old.conn.now staged.new.conn.now result }
     ensures refused { LeavesCommit S.Store staged.old.conn.now staged.new.conn.now result }
@@ -80,7 +83,7 @@ fn index_texts() -> &'static [&'static str]
 }
 
 /// Adds the one row of `meta`, with all figures 0.
-fn add_meta<S: Alter>(staged: &mut Staged<'_, S>) -> Result<(), StatementFault>
+fn add_meta<S: Alter>(staged: &mut OpenTransaction<'_, S>) -> Result<(), StatementFault>
     ensures { Writes S.Store staged.old.conn staged.new.conn result first_write }
 {
     run(
@@ -93,7 +96,7 @@ fn add_meta<S: Alter>(staged: &mut Staged<'_, S>) -> Result<(), StatementFault>
 /// Makes the empty tables, the indexes beside those of the keys, and the one row of `meta`, in a database that has
 /// none of them (`has_none`). It fails where there is no room for them (`has_room`). After an error some may stand in
 /// the transaction: let it go, and the tables are as before it.
-pub fn create_tables<S: Alter>(staged: &mut Staged<'_, S>) -> Result<(), StatementFault>
+pub fn create_tables<S: Alter>(staged: &mut OpenTransaction<'_, S>) -> Result<(), StatementFault>
     ensures same_reference { staged.new.conn.ghost_name ≡ staged.old.conn.ghost_name }
     ensures creates { MakesTables S.Store staged.old.conn.now staged.new.conn.now result }
     ensures refused { LeavesCommit S.Store staged.old.conn.now staged.new.conn.now result }

@@ -1,5 +1,6 @@
 -- Connections that are answered one after the other, in the order in which they are accepted.
-use Rattle.std.proofs.Common.{◌≡◌, inl, inr, ℕ, ◌+◌, ◌-◌, ◌<◌, Bool, IsTrue, true, false, List, [], ◌∷◌, ◌++◌, length, refl, sym, subst, ap, ◌∙◌, append_assoc, append-nil, Option, Some, None, Result, Ok, Err, IfSome, IsSomeAnd, MatchOption, length-append, arith}
+use Rattle.std.proofs.Common.{◌≡◌, inl, inr, ℕ, ◌+◌, ◌-◌, ◌<◌, Bool, IsTrue, true, false, List, [], ◌∷◌, ◌++◌, length, refl, sym, subst, ap, ◌∙◌, append_assoc, append-nil, Option, Some, None, Result}
+use Rattle.std.proofs.Common.{Ok, Err, IfSome, IsSomeAnd, MatchOption, length-append, arith}
 use Rattle.sqlite_trees.specs.declared.store.Store.{Ghosts}
 use Rattle.bike_operator.specs.Operator.{Operator}
 use Rattle.bike_http.specs.Desk.{DeskValue, IsAt}

@@ -2,7 +2,7 @@
 use Rattle.std.proofs.Common.{◌≡◌, ℕ, List, [], ◌∷◌, Bool, true, false, IsTrue, if◌then◌else◌, Option, Some, None, Ok, refl, sym, subst, ap}
 use Rattle.bike_http_connection.specs.declared.exchange.Exchange.{Exchange}
 use Rattle.bike_http_connection.specs.declared.peer.Peer.{Peer}
-use Rattle.bike_http_connection.specs.declared.request.Request.{Request}
+use Rattle.bike_http_connection.specs.declared.request.RequestReader.{RequestReader}
 use Rattle.bike_http_connection.specs.Asking.{AsksAs, unread, coming_from}
 use Rattle.bike_http_connection.specs.Connected.{Connected, peer_as, handed_as}
 use Rattle.bike_http_connections.specs.Ahead.{Loses, ahead_of}
@@ -22,8 +22,8 @@ known_of known clients = if known then Some (among clients) else None
 module _ {S : Type 0} (input coming taken : S → List ℕ) where
   abbrev pub Gives : Bool → List Connected → List Connected → Exchange S → List ℕ → Type 0
   Gives known old new exchange answer =
-      Accepts true (peer_as input taken) (λ (request : Request). Some (unread request)) (λ (bytes : List ℕ). Some bytes) (known_of known old) (known_of known new)
-      (Ok (Some (let arrival : Arrival (Peer S) Request (List ℕ) = record { moment = exchange.peer.moment; client = exchange.peer; reader = exchange.request; writer = answer } in arrival)))
+      Accepts true (peer_as input taken) (λ (request : RequestReader). Some (unread request)) (λ (bytes : List ℕ). Some bytes) (known_of known old) (known_of known new)
+      (Ok (Some (let arrival : Arrival (Peer S) RequestReader (List ℕ) = record { moment = exchange.peer.moment; client = exchange.peer; reader = exchange.request; writer = answer } in arrival)))
 
   pub gives_one : (known : Bool) (old new : List Connected) (exchange : Exchange S) (answer : List ℕ)
       → (IsTrue known → HandsOut coming (ahead_of old) (ahead_of new) exchange answer) → (IsTrue known → Loses old (handed_as input coming taken exchange ∷ new))
@@ -43,7 +43,7 @@ module _ {S : Type 0} (input coming taken : S → List ℕ) where
   }
 
   pub gives_none : (known : Bool) (old new : List Connected) → (IsTrue known → new ≡ [])
-      → Accepts {C = Peer S} {R = Request} {W = List ℕ} true (peer_as input taken) (λ request. Some (unread request)) (λ bytes. Some bytes) (known_of known old) (known_of known new) (Ok None)
+      → Accepts {C = Peer S} {R = RequestReader} {W = List ℕ} true (peer_as input taken) (λ request. Some (unread request)) (λ bytes. Some bytes) (known_of known old) (known_of known new) (Ok None)
   gives_none false old new none = refl
   gives_none true old new none =
       (ap ahead_of (none refl), record { clients = subst (λ (xs : List Connected). Loses old xs) (sym (none refl)) (loses_all old); kept = tt })

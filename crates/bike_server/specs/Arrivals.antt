@@ -1,5 +1,6 @@
 -- What accepting a connection gives.
-use Rattle.std.specs.Prelude.{◌≡◌, Bool, IsTrue, ℕ, ◌+◌, List, [], ◌∷◌, Option, Some, None, IfSome, IsSomeAnd, MatchOption, Result, Ok, Err}
+use Rattle.std.specs.Prelude.{◌≡◌, Bool, IsTrue, ℕ, ◌+◌, List, [], ◌∷◌, Option, Some, None, IfSome, IsSomeAnd}
+use Rattle.std.specs.Prelude.{MatchOption, Result, Ok, Err}
 use Rattle.bike_http_connection.specs.Asking.{Coming, AsksAs}
 use Rattle.bike_http_connection.specs.Connected.{Connected, asking}
 use Rattle.bike_http_connections.specs.Ahead.{Loses, ahead_of}

@@ -14,7 +14,8 @@ use Rattle.bike_console.specs.Files.{IsOpeningFault}
 use Rattle.bike_server.specs.Listening.{EndsListening}
 
 -- A connection was opened on what the bytes hold, and listening over it ended so.
-pub record ListensOnFile {D : Type 0} {g : disk.Ghosts D} (image : Image) (old new : Option (List ℕ)) (last : Held (FileStore D g)) (end : Result ℕ Fault) : Type 0 where
+pub record ListensOnFile {D : Type 0} {g : disk.Ghosts D} (image : Image) (old new : Option (List ℕ))
+    (last : Held (FileStore D g)) (end : Result ℕ Fault) : Type 0 where
   pub first : Held (FileStore D g)
   pub opened : HasCleanDisk (file_state first) → IsOpened first
   pub found : HasCleanDisk (file_state first) → FindsIn image (file_state first)

@@ -9,7 +9,8 @@ use Rattle.bike_schema.specs.Stands.{TreesStandFor}
 use Rattle.bike_console.specs.AdoptFault.{AdoptFault}
 use Rattle.bike_console.specs.Adoption.{handed, IsToldOf, IsWant}
 use Rattle.bike_console.specs.declared.end.Fault.{Fault}
-use Rattle.bike_console.specs.declared.end.Fault.TheVariants.{StoreFailed, OutOfMemory, WriteFailed, BindFailed, AcceptFailed}
+use Rattle.bike_console.specs.declared.end.Fault.TheVariants.{StoreFailed, OutOfMemory, WriteFailed, BindFailed}
+use Rattle.bike_console.specs.declared.end.Fault.TheVariants.{AcceptFailed}
 use Rattle.bike_console.specs.Ends.{adopt_fault}
 use Rattle.bike_server.specs.declared.fault.ServerFault.{ServerFault}
 use Rattle.bike_server.specs.declared.fault.ServerFault.TheVariants as server

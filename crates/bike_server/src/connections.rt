@@ -2,7 +2,7 @@
 
 use crate::arrivals::{AcceptFault, Arrival, Arrivals};
 use bike_http::{ServeFault, Served};
-use bike_http_connection::{Answer, Peer, Request};
+use bike_http_connection::{Peer, RequestReader, ResponseBuffer};
 use bike_http_connections::{Connections, Network};
 use std::time::Duration;
 
@@ -34,9 +34,9 @@ impl<N: Network> Arrivals for Connections<N> {
 
     type Client = Peer<N::Socket>;
 
-    type Reader = Request;
+    type Reader = RequestReader;
 
-    type Writer = Answer;
+    type Writer = ResponseBuffer;
 
     ghost may_fail = { true };
 
@@ -46,7 +46,9 @@ impl<N: Network> Arrivals for Connections<N> {
     ghost known = { λ connections. if N.Socket.is_known
         then Some (record { clients = connections; kept = None }) else None };
 
-    fn accept(&mut self) -> Result<Option<Arrival<Peer<N::Socket>, Request, Answer>>, AcceptFault> {
+    fn accept(
+        &mut self,
+    ) -> Result<Option<Arrival<Peer<N::Socket>, RequestReader, ResponseBuffer>>, AcceptFault> {
         match self.next() {
             Ok(Some((exchange, answer))) => Ok(Some(Arrival {
                 moment: exchange.peer.moment(),
@@ -62,7 +64,7 @@ impl<N: Network> Arrivals for Connections<N> {
     fn finish(
         &mut self,
         client: Peer<N::Socket>,
-        writer: Answer,
+        writer: ResponseBuffer,
         served: Result<Served, ServeFault>,
     ) {
         self.finish(client, writer, may_be_early(served));

@@ -16,5 +16,5 @@ pub use arrivals::{AcceptFault, Arrival, Arrivals};
 pub use bike_http_sockets::clock_moment;
 pub use fault::ServerFault;
 pub use file::listen_on_file;
-pub use memory::{Parting, Played, Visit};
+pub use memory::{PlayedConnections, PlayedRequest, PlayedResponse};
 pub use server::{listen, serve_count};

@@ -12,15 +12,15 @@ use std::marker::Model;
 
 /// A connection that will be played: the moment of its acceptance, and all that its client sends.
 #[derive(Clone, Copy, Debug)]
-pub struct Visit<'a> {
+pub struct PlayedRequest<'a> {
     pub moment: Moment,
     pub input: &'a [u8],
 }
 
 /// A connection that was played: who its client was, how its exchange ended, and all that was sent to it.
 #[derive(Debug, Drop)]
-pub struct Parting<'a> {
-    pub visit: Visit<'a>,
+pub struct PlayedResponse<'a> {
+    pub visit: PlayedRequest<'a>,
     pub served: Result<Served, ServeFault>,
     pub sent: Vec<u8>,
 }
@@ -28,14 +28,14 @@ pub struct Parting<'a> {
 /// Connections that are played from a list and collected with what was sent to them. Reads never fail; a write fails
 /// for want of memory alone.
 #[derive(Drop)]
-pub struct Played<'a> {
+pub struct PlayedConnections<'a> {
     alloc: Global,
-    visits: &'a [Visit<'a>],
+    visits: &'a [PlayedRequest<'a>],
     next: usize,
-    gone: Vec<Parting<'a>>,
+    gone: Vec<PlayedResponse<'a>>,
 }
 
-impl<'a> Model for Played<'a> {
+impl<'a> Model for PlayedConnections<'a> {
     ghost use Rattle.std.specs.Prelude.{◌≤◌, ◌-◌, ◌++◌, length, vec_len, vec_capacity, map, drop, Some};
     ghost use Rattle.bike_http_connections.specs.Ahead.{fresh};
     ghost use Rattle.bike_server.specs.Visits.{Visits};
@@ -53,9 +53,12 @@ impl<'a> Model for Played<'a> {
         × (length p.visits.now ≤ vec_capacity p.gone) };
 }
 
-impl<'a> Played<'a> {
+impl<'a> PlayedConnections<'a> {
     /// None was accepted yet. Takes the memory for all that will be let go.
-    pub fn new(alloc: Global, visits: &'a [Visit<'a>]) -> Result<Played<'a>, AllocError>
+    pub fn new(
+        alloc: Global,
+        visits: &'a [PlayedRequest<'a>],
+    ) -> Result<PlayedConnections<'a>, AllocError>
         ensures { IfOk result (λ played. played
             ≡ record {
               clients = map fresh (map coming_of visits.now);
@@ -63,7 +66,7 @@ impl<'a> Played<'a> {
             }) }
     {
         let gone = Vec::with_capacity(alloc, visits.len())?;
-        Ok(Played {
+        Ok(PlayedConnections {
             alloc,
             visits,
             next: 0,
@@ -72,18 +75,18 @@ impl<'a> Played<'a> {
     }
 
     /// Those that were let go, in their order.
-    pub fn partings(&self) -> &[Parting<'a>]
+    pub fn partings(&self) -> &[PlayedResponse<'a>]
         ensures { IsSomeAnd self.now.kept (λ kept. map leaving_of result.now ≡ kept.gone) }
     {
         self.gone.as_slice()
     }
 }
 
-impl<'a> Arrivals for Played<'a> {
+impl<'a> Arrivals for PlayedConnections<'a> {
     ghost use Rattle.std.specs.Prelude.{false};
     ghost use Rattle.bike_server.specs.Played.{client_of};
 
-    type Client = Visit<'a>;
+    type Client = PlayedRequest<'a>;
 
     type Reader = &'a [u8];
 
@@ -95,7 +98,9 @@ impl<'a> Arrivals for Played<'a> {
 
     ghost known = { λ played. Some played };
 
-    fn accept(&mut self) -> Result<Option<Arrival<Visit<'a>, &'a [u8], Vec<u8>>>, AcceptFault> {
+    fn accept(
+        &mut self,
+    ) -> Result<Option<Arrival<PlayedRequest<'a>, &'a [u8], Vec<u8>>>, AcceptFault> {
         if self.next == self.visits.len() {
             return Ok(None);
         }
@@ -103,7 +108,7 @@ impl<'a> Arrivals for Played<'a> {
         self.next += 1;
         Ok(Some(Arrival {
             moment: visit.moment,
-            client: Visit {
+            client: PlayedRequest {
                 moment: visit.moment,
                 input: visit.input,
             },
@@ -112,9 +117,14 @@ impl<'a> Arrivals for Played<'a> {
         }))
     }
 
-    fn finish(&mut self, client: Visit<'a>, writer: Vec<u8>, served: Result<Served, ServeFault>) {
-        self.gone.push_reserved(Parting {
-            visit: Visit {
+    fn finish(
+        &mut self,
+        client: PlayedRequest<'a>,
+        writer: Vec<u8>,
+        served: Result<Served, ServeFault>,
+    ) {
+        self.gone.push_reserved(PlayedResponse {
+            visit: PlayedRequest {
                 moment: client.moment,
                 input: client.input,
             },

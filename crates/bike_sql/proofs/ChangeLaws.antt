@@ -46,7 +46,8 @@ module _ {s s0 : Schema} {f : ℕ → ℕ} (r : Relocates s s0 f) where
       let later : (λ d. sets_from (scope s (map (level_at f) ls) false true) table d more) ≡ (λ d. sets_from (scope s0 ls false true) table d more) = fun_ext (λ d. sets_from_same ls table d more p.1) in
       ap₂ (λ value next. λ st. and_then (with_place table done.0 x.0) (λ at. and_then (value st) (λ v. next (at, done.1 ++ v.0 ∷ []) v.1))) (lower_same r x.1 p.0 ls false true) later
 
-  updated_same : (at : ℕ) (table : Table) (xs : List (Name × Expr)) (test : Option Expr) → covers_sets s0 xs ≡ true → covers_option (covers s0) test ≡ true → updated s (f at) table xs test ≡ updated s0 at table xs test
+  updated_same : (at : ℕ) (table : Table) (xs : List (Name × Expr)) (test : Option Expr) → covers_sets s0 xs ≡ true → covers_option (covers s0) test ≡ true
+      → updated s (f at) table xs test ≡ updated s0 at table xs test
   unfolding updated updated_in assigned sets picked
   updated_same at table xs test k1 k2 =
       let l = level_of at table.name in
@@ -60,7 +61,8 @@ module _ {s s0 : Schema} {f : ℕ → ℕ} (r : Relocates s s0 f) where
 
   -- ---- and so is the command
 
-  command_is : (text : List ℕ) (c : Command) (p : Parsed) → compiled s text ≡ Ok (record { command = c; returning = None; names = p.names; formats = []; start = p.start; end = p.end; tail = p.tail }) → Means s text c
+  command_is : (text : List ℕ) (c : Command) (p : Parsed) → compiled s text ≡ Ok (record { command = c; returning = None; names = p.names; formats = []; start = p.start; end = p.end; tail = p.tail })
+      → Means s text c
   unfolding understood
   command_is text c p is = (rw is, rw is (refl, refl))
 
@@ -100,18 +102,22 @@ record IsMade (s0 : Schema) (name : Name) (change : ℕ → Table → Checked Dr
   pub is_query : query_of draft ≡ q
   pub is_way : is_update ≡ wanted
 
-made_of : (s0 : Schema) (name : Name) (change : ℕ → Table → Checked Draft) (is_update : Bool) (k : ℕ) (q : Query) (wanted : Bool) → IsChange (change_on s0 name change is_update) k q wanted → IsMade s0 name change is_update k q wanted
+made_of : (s0 : Schema) (name : Name) (change : ℕ → Table → Checked Draft) (is_update : Bool) (k : ℕ) (q : Query) (wanted : Bool) → IsChange (change_on s0 name change is_update) k q wanted
+    → IsMade s0 name change is_update k q wanted
 made_of s0 name change is_update k q wanted h = at_name (table_named s0 name) refl h
   where
-    at_draft : (j : ℕ) (table : Table) (r : Checked Draft) → change j table ≡ r → table_named s0 name ≡ Some j → slice_get s0.tables j ≡ Some table → IsChange (and_then r (λ d. Ok (j, d, is_update))) k q wanted → IsMade s0 name change is_update k q wanted
+    at_draft : (j : ℕ) (table : Table) (r : Checked Draft) → change j table ≡ r → table_named s0 name ≡ Some j → slice_get s0.tables j ≡ Some table
+        → IsChange (and_then r (λ d. Ok (j, d, is_update))) k q wanted → IsMade s0 name change is_update k q wanted
     at_draft j table (Err e) c n t it = elim it [ ]
     at_draft j table (Ok d) c n t it = record { table = table; draft = d; found = n ∙ ap Some it.0; there = rw it.0 at t; is_draft = rw it.0 at c; is_query = it.1; is_way = it.2 }
 
-    at_table : (j : ℕ) (o : Option Table) → slice_get s0.tables j ≡ o → table_named s0 name ≡ Some j → IsChange (and_then (or_else o NoSuchTable) (λ table. and_then (change j table) (λ d. Ok (j, d, is_update)))) k q wanted → IsMade s0 name change is_update k q wanted
+    at_table : (j : ℕ) (o : Option Table) → slice_get s0.tables j ≡ o → table_named s0 name ≡ Some j
+        → IsChange (and_then (or_else o NoSuchTable) (λ table. and_then (change j table) (λ d. Ok (j, d, is_update)))) k q wanted → IsMade s0 name change is_update k q wanted
     at_table j None t n it = elim it [ ]
     at_table j (Some table) t n it = at_draft j table (change j table) refl n t it
 
-    at_name : (o : Option ℕ) → table_named s0 name ≡ o → IsChange (and_then (or_else o NoSuchTable) (λ j. and_then (table_at s0 j) (λ table. and_then (change j table) (λ d. Ok (j, d, is_update))))) k q wanted → IsMade s0 name change is_update k q wanted
+    at_name : (o : Option ℕ) → table_named s0 name ≡ o → IsChange (and_then (or_else o NoSuchTable)
+        (λ j. and_then (table_at s0 j) (λ table. and_then (change j table) (λ d. Ok (j, d, is_update))))) k q wanted → IsMade s0 name change is_update k q wanted
     at_name None n it = elim it [ ]
     at_name (Some j) n it = at_table j (slice_get s0.tables j) refl n it
 
@@ -141,7 +147,8 @@ module _ {s s0 : Schema} {f : ℕ → ℕ} (r : Relocates s s0 f) (text : List �
       (m.0 ∙ ap₂ (λ x y. changes x (f k) y) it.is_way it.is_query, m.1)
 
   from_statement : (p : Parsed) → first text ≡ Ok p → (st : Statement) → p.statement ≡ st → IsChange (change_at s0 p.formats st) k q is_update → Means s text (changes is_update (f k) q)
-  from_statement p parsed (written.Update name xs test shown) statement h = from_update p name xs test shown (is_nil p.formats && (is_nil shown && (covers_sets s0 xs && covers_option (covers s0) test))) refl parsed statement h
+  from_statement p parsed (written.Update name xs test shown) statement h =
+      from_update p name xs test shown (is_nil p.formats && (is_nil shown && (covers_sets s0 xs && covers_option (covers s0) test))) refl parsed statement h
   from_statement p parsed (written.Delete name test shown) statement h = from_delete p name test shown (is_nil p.formats && (is_nil shown && covers_option (covers s0) test)) refl parsed statement h
   from_statement p parsed _ statement h = elim h [ ]
 

@@ -22,7 +22,8 @@ use Rattle.sqlite_resolve.specs.declared.body.Joined.{Joined}
 use Rattle.sqlite_resolve.specs.declared.state.State.{State}
 use Rattle.sqlite_resolve.specs.Scope.{Name, Context}
 use Rattle.sqlite_resolve.specs.Lowering.{Lowering, ◌>>=◌, ◌<$>◌, pure, fail, lift}
-use Rattle.sqlite_resolve.specs.Body.{table_at, bounds, heading, heading_at, shared, tests, shown_at, shown, outputs_from, outputs, left_join, inner_join, join, joins_from, joins, begins_with_on, result, matching, body}
+use Rattle.sqlite_resolve.specs.Body.{table_at, bounds, heading, heading_at, shared, tests, shown_at, shown, outputs_from, outputs, left_join, inner_join, join, joins_from, joins, begins_with_on}
+use Rattle.sqlite_resolve.specs.Body.{result, matching, body}
 use Rattle.sqlite_resolve.specs.Order.{key, group_key, keys_from, keys, aliased_or, alias_in, peeled, sort, sorts_from, sorts, collation_of}
 use Rattle.bike_sql.specs.Fragment.{covers_option, covers_sources, covers_column, covers_columns, covers_body, covers_order, covers_group}
 use Rattle.bike_sql.proofs.Relocation.{Relocates, bound_at, level_at, body_at, scope, checked_map, with_state, then_over, then_into, both as parts}
@@ -55,7 +56,8 @@ module _ {s s0 : Schema} {f : ℕ → ℕ} (r : Relocates s s0 f) (low : Context
 
   -- ---- the columns of the result
 
-  column_same : (ls : List Level) (a b : Bool) (bs : List Bound) (done : List Output) (l : ShownLayer) → covers_column ok l ≡ true → shown_at low (in_s ls a b) (map (bound_at f) bs) done l ≡ shown_at low (in_s0 ls a b) bs done l
+  column_same : (ls : List Level) (a b : Bool) (bs : List Bound) (done : List Output) (l : ShownLayer) → covers_column ok l ≡ true
+      → shown_at low (in_s ls a b) (map (bound_at f) bs) done l ≡ shown_at low (in_s0 ls a b) bs done l
   unfolding heading
   column_same ls a b bs done Shown-F.All k = ap (λ x. lift x) (stars_same r None done bs)
   column_same ls a b bs done (Shown-F.AllOf table) k = ap (λ x. lift x) (stars_same r (Some table) done bs)
@@ -64,14 +66,16 @@ module _ {s s0 : Schema} {f : ℕ → ℕ} (r : Relocates s s0 f) (low : Context
       let head = heading_same (in_s ls a b) (in_s0 ls a b) (alike r ls a b) text (out-Expr e) in
       rw (it, head)
 
-  columns_same : (ls : List Level) (a b : Bool) (bs : List Bound) (done : List Output) (xs : List Shown) → covers_columns ok xs ≡ true → outputs_from low (in_s ls a b) (map (bound_at f) bs) done xs ≡ outputs_from low (in_s0 ls a b) bs done xs
+  columns_same : (ls : List Level) (a b : Bool) (bs : List Bound) (done : List Output) (xs : List Shown) → covers_columns ok xs ≡ true
+      → outputs_from low (in_s ls a b) (map (bound_at f) bs) done xs ≡ outputs_from low (in_s0 ls a b) bs done xs
   unfolding shown
   columns_same ls a b bs done [] k = refl
   columns_same ls a b bs done (x ∷ more) k =
       let p = parts (covers_column ok (out-Shown x)) (covers_columns ok more) k in
       ap₂ (λ first later. first >>= later) (column_same ls a b bs done (out-Shown x) p.0) (fun_ext (λ longer. columns_same ls a b bs longer more p.1))
 
-  result_same : (ls : List Level) (a b : Bool) (l : Level) (core : Core) → covers_columns ok (out-Core core).shown ≡ true → result low (in_s ls a b) (level_at f l) core ≡ result low (in_s0 ls a b) l core
+  result_same : (ls : List Level) (a b : Bool) (l : Level) (core : Core) → covers_columns ok (out-Core core).shown ≡ true
+      → result low (in_s ls a b) (level_at f l) core ≡ result low (in_s0 ls a b) l core
   unfolding result outputs
   result_same ls a b l core k = columns_same (l ∷ ls) true true l.tables [] (out-Core core).shown k
 
@@ -99,7 +103,8 @@ module _ {s s0 : Schema} {f : ℕ → ℕ} (r : Relocates s s0 f) (low : Context
       let p = source_parts s0 ok src more k in
       ap₂ (λ first later. first >>= later) (join_same ls a b bs done t src p.1) (fun_ext (λ longer. joins_from_same ls a b bs longer ts more p.2))
 
-  joins_same : (ls : List Level) (a b : Bool) (bs : List Bound) (srcs : List Source) → covers_sources s0 ok srcs ≡ true → joins low (in_s ls a b) (map (bound_at f) bs) srcs ≡ joins low (in_s0 ls a b) bs srcs
+  joins_same : (ls : List Level) (a b : Bool) (bs : List Bound) (srcs : List Source) → covers_sources s0 ok srcs ≡ true
+      → joins low (in_s ls a b) (map (bound_at f) bs) srcs ≡ joins low (in_s0 ls a b) bs srcs
   unfolding joins
   joins_same ls a b bs srcs k = ap (λ x. if begins_with_on srcs then fail Misuse else x) (joins_from_same ls a b bs (record { steps = []; filter = [] }) bs srcs k)
 
@@ -112,7 +117,8 @@ module _ {s s0 : Schema} {f : ℕ → ℕ} (r : Relocates s s0 f) (low : Context
 
   -- ---- FROM, the columns and WHERE
 
-  pub body_over : (ls : List Level) (a b : Bool) (core : Core) → covers_body s0 ok core ≡ true → (st : State) → body low (in_s ls a b) core st ≡ checked_map (with_state (body_at f)) (body low (in_s0 ls a b) core st)
+  pub body_over : (ls : List Level) (a b : Bool) (core : Core) → covers_body s0 ok core ≡ true → (st : State)
+      → body low (in_s ls a b) core st ≡ checked_map (with_state (body_at f)) (body low (in_s0 ls a b) core st)
   unfolding body
   body_over ls a b core k st =
       let p = body_parts s0 ok core k in
@@ -129,7 +135,8 @@ module _ {s s0 : Schema} {f : ℕ → ℕ} (r : Relocates s s0 f) (low : Context
   unfolding key
   key_same ls a b shown e k = let it = same e k ls a b in rw it
 
-  keys_from_same : (ls : List Level) (a b : Bool) (shown : List Output) (done : List Term × List Collation) (es : List Expr) → covers_group ok es ≡ true → keys_from low (in_s ls a b) shown done es ≡ keys_from low (in_s0 ls a b) shown done es
+  keys_from_same : (ls : List Level) (a b : Bool) (shown : List Output) (done : List Term × List Collation) (es : List Expr) → covers_group ok es ≡ true
+      → keys_from low (in_s ls a b) shown done es ≡ keys_from low (in_s0 ls a b) shown done es
   unfolding group_key
   keys_from_same ls a b shown done [] k = refl
   keys_from_same ls a b shown done (e ∷ es) k =
@@ -145,11 +152,13 @@ module _ {s s0 : Schema} {f : ℕ → ℕ} (r : Relocates s s0 f) (low : Context
   by_alias_same ls a b shown e k (Some at) = refl
   by_alias_same ls a b shown e k None = key_same ls a b shown e k
 
-  sort_same : (ls : List Level) (a b : Bool) (shown : List Output) (done : List (Term × Key)) (x : Sort) → ok (peeled (out-Sort x).key) ≡ true → sort low (in_s ls a b) shown done x ≡ sort low (in_s0 ls a b) shown done x
+  sort_same : (ls : List Level) (a b : Bool) (shown : List Output) (done : List (Term × Key)) (x : Sort) → ok (peeled (out-Sort x).key) ≡ true
+      → sort low (in_s ls a b) shown done x ≡ sort low (in_s0 ls a b) shown done x
   unfolding sort
   sort_same ls a b shown done x k = let it = by_alias_same ls a b shown (peeled (out-Sort x).key) k (alias_in shown (peeled (out-Sort x).key)) in rw it
 
-  sorts_from_same : (ls : List Level) (a b : Bool) (shown : List Output) (done : List (Term × Key)) (xs : List Sort) → covers_order ok xs ≡ true → sorts_from low (in_s ls a b) shown done xs ≡ sorts_from low (in_s0 ls a b) shown done xs
+  sorts_from_same : (ls : List Level) (a b : Bool) (shown : List Output) (done : List (Term × Key)) (xs : List Sort) → covers_order ok xs ≡ true
+      → sorts_from low (in_s ls a b) shown done xs ≡ sorts_from low (in_s0 ls a b) shown done xs
   sorts_from_same ls a b shown done [] k = refl
   sorts_from_same ls a b shown done (x ∷ more) k =
       let p = parts (ok (peeled (out-Sort x).key)) (covers_order ok more) k in

@@ -28,7 +28,8 @@ body_parts s ok core h = both3 (covers_sources s ok (out-Core core).from) (cover
 
 -- the body, GROUP BY, HAVING, and ORDER BY
 pub core_parts : (s : Schema) (core : Core) (order : List Sort) → covers_core s core order ≡ true
-    → (covers_body s (covers s) core ≡ true) × (covers_group (covers s) (out-Core core).group ≡ true) × (covers_option (covers s) (out-Core core).having ≡ true) × (covers_order (covers s) order ≡ true)
+    → (covers_body s (covers s) core ≡ true) × (covers_group (covers s) (out-Core core).group ≡ true) × (covers_option (covers s) (out-Core core).having ≡ true)
+    × (covers_order (covers s) order ≡ true)
 core_parts s core order h = both4 (covers_body s (covers s) core) (covers_group (covers s) (out-Core core).group) (covers_option (covers s) (out-Core core).having) (covers_order (covers s) order) h
 
 -- the SELECT, LIMIT with OFFSET, no WITH, and no UNION

@@ -179,7 +179,9 @@ module _ (s : Schema) (at tree bt tree2 : ℕ) (h : HasTable s at (lockers tree)
   join_draft = (refl, refl)
 
   pub join : Reads s join_text (Select (record { lets = []; body = join_query }) (codes "site" ∷ codes "label" ∷ codes "credit" ∷ []))
-  join = select_is s (at ∷ bt ∷ []) (lockers tree ∷ members tree2 ∷ []) (h, (k, tt)) join_text join_query (codes "site" ∷ codes "label" ∷ codes "credit" ∷ []) join_draft (rw (h.stored, h.by_tree, k.stored, k.by_tree))
+  join =
+      select_is s (at ∷ bt ∷ []) (lockers tree ∷ members tree2 ∷ []) (h, (k, tt)) join_text join_query (codes "site" ∷ codes "label" ∷ codes "credit" ∷ []) join_draft
+      (rw (h.stored, h.by_tree, k.stored, k.by_tree))
 
   -- the members with no locker
   abbrev absent_text : List ℕ

@@ -31,10 +31,13 @@ still_have s s' more [] (t ∷ ts) grown h = elim h [ ]
 still_have s s' more (at ∷ ats) [] grown h = elim h [ ]
 
 -- the table that was added stands last, where its name and its tree's number were free
-pub now_has : (s s' : Schema) (table : Table) → s'.tables ≡ s.tables ++ table ∷ [] → table_named s table.name ≡ None → find (λ t. t.tree == table.tree) s.tables ≡ None → nat_le (2 ^ 31) table.tree ≡ false
+pub now_has : (s s' : Schema) (table : Table) → s'.tables ≡ s.tables ++ table ∷ [] → table_named s table.name ≡ None → find (λ t. t.tree == table.tree) s.tables ≡ None
+    → nat_le (2 ^ 31) table.tree ≡ false
     → HasTable s' (length s.tables) table
 now_has s s' table grown free fresh stored = record {
-  found = ap (position_from (λ (t : Table). same_name t.name table.name) 0) grown ∙ position_last (λ (t : Table). same_name t.name table.name) 0 s.tables table free (same_itself table.name) ∙ ap Some (omega arith);
+  found =
+      ap (position_from (λ (t : Table). same_name t.name table.name) 0) grown ∙ position_last (λ (t : Table). same_name t.name table.name) 0 s.tables table free (same_itself table.name)
+      ∙ ap Some (omega arith);
   there = ap (λ l. slice_get l (length s.tables)) grown ∙ get_last s.tables table;
   by_tree = ap (find (λ (t : Table). t.tree == table.tree)) grown ∙ find_last (λ (t : Table). t.tree == table.tree) s.tables table fresh (eq-eqb table.tree table.tree refl);
   stored = stored;

@@ -16,7 +16,8 @@ use Rattle.bike_sql.specs.Inserts.{rows_of, IsInsert}
 use Rattle.bike_sql.specs.Laws.{Means, InsertLaw}
 
 module _ (s : Schema) (at : ℕ) (table : Table) (h : HasTable s at table) (text : List ℕ) (from : Source) where
-  compiled_is : (p : Parsed) (rows : Rows) → first text ≡ Ok p → p.statement ≡ written.Insert Abort table.name [] rows [] [] → p.formats ≡ [] → table.stamps.formats ≡ [] → ((base : ℕ) → new_rows s table base [] rows ≡ Ok from)
+  compiled_is : (p : Parsed) (rows : Rows) → first text ≡ Ok p → p.statement ≡ written.Insert Abort table.name [] rows [] [] → p.formats ≡ [] → table.stamps.formats ≡ []
+      → ((base : ℕ) → new_rows s table base [] rows ≡ Ok from)
       → compiled s text ≡ Ok (record { command = Insert at from; returning = None; names = p.names; formats = []; start = p.start; end = p.end; tail = p.tail })
   unfolding compiled planned meaning returning shows command timed insert_or_abort insert
   compiled_is p rows parsed statement formats stamps new = let f = h.found in let e = h.there in rw (parsed, statement, formats, f, e, new, stamps)

@@ -24,7 +24,8 @@ free_as s a b same free = (ap (table_named s) same ∙ free.0, ap (view_named s)
 module _ (s : Schema) (text : List ℕ) where
   -- ---- CREATE TABLE
 
-  table_compiled : (p : Parsed) (def : TableText) (name : Name) (table : Table) → IsFree s name → first text ≡ Ok p → p.statement ≡ written.CreateTable def → MakesTable (written.CreateTable def) p.formats name table
+  table_compiled : (p : Parsed) (def : TableText) (name : Name) (table : Table) → IsFree s name → first text ≡ Ok p → p.statement ≡ written.CreateTable def
+      → MakesTable (written.CreateTable def) p.formats name table
       → compiled s text ≡ Ok (record { command = CreateTable; returning = None; names = p.names; formats = []; start = p.start; end = p.end; tail = p.tail })
   unfolding compiled planned meaning returning command timed create_table creates is_attached
   table_compiled p def name table free parsed statement m =
@@ -49,7 +50,8 @@ module _ (s : Schema) (text : List ℕ) where
   -- ---- CREATE INDEX
 
   module _ (at : ℕ) (table : Table) (h : HasTable s at table) where
-    index_compiled : (p : Parsed) (def : IndexText) (name : Name) (index : Index) → IsFree s name → first text ≡ Ok p → p.statement ≡ written.CreateIndex def → MakesIndex (written.CreateIndex def) p.formats table name index
+    index_compiled : (p : Parsed) (def : IndexText) (name : Name) (index : Index) → IsFree s name → first text ≡ Ok p → p.statement ≡ written.CreateIndex def
+        → MakesIndex (written.CreateIndex def) p.formats table name index
         → compiled s text ≡ Ok (record { command = CreateIndex at; returning = None; names = p.names; formats = []; start = p.start; end = p.end; tail = p.tail })
     unfolding compiled planned meaning returning command timed create_index creates
     index_compiled p def name index free parsed statement m =

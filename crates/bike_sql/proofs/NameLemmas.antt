@@ -1,5 +1,6 @@
 -- A name means the same under two schemas in which the tables stand at different places: a column's term, its heading, its affinity, and whether it is an alias or unknown.
-use Rattle.std.proofs.Common.{◌≡◌, ℕ, zero, suc, ◌+◌, ◌^◌, ◌==◌, nat_lt, Bool, true, false, not, ◌&&◌, ◌||◌, cond, if◌then◌else◌, List, [], ◌∷◌, map, slice_get, Option, Some, None, Ok, Err, option_map, option_and_then, is_some, unwrap_or, refl, sym, ap, ◌∙◌}
+use Rattle.std.proofs.Common.{◌≡◌, ℕ, zero, suc, ◌+◌, ◌^◌, ◌==◌, nat_lt, Bool, true, false, not, ◌&&◌, ◌||◌, cond, if◌then◌else◌, List, [], ◌∷◌, map, slice_get, Option, Some, None, Ok, Err}
+use Rattle.std.proofs.Common.{option_map, option_and_then, is_some, unwrap_or, refl, sym, ap, ◌∙◌}
 use Rattle.std.proofs.Common.{find as first_such}
 use Rattle.std.proofs.Math.Path.{fun_ext}
 use Rattle.std.proofs.lemmas.Option.{slice_get-map}
@@ -14,7 +15,8 @@ use Rattle.sqlite_resolve.specs.declared.scope.Level.{Level}
 use Rattle.sqlite_resolve.specs.declared.scope.Found.{Found}
 use Rattle.sqlite_resolve.specs.declared.scope.Found.TheVariants.{Column, Rowid, Alias}
 use Rattle.sqlite_resolve.specs.Lowering.{Checked, and_then, or_else, ◌>>=◌, ◌>>◌, lift, fail, pure, carry}
-use Rattle.sqlite_resolve.specs.Scope.{Name, Context, is_meant, is_hidden, hit, rowid_in, column_in, only, only_from, at_most_one, in_level, is_rowid, alias_of, find_from, found_or, find, term_of, column_at, column, is_free, is_missing, shown_again}
+use Rattle.sqlite_resolve.specs.Scope.{Name, Context, is_meant, is_hidden, hit, rowid_in, column_in, only, only_from, at_most_one, in_level, is_rowid, alias_of, find_from, found_or, find, term_of}
+use Rattle.sqlite_resolve.specs.Scope.{column_at, column, is_free, is_missing, shown_again}
 use Rattle.sqlite_resolve.specs.Body.{found_name, declared}
 use Rattle.sqlite_resolve.specs.Expr.{is_alias}
 use Rattle.sqlite_resolve.specs.Compare as compare
@@ -38,7 +40,8 @@ module _ {s s0 : Schema} {f : ℕ → ℕ} (r : Relocates s s0 f) where
   column_in_over name b = let there = r.tables b.table in rw (there, map_twice (found_at f) (Column b.slot b.table) (option_and_then (λ t. column_named t name) (slice_get s0.tables b.table))) refl
 
   stored_over : (b : Bound) (o : Option Table)
-      → option_and_then (λ t. if nat_lt t.tree (2 ^ 31) then Some (Rowid b.slot (f b.table)) else None) o ≡ option_map (found_at f) (option_and_then (λ t. if nat_lt t.tree (2 ^ 31) then Some (Rowid b.slot b.table) else None) o)
+      → option_and_then (λ t. if nat_lt t.tree (2 ^ 31) then Some (Rowid b.slot (f b.table)) else None) o
+      ≡ option_map (found_at f) (option_and_then (λ t. if nat_lt t.tree (2 ^ 31) then Some (Rowid b.slot b.table) else None) o)
   stored_over b None = refl
   stored_over b (Some t) = let e = map_if (found_at f) (nat_lt t.tree (2 ^ 31)) (Some (Rowid b.slot b.table)) None in sym e
 
@@ -47,7 +50,8 @@ module _ {s s0 : Schema} {f : ℕ → ℕ} (r : Relocates s s0 f) where
   rowid_in_over b = ap (option_and_then (λ t. if nat_lt t.tree (2 ^ 31) then Some (Rowid b.slot (f b.table)) else None)) (r.tables b.table) ∙ stored_over b (slice_get s0.tables b.table)
 
   hit_by : (meant by_rowid : Bool) (name : Name) (b : Bound)
-      → (if meant then (if by_rowid then rowid_in s (bound_at f b) else column_in s name (bound_at f b)) else None) ≡ option_map (found_at f) (if meant then (if by_rowid then rowid_in s0 b else column_in s0 name b) else None)
+      → (if meant then (if by_rowid then rowid_in s (bound_at f b) else column_in s name (bound_at f b)) else None)
+      ≡ option_map (found_at f) (if meant then (if by_rowid then rowid_in s0 b else column_in s0 name b) else None)
   hit_by false by_rowid name b = refl
   hit_by true true name b = rowid_in_over b
   hit_by true false name b = column_in_over name b
@@ -74,7 +78,8 @@ module _ {s s0 : Schema} {f : ℕ → ℕ} (r : Relocates s s0 f) where
   only_from_over table name by_rowid found (b ∷ bs) =
       rw (hit_over table name by_rowid b, one_over found (hit s0 table name by_rowid b)) (go (at_most_one found (hit s0 table name by_rowid b)) (λ x. only_from_over table name by_rowid x bs))
     where
-      go : (o : Checked (Option Found)) → ((x : Option Found) → only_from (hit s table name by_rowid) (option_map (found_at f) x) (map (bound_at f) bs) ≡ over (only_from (hit s0 table name by_rowid) x bs))
+      go : (o : Checked (Option Found)) → ((x : Option Found) → only_from (hit s table name by_rowid) (option_map (found_at f) x) (map (bound_at f) bs)
+          ≡ over (only_from (hit s0 table name by_rowid) x bs))
           → and_then (over o) (λ x. only_from (hit s table name by_rowid) x (map (bound_at f) bs)) ≡ over (and_then o (λ x. only_from (hit s0 table name by_rowid) x bs))
       go (Ok x) later = later x
       go (Err e) later = refl
@@ -85,7 +90,8 @@ module _ {s s0 : Schema} {f : ℕ → ℕ} (r : Relocates s s0 f) where
 
   -- a column, or else the rowid, or else an alias
   choice_over : (depth : ℕ) (columns rowids : Checked (Option Found)) (is_rowid has_table : Bool) (alias : Option ℕ)
-      → and_then (over columns) (λ x. if is_some x then Ok x else and_then (if is_rowid then over rowids else Ok None) (λ y. if is_some y || has_table then Ok y else Ok (option_map (Alias depth) alias)))
+      → and_then (over columns) (λ x. if is_some x then Ok x else and_then (if is_rowid then over rowids else Ok None)
+      (λ y. if is_some y || has_table then Ok y else Ok (option_map (Alias depth) alias)))
       ≡ over (and_then columns (λ x. if is_some x then Ok x else and_then (if is_rowid then rowids else Ok None) (λ y. if is_some y || has_table then Ok y else Ok (option_map (Alias depth) alias))))
   choice_over depth (Err e) rowids is_rowid has_table alias = refl
   choice_over depth (Ok (Some x)) rowids is_rowid has_table alias = refl
@@ -101,7 +107,8 @@ module _ {s s0 : Schema} {f : ℕ → ℕ} (r : Relocates s s0 f) where
   in_level_over : (table : Option Name) (name : Name) (depth : ℕ) (l : Level) → in_level s table name depth (level_at f l) ≡ over (in_level s0 table name depth l)
   unfolding in_level
   in_level_over table name depth l =
-      rw (only_over table name false l.tables, only_over table name true l.tables) (choice_over depth (only s0 table name false l.tables) (only s0 table name true l.tables) (is_rowid name) (is_some table) (alias_of name l.shown))
+      rw (only_over table name false l.tables, only_over table name true l.tables)
+      (choice_over depth (only s0 table name false l.tables) (only s0 table name true l.tables) (is_rowid name) (is_some table) (alias_of name l.shown))
 
   -- ---- a name in all of them
 
@@ -109,7 +116,8 @@ module _ {s s0 : Schema} {f : ℕ → ℕ} (r : Relocates s s0 f) where
   find_from_over table name depth [] = refl
   find_from_over table name depth (l ∷ ls) = rw (in_level_over table name depth l, find_from_over table name (depth + 1) ls) (go (in_level s0 table name depth l))
     where
-      go : (o : Checked (Option Found)) → and_then (over o) (found_or (checked_map (found_at f) (find_from s0 table name (depth + 1) ls))) ≡ checked_map (found_at f) (and_then o (found_or (find_from s0 table name (depth + 1) ls)))
+      go : (o : Checked (Option Found)) → and_then (over o) (found_or (checked_map (found_at f) (find_from s0 table name (depth + 1) ls)))
+          ≡ checked_map (found_at f) (and_then o (found_or (find_from s0 table name (depth + 1) ls)))
       go (Ok None) = refl
       go (Ok (Some x)) = refl
       go (Err e) = refl
@@ -177,10 +185,12 @@ module _ {s s0 : Schema} {f : ℕ → ℕ} (r : Relocates s s0 f) where
 
   -- ---- the affinity of a term
 
-  slot_over : (slot : ℕ) (bs : List Bound) → option_map (λ b. b.table) (first_such (λ b. b.slot == slot) (map (bound_at f) bs)) ≡ option_map f (option_map (λ b. b.table) (first_such (λ b. b.slot == slot) bs))
+  slot_over : (slot : ℕ) (bs : List Bound) → option_map (λ b. b.table) (first_such (λ b. b.slot == slot) (map (bound_at f) bs))
+      ≡ option_map f (option_map (λ b. b.table) (first_such (λ b. b.slot == slot) bs))
   slot_over slot [] = refl
   slot_over slot (b ∷ bs) =
-      elim (b.slot == slot) as (λ c. option_map (λ b. b.table) (cond c (Some (bound_at f b)) (first_such (λ b. b.slot == slot) (map (bound_at f) bs))) ≡ option_map f (option_map (λ b. b.table) (cond c (Some b) (first_such (λ b. b.slot == slot) bs))))
+      elim (b.slot == slot) as (λ c. option_map (λ b. b.table) (cond c (Some (bound_at f b)) (first_such (λ b. b.slot == slot) (map (bound_at f) bs)))
+      ≡ option_map f (option_map (λ b. b.table) (cond c (Some b) (first_such (λ b. b.slot == slot) bs))))
       [ true ↦ refl | false ↦ slot_over slot bs ]
 
   or_over : (a b : Option ℕ) → compare.or_else (option_map f a) (option_map f b) ≡ option_map f (compare.or_else a b)

@@ -22,7 +22,8 @@ use Rattle.sqlite_resolve.specs.Lowering.{Checked, and_then, fresh, max_budget}
 use Rattle.sqlite_resolve.specs.Order.{peeled}
 use Rattle.sqlite_resolve.specs.Compound.{unnamed, sort_key, sort_keys_from, sort_keys, order_of}
 use Rattle.sqlite_resolve.specs.Select.{named, paging, parts}
-use Rattle.sqlite_resolve.specs.Program.{Shown, Building, ◌>>=◌, lift, Joined, computed, reading, source_by, sources_from, sources, source, viewing, single, alone, part, joined, others_from, others, combined, compound, whole, level, with, query_to, query}
+use Rattle.sqlite_resolve.specs.Program.{Shown, Building, ◌>>=◌, lift, Joined, computed, reading, source_by, sources_from, sources, source, viewing, single, alone, part, joined, others_from, others}
+use Rattle.sqlite_resolve.specs.Program.{combined, compound, whole, level, with, query_to, query}
 use Rattle.bike_sql.specs.Fragment.{is_nil, covers, covers_origin, covers_sources, covers_order, covers_core, covers_page, covers_select}
 use Rattle.bike_sql.specs.Reads.{whole_part, covers_part, covers_parts, covers_union}
 use Rattle.bike_sql.proofs.Relocation.{Relocates, level_at, with_state, then_same, both}
@@ -44,17 +45,20 @@ covers_from s0 core order k = (body_parts s0 (covers s0) core (core_parts s0 cor
 module _ (inner : Schema → Select → Building Shown) where
   -- ---- one SELECT, in any schema in which its draft is known
 
-  sources_are : (s0 outer s : Schema) (ok : Expr → Bool) (slot : ℕ) (srcs : List Source) → covers_sources s0 ok srcs ≡ true → (lets : List Let) → sources_from inner outer s slot srcs lets ≡ Ok (s, lets)
+  sources_are : (s0 outer s : Schema) (ok : Expr → Bool) (slot : ℕ) (srcs : List Source) → covers_sources s0 ok srcs ≡ true → (lets : List Let)
+      → sources_from inner outer s slot srcs lets ≡ Ok (s, lets)
   unfolding source
   sources_are s0 outer s ok slot [] k lets = refl
   sources_are s0 outer s ok slot (src ∷ more) k lets =
       let p = source_parts s0 ok src more k in go (out-Source src).origin p.0 (sources_are s0 outer s ok (slot + 1) more p.2 lets)
     where
-      go : (o : Origin Select) → covers_origin s0 o ≡ true → sources_from inner outer s (slot + 1) more lets ≡ Ok (s, lets) → and_then (source_by inner outer s slot o lets) (λ r. sources_from inner outer r.0 (slot + 1) more r.1) ≡ Ok (s, lets)
+      go : (o : Origin Select) → covers_origin s0 o ≡ true → sources_from inner outer s (slot + 1) more lets ≡ Ok (s, lets)
+          → and_then (source_by inner outer s slot o lets) (λ r. sources_from inner outer r.0 (slot + 1) more r.1) ≡ Ok (s, lets)
       go (origin.Query q) k' later = absurd (cc)
       go (origin.Table name) k' later = later
 
-  viewing_is : (outer s : Schema) (core : Core) (order : List Sort) (page : Term × Term) (n : ℕ) (shown : Shown) → named s core order page ≡ Ok shown → (lets : List Let) → viewing inner outer core order page (suc n) s lets ≡ Ok ((shown, s), lets)
+  viewing_is : (outer s : Schema) (core : Core) (order : List Sort) (page : Term × Term) (n : ℕ) (shown : Shown) → named s core order page ≡ Ok shown → (lets : List Let)
+      → viewing inner outer core order page (suc n) s lets ≡ Ok ((shown, s), lets)
   unfolding viewing
   viewing_is outer s core order page n shown is lets = rw is
 
@@ -68,7 +72,8 @@ module _ (inner : Schema → Select → Building Shown) where
   unfolding alone
   alone_is s0 s core order page shown k is lets = let e = single_is s0 s core order page shown k is lets in rw e
 
-  level_is : (s0 s : Schema) (q : Select) (page : Term × Term) (shown : Shown) → is_nil (out-Select q).with ≡ true → is_nil (out-Select q).others ≡ true → covers_sources s0 (covers s0) (out-Core (out-Select q).first).from ≡ true
+  level_is : (s0 s : Schema) (q : Select) (page : Term × Term) (shown : Shown) → is_nil (out-Select q).with ≡ true → is_nil (out-Select q).others ≡ true
+      → covers_sources s0 (covers s0) (out-Core (out-Select q).first).from ≡ true
       → paging s q ≡ Ok page → named s (out-Select q).first (out-Select q).order page ≡ Ok shown → (lets : List Let) → level inner s q lets ≡ Ok (shown, lets)
   unfolding level with whole
   level_is s0 s q page shown no_with no_others k paged is lets =
@@ -78,7 +83,8 @@ module _ (inner : Schema → Select → Building Shown) where
       rw (w, paged, o, a)
 
 module _ {s s0 : Schema} {f : ℕ → ℕ} (r : Relocates s s0 f) where
-  pub select_query : (q : Select) (shown : Shown) → covers_select s0 q ≡ true → and_then (paging s0 q) (λ page. named s0 (out-Select q).first (out-Select q).order page) ≡ Ok shown → query s q ≡ Ok (shown, [])
+  pub select_query : (q : Select) (shown : Shown) → covers_select s0 q ≡ true → and_then (paging s0 q) (λ page. named s0 (out-Select q).first (out-Select q).order page) ≡ Ok shown
+      → query s q ≡ Ok (shown, [])
   unfolding query query_to
   select_query q shown k is = go (paging s0 q) refl is
     where
@@ -99,13 +105,15 @@ module _ {s s0 : Schema} {f : ℕ → ℕ} (r : Relocates s s0 f) where
   unfolding sort_key
   sort_key_same l by x k = let it = unnamed_same l (peeled (out-Sort x).key) k in rw it
 
-  sort_keys_same : (l : Level) (by : List (Option Collation)) (done : List (Term × Key)) (xs : List Sort) → covers_order (covers s0) xs ≡ true → sort_keys_from s (level_at f l) by done xs ≡ sort_keys_from s0 l by done xs
+  sort_keys_same : (l : Level) (by : List (Option Collation)) (done : List (Term × Key)) (xs : List Sort) → covers_order (covers s0) xs ≡ true
+      → sort_keys_from s (level_at f l) by done xs ≡ sort_keys_from s0 l by done xs
   sort_keys_same l by done [] k = refl
   sort_keys_same l by done (x ∷ more) k =
       let p = both (covers s0 (peeled (out-Sort x).key)) (covers_order (covers s0) more) k in
       ap₂ (λ first later. and_then first later) (sort_key_same l by x p.0) (fun_ext (λ one. sort_keys_same l by (done ++ one ∷ []) more p.1))
 
-  order_same : (core : Core) (by : List (Option Collation)) (order : List Sort) → covers_core s0 core [] ≡ true → covers_order (covers s0) order ≡ true → order_of s core by order ≡ order_of s0 core by order
+  order_same : (core : Core) (by : List (Option Collation)) (order : List Sort) → covers_core s0 core [] ≡ true → covers_order (covers s0) order ≡ true
+      → order_of s core by order ≡ order_of s0 core by order
   unfolding order_of sort_keys
   order_same core by order k1 k2 =
       rw (parts_over r core [] k1 (fresh 1 max_budget)) (then_same (parts s0 core [] (fresh 1 max_budget)) (with_state (clauses_at f)) _ _ (λ p. sort_keys_same p.0.body.level by [] order k2))
@@ -113,7 +121,8 @@ module _ {s s0 : Schema} {f : ℕ → ℕ} (r : Relocates s s0 f) where
   -- ---- the parts
 
   module _ (inner inner0 : Schema → Select → Building Shown) where
-    part_is : (core : Core) → covers_part s0 core ≡ true → (shown : Shown) × ((lets : List Let) → part inner s core lets ≡ Ok ((shown, s), lets)) × ((lets : List Let) → part inner0 s0 core lets ≡ Ok ((shown, s0), lets))
+    part_is : (core : Core) → covers_part s0 core ≡ true → (shown : Shown) × ((lets : List Let) → part inner s core lets ≡ Ok ((shown, s), lets))
+        × ((lets : List Let) → part inner0 s0 core lets ≡ Ok ((shown, s0), lets))
     unfolding part
     part_is core k =
         let p = both (covers_core s0 core []) (is_ok (named s0 core [] whole_part)) k in
@@ -132,12 +141,15 @@ module _ {s s0 : Schema} {f : ℕ → ℕ} (r : Relocates s s0 f) where
         let later : (λ longer. others_from inner s width longer more) ≡ (λ longer. others_from inner0 s0 width longer more) = fun_ext (λ longer. others_from_same width longer more p.1) in
         rw (joined_same width left c p.0, later)
 
-    combined_same : (q : Select) (first : Draft) (width : ℕ) (how : List (Option Collation)) → covers_parts s0 (out-Select q).others ≡ true → combined inner s q first width how ≡ combined inner0 s0 q first width how
+    combined_same : (q : Select) (first : Draft) (width : ℕ) (how : List (Option Collation)) → covers_parts s0 (out-Select q).others ≡ true
+        → combined inner s q first width how ≡ combined inner0 s0 q first width how
     unfolding combined others
-    combined_same q first width how k = let later : (λ left. others_from inner s (width + 1) left (out-Select q).others) ≡ (λ left. others_from inner0 s0 (width + 1) left (out-Select q).others) = fun_ext (λ left. others_from_same (width + 1) left (out-Select q).others k) in
+    combined_same q first width how k =
+        let later : (λ left. others_from inner s (width + 1) left (out-Select q).others) ≡ (λ left. others_from inner0 s0 (width + 1) left (out-Select q).others) = fun_ext (λ left. others_from_same (width + 1) left (out-Select q).others k) in
         ap (λ x. λ lets. and_then (computed first lets) (λ p. (if nat_lt width 65535 then x (p.0, how, false) else lift (Err TooBig)) p.1)) later
 
-    compound_same : (q : Select) (page : Term × Term) → covers_part s0 (out-Select q).first ≡ true → covers_parts s0 (out-Select q).others ≡ true → covers_order (covers s0) (out-Select q).order ≡ true → compound inner s q page ≡ compound inner0 s0 q page
+    compound_same : (q : Select) (page : Term × Term) → covers_part s0 (out-Select q).first ≡ true → covers_parts s0 (out-Select q).others ≡ true → covers_order (covers s0) (out-Select q).order ≡ true
+        → compound inner s q page ≡ compound inner0 s0 q page
     unfolding compound
     compound_same q page k1 k2 k3 = fun_ext (λ lets.
         let p = part_is (out-Select q).first k1 in
@@ -146,7 +158,8 @@ module _ {s s0 : Schema} {f : ℕ → ℕ} (r : Relocates s s0 f) where
         let a = p.1 lets in
         let b = p.2 lets in
         let c = combined_same q p.0.0 (length p.0.1) p.0.2 k2 in
-        rw (a, b, c) (ap (λ (x : List (Option Collation) → Checked (List (Term × Key))). and_then {A = Joined × List Let} {B = Shown × List Let} (combined inner0 s0 q p.0.0 (length p.0.1) p.0.2 lets) (λ j. (lift (x j.0.1) >>= (λ order. lift (Ok (reading j.0.0 p.0.1 order page, p.0.1, p.0.2)))) j.1)) o))
+        rw (a, b, c) (ap (λ (x : List (Option Collation) → Checked (List (Term × Key))). and_then {A = Joined × List Let} {B = Shown × List Let} (combined inner0 s0 q p.0.0 (length p.0.1) p.0.2 lets)
+        (λ j. (lift (x j.0.1) >>= (λ order. lift (Ok (reading j.0.0 p.0.1 order page, p.0.1, p.0.2)))) j.1)) o))
 
     union_same : (q : Select) → covers_union s0 q ≡ true → level inner s q ≡ level inner0 s0 q
     unfolding level with whole

@@ -26,12 +26,22 @@ use Rattle.bike_sql.proofs.QueryLemmas.{none_of, select_query, union_query}
 -- ---- from the draft of a text's query to its command
 
 module _ (s : Schema) (text : List ℕ) where
-  compiled_is : (p : Parsed) (x : Select) (shown : Shown) (lets : List Let) → first text ≡ Ok p → p.formats ≡ [] → p.statement ≡ written.Select x → query s x ≡ Ok (shown, lets) → accepts_program s (map let_in lets) (query_of shown.0) [] ≡ true
-      → compiled s text ≡ Ok (record { command = Selects (record { lets = lets; body = query_of shown.0 }) shown.1; returning = None; names = p.names; formats = []; start = p.start; end = p.end; tail = p.tail })
+  compiled_is : (p : Parsed) (x : Select) (shown : Shown) (lets : List Let) → first text ≡ Ok p → p.formats ≡ [] → p.statement ≡ written.Select x → query s x ≡ Ok (shown, lets)
+      → accepts_program s (map let_in lets) (query_of shown.0) [] ≡ true
+      → compiled s text ≡ Ok (record {
+        command = Selects (record { lets = lets; body = query_of shown.0 }) shown.1;
+        returning = None;
+        names = p.names;
+        formats = [];
+        start = p.start;
+        end = p.end;
+        tail = p.tail;
+      })
   unfolding compiled planned meaning returning command timed read program
   compiled_is p x shown lets parsed none is drafted typed = rw (parsed, is, none, drafted, typed)
 
-  query_reads : (p : Parsed) (x : Select) (shown : Shown) (lets : List Let) → first text ≡ Ok p → p.formats ≡ [] → p.statement ≡ written.Select x → query s x ≡ Ok (shown, lets) → accepts_program s (map let_in lets) (query_of shown.0) [] ≡ true
+  query_reads : (p : Parsed) (x : Select) (shown : Shown) (lets : List Let) → first text ≡ Ok p → p.formats ≡ [] → p.statement ≡ written.Select x → query s x ≡ Ok (shown, lets)
+      → accepts_program s (map let_in lets) (query_of shown.0) [] ≡ true
       → Reads s text (Selects (record { lets = lets; body = query_of shown.0 }) shown.1)
   unfolding understood
   query_reads p x shown lets parsed none is drafted typed = let c = compiled_is p x shown lets parsed none is drafted typed in (rw c, rw c (refl, refl), rw c)
@@ -50,7 +60,8 @@ pub record IsReadAs {A : Type 0} (text : List ℕ) (reading : Select → Checked
 read_as : {A : Type 0} (text : List ℕ) (reading : Select → Checked A) (a : A) → and_then (first text) (λ p. of_query reading p.formats p.statement) ≡ Ok a → IsReadAs text reading a
 read_as {A} text reading a is = go (first text) refl is
   where
-    at_formats : (p : Parsed) (x : Select) (b : Bool) → is_nil p.formats ≡ b → (if b then reading x else Err Misuse) ≡ Ok a → first text ≡ Ok p → p.statement ≡ written.Select x → IsReadAs text reading a
+    at_formats : (p : Parsed) (x : Select) (b : Bool) → is_nil p.formats ≡ b → (if b then reading x else Err Misuse) ≡ Ok a → first text ≡ Ok p → p.statement ≡ written.Select x
+        → IsReadAs text reading a
     at_formats p x false none h is_first is_select = absurd (cc)
     at_formats p x true none h is_first is_select = record { parsed = p; select = x; is_first = is_first; reads_no_clock = none_of p.formats none; is_select = is_select; gives = h }
 

@@ -44,7 +44,8 @@ abbrev pub with_state : {A B : Type 0} → (A → B) → A × State → B × Sta
 with_state g p = (g p.0, p.1)
 
 -- a step whose value goes over by `g`, before a step whose result does by `h`
-pub then_over : {A B C D : Type 0} (r : Checked A) (g : A → B) (k' : B → Checked D) (k : A → Checked C) (h : C → D) → ((a : A) → k' (g a) ≡ checked_map h (k a)) → and_then (checked_map g r) k' ≡ checked_map h (and_then r k)
+pub then_over : {A B C D : Type 0} (r : Checked A) (g : A → B) (k' : B → Checked D) (k : A → Checked C) (h : C → D) → ((a : A) → k' (g a) ≡ checked_map h (k a))
+    → and_then (checked_map g r) k' ≡ checked_map h (and_then r k)
 then_over (Ok a) g k' k h later = later a
 then_over (Err e) g k' k h later = refl
 

@@ -1,5 +1,6 @@
 -- FROM, `*` and USING mean the same, but for the places of the tables.
-use Rattle.std.proofs.Common.{◌≡◌, ℕ, ◌+◌, Bool, true, false, ◌||◌, if◌then◌else◌, List, [], ◌∷◌, ◌++◌, map, slice_get, length, nat_lt, Option, Some, None, is_some, option_map, unwrap_or, Ok, Err, refl, sym, ap, ap₂, ◌∙◌}
+use Rattle.std.proofs.Common.{◌≡◌, ℕ, ◌+◌, Bool, true, false, ◌||◌, if◌then◌else◌, List, [], ◌∷◌, ◌++◌, map, slice_get, length, nat_lt, Option, Some, None, is_some, option_map, unwrap_or, Ok, Err}
+use Rattle.std.proofs.Common.{refl, sym, ap, ap₂, ◌∙◌}
 use Rattle.std.proofs.Math.Path.{fun_ext}
 use Rattle.std.proofs.lemmas.List.{map-append}
 use Rattle.std.specs.List.{list_any}
@@ -23,7 +24,8 @@ use Rattle.sqlite_resolve.specs.Scope as sqlite_scope
 use Rattle.sqlite_resolve.specs.Scope.{Name, is_meant, is_hidden, column_in, term_of}
 use Rattle.sqlite_resolve.specs.Terms.{equal}
 use Rattle.sqlite_resolve.specs.Lowering.{Checked, and_then, or_else, ◌>>=◌, pure, fail, lift, last, chosen, take_slot}
-use Rattle.sqlite_resolve.specs.Body.{table_in, table_or, view_or_none, bound, bounds_from, bounds, columns_from, columns_of, stars_from, shares_name, stars, leftmost, first_with, agreeing, shared_from, shared}
+use Rattle.sqlite_resolve.specs.Body.{table_in, table_or, view_or_none, bound, bounds_from, bounds, columns_from, columns_of, stars_from, shares_name, stars, leftmost, first_with, agreeing}
+use Rattle.sqlite_resolve.specs.Body.{shared_from, shared}
 use Rattle.bike_sql.specs.Fragment.{covers_origin, covers_sources}
 use Rattle.bike_sql.proofs.Relocation.{Relocates, bound_at, level_at, found_at, scope, checked_map, with_state, then_over, then_into}
 use Rattle.bike_sql.proofs.CoverLemmas.{source_parts}
@@ -47,7 +49,8 @@ meant_same : (f : ℕ → ℕ) (wanted : Option Name) (b : Bound) → is_meant w
 meant_same f None b = refl
 meant_same f (Some t) b = refl
 
-columns_same : (f : ℕ → ℕ) (wanted : Option Name) (t : Table) (b : Bound) (at : ℕ) (done : List Output) (cs : List Column) → columns_from wanted t (bound_at f b) at done cs ≡ columns_from wanted t b at done cs
+columns_same : (f : ℕ → ℕ) (wanted : Option Name) (t : Table) (b : Bound) (at : ℕ) (done : List Output) (cs : List Column)
+    → columns_from wanted t (bound_at f b) at done cs ≡ columns_from wanted t b at done cs
 columns_same f wanted t b at done [] = refl
 columns_same f wanted t b at done (c ∷ cs) =
     let one : List Output = record { name = c.name; is_alias = true; is_column = true; term = col b.slot (place_of t at); carried = sqlite_scope.declared t at c } ∷ [] in
@@ -73,8 +76,10 @@ module _ {s s0 : Schema} {f : ℕ → ℕ} (r : Relocates s s0 f) where
   bound_over src k st = then_into (take_slot st) _ _ (with_state (bound_at f)) (λ a. rw (table_in_over a.0 (out-Source src).origin k) (go a.1 a.0 (table_in s0 a.0 (out-Source src).origin)))
     where
       go : (u : State) (slot : ℕ) (o : Checked (Name × ℕ))
-          → and_then {A = (Name × ℕ) × State} {B = Bound × State} (and_then (checked_map (λ p. (p.0, f p.1)) o) (λ a. Ok (a, u))) (λ p. Ok (record { name = unwrap_or (out-Source src).alias p.0.0; table = p.0.1; slot = slot; shared = (out-Source src).using }, p.1))
-          ≡ checked_map (with_state (bound_at f)) (and_then {A = (Name × ℕ) × State} {B = Bound × State} (and_then o (λ a. Ok (a, u))) (λ p. Ok (record { name = unwrap_or (out-Source src).alias p.0.0; table = p.0.1; slot = slot; shared = (out-Source src).using }, p.1)))
+          → and_then {A = (Name × ℕ) × State} {B = Bound × State} (and_then (checked_map (λ p. (p.0, f p.1)) o) (λ a. Ok (a, u)))
+          (λ p. Ok (record { name = unwrap_or (out-Source src).alias p.0.0; table = p.0.1; slot = slot; shared = (out-Source src).using }, p.1))
+          ≡ checked_map (with_state (bound_at f)) (and_then {A = (Name × ℕ) × State} {B = Bound × State} (and_then o (λ a. Ok (a, u)))
+          (λ p. Ok (record { name = unwrap_or (out-Source src).alias p.0.0; table = p.0.1; slot = slot; shared = (out-Source src).using }, p.1)))
       go u slot (Ok p) = refl
       go u slot (Err e) = refl
 
@@ -90,7 +95,8 @@ module _ {s s0 : Schema} {f : ℕ → ℕ} (r : Relocates s s0 f) where
   pub bounds_over : (ok : Expr → Bool) (srcs : List Source) → covers_sources s0 ok srcs ≡ true → (st : State) → bounds s srcs st ≡ checked_map (with_state (map (bound_at f))) (bounds s0 srcs st)
   unfolding bounds
   bounds_over ok srcs k st =
-      elim (nat_lt 64 (length srcs)) as (λ c. (if c then fail TooBig else bounds_from s [] srcs) st ≡ checked_map (with_state (map (bound_at f))) ((if c then fail TooBig else bounds_from s0 [] srcs) st))
+      elim (nat_lt 64 (length srcs)) as (λ c. (if c then fail TooBig else bounds_from s [] srcs) st
+      ≡ checked_map (with_state (map (bound_at f))) ((if c then fail TooBig else bounds_from s0 [] srcs) st))
       [ true ↦ refl | false ↦ bounds_from_over ok [] srcs k st ]
 
   -- ---- `*` and `t.*`
@@ -99,14 +105,16 @@ module _ {s s0 : Schema} {f : ℕ → ℕ} (r : Relocates s s0 f) where
   unfolding columns_of
   columns_of_same wanted done b = ap (λ o. and_then (or_else o NoSuchTable) (λ t. Ok (columns_from wanted t (bound_at f b) 0 done t.columns))) (r.tables b.table) ∙ go (slice_get s0.tables b.table)
     where
-      go : (o : Option Table) → and_then (or_else o NoSuchTable) (λ t. Ok (columns_from wanted t (bound_at f b) 0 done t.columns)) ≡ and_then (or_else o NoSuchTable) (λ t. Ok (columns_from wanted t b 0 done t.columns))
+      go : (o : Option Table) → and_then (or_else o NoSuchTable) (λ t. Ok (columns_from wanted t (bound_at f b) 0 done t.columns))
+          ≡ and_then (or_else o NoSuchTable) (λ t. Ok (columns_from wanted t b 0 done t.columns))
       go None = refl
       go (Some t) = ap (λ x. Ok x) (columns_same f wanted t b 0 done t.columns)
 
   stars_from_same : (wanted : Option Name) (done : List Output) (bs : List Bound) → stars_from s wanted done (map (bound_at f) bs) ≡ stars_from s0 wanted done bs
   stars_from_same wanted done [] = refl
   stars_from_same wanted done (b ∷ bs) =
-      rw (meant_same f wanted b, columns_of_same wanted done b) (ap (λ k. and_then (if is_meant wanted b then columns_of s0 wanted done b else Ok done) k) (fun_ext (λ more. stars_from_same wanted more bs)))
+      rw (meant_same f wanted b, columns_of_same wanted done b) (ap (λ k. and_then (if is_meant wanted b then columns_of s0 wanted done b else Ok done) k)
+      (fun_ext (λ more. stars_from_same wanted more bs)))
 
   pub stars_same : (wanted : Option Name) (done : List Output) (bs : List Bound) → stars s wanted done (map (bound_at f) bs) ≡ stars s0 wanted done bs
   unfolding stars
@@ -118,7 +126,8 @@ module _ {s s0 : Schema} {f : ℕ → ℕ} (r : Relocates s s0 f) where
   leftmost_over name [] = refl
   leftmost_over name (b ∷ bs) = rw (column_in_over r name b, leftmost_over name bs) (go (column_in s0 name b))
     where
-      go : (o : Option Found) → (if is_some (option_map (found_at f) o) then option_map (found_at f) o else option_map (found_at f) (leftmost s0 name bs)) ≡ option_map (found_at f) (if is_some o then o else leftmost s0 name bs)
+      go : (o : Option Found) → (if is_some (option_map (found_at f) o) then option_map (found_at f) o else option_map (found_at f) (leftmost s0 name bs))
+          ≡ option_map (found_at f) (if is_some o then o else leftmost s0 name bs)
       go None = refl
       go (Some x) = refl
 
@@ -127,7 +136,8 @@ module _ {s s0 : Schema} {f : ℕ → ℕ} (r : Relocates s s0 f) where
       → (lift (or_else o NoSuchColumn) >>= term_of (scope s (map (level_at f) ls) a b)) ≡ (lift (or_else o0 NoSuchColumn) >>= term_of (scope s0 ls a b))
   lowered_same ls a b o o0 is = ap (λ x. lift (or_else x NoSuchColumn) >>= term_of (scope s (map (level_at f) ls) a b)) is ∙ go o0
     where
-      go : (o0 : Option Found) → (lift (or_else (option_map (found_at f) o0) NoSuchColumn) >>= term_of (scope s (map (level_at f) ls) a b)) ≡ (lift (or_else o0 NoSuchColumn) >>= term_of (scope s0 ls a b))
+      go : (o0 : Option Found) → (lift (or_else (option_map (found_at f) o0) NoSuchColumn) >>= term_of (scope s (map (level_at f) ls) a b))
+          ≡ (lift (or_else o0 NoSuchColumn) >>= term_of (scope s0 ls a b))
       go None = refl
       go (Some x) = term_same r ls a b x
 

@@ -54,7 +54,8 @@ module _ {s s0 : Schema} {f : ℕ → ℕ} (r : Relocates s s0 f) where
   module _ (low : Context → Expr → Lowering Term) (ok : Expr → Bool) (same : LowersAlike s s0 f low ok) where
     -- ---- EXISTS
 
-    counting_same : (ls : List Level) (a b : Bool) (p : Purpose) (core : Core) → covers_body s0 ok core ≡ true → (st : State) → counting low (in_s ls a b) p core st ≡ counting low (in_s0 ls a b) p core st
+    counting_same : (ls : List Level) (a b : Bool) (p : Purpose) (core : Core) → covers_body s0 ok core ≡ true → (st : State)
+        → counting low (in_s ls a b) p core st ≡ counting low (in_s0 ls a b) p core st
     unfolding counting
     counting_same ls a b p core k st =
         rw (body_over r low ok same ls a b core k st)
@@ -83,13 +84,15 @@ module _ {s s0 : Schema} {f : ℕ → ℕ} (r : Relocates s s0 f) where
     -- ---- an aggregate of one argument
 
     call_by_same : (ls : List Level) (a b distinct : Bool) (x : Function) (e : Expr) → ok e ≡ true → is_aggregate x ≡ true
-        → (if distinct then distinct_by low (in_s ls a b) x (e ∷ []) else scalar low (in_s ls a b) x (e ∷ [])) ≡ (if distinct then distinct_by low (in_s0 ls a b) x (e ∷ []) else scalar low (in_s0 ls a b) x (e ∷ []))
+        → (if distinct then distinct_by low (in_s ls a b) x (e ∷ []) else scalar low (in_s ls a b) x (e ∷ []))
+        ≡ (if distinct then distinct_by low (in_s0 ls a b) x (e ∷ []) else scalar low (in_s0 ls a b) x (e ∷ []))
     unfolding scalar folded single
     call_by_same ls a b true (function.Aggregate op) e k is = let it = same e k ls false b in rw it
     call_by_same ls a b false (function.Aggregate op) e k is = let it = same e k ls false b in rw it
     call_by_same ls a b distinct _ e k is = absurd (cc)
 
-    call_same : (ls : List Level) (a b distinct : Bool) (name : Name) (e : Expr) → (ok e && is_aggregate (function_named name)) ≡ true → call low (in_s ls a b) name distinct (e ∷ []) ≡ call low (in_s0 ls a b) name distinct (e ∷ [])
+    call_same : (ls : List Level) (a b distinct : Bool) (name : Name) (e : Expr) → (ok e && is_aggregate (function_named name)) ≡ true
+        → call low (in_s ls a b) name distinct (e ∷ []) ≡ call low (in_s0 ls a b) name distinct (e ∷ [])
     unfolding call
     call_same ls a b distinct name e k = let p = parts (ok e) (is_aggregate (function_named name)) k in call_by_same ls a b distinct (function_named name) e p.0 p.1
 

@@ -20,7 +20,8 @@ use Rattle.sqlite_resolve.specs.declared.function.Function.TheVariants as functi
 use Rattle.sqlite_resolve.specs.Lowering.{Lowering, pure}
 use Rattle.sqlite_resolve.specs.Scope.{Name, Context}
 use Rattle.sqlite_resolve.specs.Compare.{compared, unbound, converted, bare}
-use Rattle.sqlite_resolve.specs.Expr.{count_rows, operated, applied, operator, combine, truth, truth_at, wanted_truth, is_identity, is_alias_at, tests_alias, both, operation, operation_by, prefixed, bounded, between, star, star_by, function_named, node_at}
+use Rattle.sqlite_resolve.specs.Expr.{count_rows, operated, applied, operator, combine, truth, truth_at, wanted_truth, is_identity, is_alias_at, tests_alias, both, operation, operation_by, prefixed}
+use Rattle.sqlite_resolve.specs.Expr.{bounded, between, star, star_by, function_named, node_at}
 use Rattle.bike_sql.specs.Fragment.{covers_prefix, covers_node}
 use Rattle.bike_sql.proofs.Relocation.{both as parts}
 use Rattle.bike_sql.proofs.CoverLemmas.{both3}

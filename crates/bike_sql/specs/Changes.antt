@@ -23,14 +23,18 @@ Change = ℕ × Draft × Bool
 
 -- the change of the table with this name
 abbrev pub change_on : Schema → Name → (ℕ → Table → Checked Draft) → Bool → Checked Change
-change_on s name change is_update = and_then (target s name) (λ k. and_then (table_at s k) (λ table. and_then (change k table) (λ d. Ok (k, d, is_update))))
+change_on s name change is_update =
+    and_then (target s name) (λ k. and_then (table_at s k)
+    (λ table. and_then (change k table) (λ d. Ok (k, d, is_update))))
 
 -- the change that a covered UPDATE or DELETE makes, with no RETURNING and no clock; any other statement is refused
 abbrev pub change_at : Schema → List Name → Statement → Checked Change
 change_at s formats (written.Update name sets test shown) =
-    if is_nil formats && (is_nil shown && (covers_sets s sets && covers_option (covers s) test)) then change_on s name (λ k table. updated s k table sets test) true else Err Misuse
+    if is_nil formats && (is_nil shown && (covers_sets s sets && covers_option (covers s) test))
+    then change_on s name (λ k table. updated s k table sets test) true else Err Misuse
 change_at s formats (written.Delete name test shown) =
-    if is_nil formats && (is_nil shown && covers_option (covers s) test) then change_on s name (λ k table. deleted s k table test) false else Err Misuse
+    if is_nil formats && (is_nil shown && covers_option (covers s) test)
+    then change_on s name (λ k table. deleted s k table test) false else Err Misuse
 change_at s formats _ = Err Misuse
 
 abbrev pub change_of : Schema → List ℕ → Checked Change

@@ -1,5 +1,7 @@
--- The texts whose meaning rests on their tables' names alone, as a test of the syntax. Covered are: joins and left joins of named tables, ON, USING, WHERE, GROUP BY, HAVING,
--- ORDER BY, DISTINCT, LIMIT and OFFSET, aliases, the binary operators, BETWEEN, IS NULL, NOT, COLLATE, EXISTS, a subquery as a value, and the aggregates. Not covered are:
+-- The texts whose meaning rests on their tables' names alone, as a test of the syntax.
+-- Covered are: joins and left joins of named tables, ON, USING, WHERE, GROUP BY, HAVING,
+-- ORDER BY, DISTINCT, LIMIT and OFFSET, aliases, the binary operators, BETWEEN, IS NULL,
+-- NOT, COLLATE, EXISTS, a subquery as a value, and the aggregates. Not covered are:
 -- WITH, a subquery in FROM, IN, CASE, CAST, a minus before a term, and functions of values.
 use Rattle.std.specs.Prelude.{ℕ, zero, suc, Bool, true, false, ◌&&◌, List, [], ◌∷◌, Option, Some, None, is_some}
 use Rattle.sqlite_ast.specs.declared.Unary.{Unary}
@@ -58,7 +60,8 @@ covers_origin s (origin.Query q) = false
 
 abbrev pub covers_sources : Schema → (Expr → Bool) → List Source → Bool
 covers_sources s ok [] = true
-covers_sources s ok (x ∷ more) = covers_origin s (out-Source x).origin && (covers_option ok (out-Source x).on && covers_sources s ok more)
+covers_sources s ok (x ∷ more) =
+    covers_origin s (out-Source x).origin && (covers_option ok (out-Source x).on && covers_sources s ok more)
 
 abbrev pub covers_column : (Expr → Bool) → ShownLayer → Bool
 covers_column ok Shown-F.All = true
@@ -71,7 +74,9 @@ covers_columns ok (x ∷ more) = covers_column ok (out-Shown x) && covers_column
 
 -- FROM, the columns of the result, and WHERE
 abbrev pub covers_body : Schema → (Expr → Bool) → Core → Bool
-covers_body s ok core = covers_sources s ok (out-Core core).from && (covers_columns ok (out-Core core).shown && covers_option ok (out-Core core).filter)
+covers_body s ok core =
+    covers_sources s ok (out-Core core).from && (covers_columns ok (out-Core core).shown
+    && covers_option ok (out-Core core).filter)
 
 abbrev pub covers_order : (Expr → Bool) → List Sort → Bool
 covers_order ok [] = true
@@ -106,7 +111,9 @@ covers s = covers_to s 700
 
 -- one SELECT with its order
 abbrev pub covers_core : Schema → Core → List Sort → Bool
-covers_core s core order = covers_body s (covers s) core && (covers_group (covers s) (out-Core core).group && (covers_option (covers s) (out-Core core).having && covers_order (covers s) order))
+covers_core s core order =
+    covers_body s (covers s) core && (covers_group (covers s) (out-Core core).group
+    && (covers_option (covers s) (out-Core core).having && covers_order (covers s) order))
 
 -- LIMIT and OFFSET
 abbrev pub covers_page : Schema → Select → Bool
@@ -114,7 +121,9 @@ covers_page s q = covers_option (covers s) (out-Select q).limit && covers_option
 
 -- a whole query with no WITH and no UNION
 abbrev pub covers_select : Schema → Select → Bool
-covers_select s q = covers_core s (out-Select q).first (out-Select q).order && (covers_page s q && (is_nil (out-Select q).with && is_nil (out-Select q).others))
+covers_select s q =
+    covers_core s (out-Select q).first (out-Select q).order
+    && (covers_page s q && (is_nil (out-Select q).with && is_nil (out-Select q).others))
 
 -- what UPDATE sets
 abbrev pub covers_sets : Schema → List (Name × Expr) → Bool

@@ -1,5 +1,6 @@
 -- What a statement needs to know of the schema that it runs in: its tables are found there by their names.
-use Rattle.std.specs.Prelude.{◌≡◌, ◌^◌, ◌==◌, ℕ, List, [], ◌∷◌, Some, find, slice_get, length, unwrap_or, nat_le, false, ⊤}
+use Rattle.std.specs.Prelude.{◌≡◌, ◌^◌, ◌==◌, ℕ, List, [], ◌∷◌, Some, find, slice_get, length, unwrap_or, nat_le, false}
+use Rattle.std.specs.Prelude.{⊤}
 use Rattle.sqlite_schema.specs.declared.schema.Table.{Table}
 use Rattle.sqlite_schema.specs.declared.schema.Schema.{Schema}
 use Rattle.sqlite_schema.specs.Names.{table_named}

@@ -17,8 +17,10 @@ abbrev pub rows_of : Statement → Rows
 rows_of (written.Insert how name columns rows clauses shown) = rows
 rows_of _ = Defaults
 
--- The statement inserts these rows into the table with all its columns in order, and has no ON CONFLICT, no RETURNING and no clock.
+-- The statement inserts these rows into the table with all its columns
+-- in order, and has no ON CONFLICT, no RETURNING and no clock.
 abbrev pub IsInsert : Schema → Table → Checked Parsed → Source → Type 0
 IsInsert s table (Ok p) from =
-    (p.statement ≡ written.Insert Abort table.name [] (rows_of p.statement) [] []) × (p.formats ≡ []) × (table.stamps.formats ≡ []) × ((base : ℕ) → new_rows s table base [] (rows_of p.statement) ≡ Ok from)
+    (p.statement ≡ written.Insert Abort table.name [] (rows_of p.statement) [] []) × (p.formats ≡ [])
+    × (table.stamps.formats ≡ []) × ((base : ℕ) → new_rows s table base [] (rows_of p.statement) ≡ Ok from)
 IsInsert s table (Err e) from = ⊥

@@ -7,3 +7,15 @@ pub mod Makes
 pub mod Laws
 pub mod Scans
 pub mod Found
+pub mod Keyed
+pub mod Layout
+pub mod View
+pub mod Stands
+pub mod Queries
+pub mod Outcome
+pub mod Answer
+pub mod Walk
+pub mod Runs
+pub mod Calls
+pub mod Inside
+pub mod Drops

@@ -19,7 +19,8 @@ IsFree s name = (table_named s name ≡ None) × (view_named s name ≡ None) ×
 -- The statement makes this table, under this name.
 abbrev pub MakesTable : Statement → List Name → Name → Table → Type 0
 MakesTable (written.CreateTable def) formats name table =
-    (def.name ≡ name) × (is_reserved def.name ≡ false) × (define.table formats def ≡ Ok table) × ((length table.computed == length table.stamps.places && not def.resolves) ≡ true)
+    (def.name ≡ name) × (is_reserved def.name ≡ false) × (define.table formats def ≡ Ok table)
+    × ((length table.computed == length table.stamps.places && not def.resolves) ≡ true)
 MakesTable _ formats name table = ⊥
 
 abbrev pub IsCreate : Checked Parsed → Name → Table → Type 0
@@ -29,7 +30,8 @@ IsCreate (Err e) name table = ⊥
 -- The statement makes this index of the table, under this name.
 abbrev pub MakesIndex : Statement → List Name → Table → Name → Index → Type 0
 MakesIndex (written.CreateIndex def) formats table name index =
-    (def.name ≡ name) × (def.table ≡ table.name) × (is_reserved def.name ≡ false) × (is_reserved def.table ≡ false) × (define.index table def ≡ Ok index) × (formats ≡ [])
+    (def.name ≡ name) × (def.table ≡ table.name) × (is_reserved def.name ≡ false) × (is_reserved def.table ≡ false)
+    × (define.index table def ≡ Ok index) × (formats ≡ [])
 MakesIndex _ formats table name index = ⊥
 
 abbrev pub IsIndex : Checked Parsed → Table → Name → Index → Type 0

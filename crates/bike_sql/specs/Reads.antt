@@ -29,7 +29,9 @@ of_query reading formats _ = Err Misuse
 
 -- the draft of a covered query that is one SELECT
 abbrev pub one_select : Schema → Select → Checked Shown
-one_select s q = if covers_select s q then and_then (paging s q) (λ page. named s (out-Select q).first (out-Select q).order page) else Err Misuse
+one_select s q =
+    if covers_select s q then and_then (paging s q) (λ page. named s (out-Select q).first (out-Select q).order page)
+    else Err Misuse
 
 abbrev pub draft_of : Schema → List ℕ → Checked Shown
 draft_of s text = and_then (first text) (λ p. of_query (one_select s) p.formats p.statement)
@@ -55,7 +57,9 @@ covers_parts s (c ∷ more) = covers_part s c.1 && covers_parts s more
 -- a query of two or more covered parts, with no WITH
 abbrev pub covers_union : Schema → Select → Bool
 covers_union s q =
-    (covers_part s (out-Select q).first && (covers_parts s (out-Select q).others && covers_order (covers s) (out-Select q).order)) && (covers_page s q && (is_nil (out-Select q).with && not (is_nil (out-Select q).others)))
+    (covers_part s (out-Select q).first && (covers_parts s (out-Select q).others
+    && covers_order (covers s) (out-Select q).order))
+    && (covers_page s q && (is_nil (out-Select q).with && not (is_nil (out-Select q).others)))
 
 -- the draft that reads the rows of all parts, and the tables that are computed for it
 abbrev pub one_union : Schema → Select → Checked (Shown × List Let)

@@ -11,7 +11,18 @@ use Rattle.sqlite_sql.specs.declared.ops.CompareOp.TheVariants.{Eq}
 
 -- of the rows of one tree those that pass, in this order, as many as the limit
 abbrev pub scan : ℕ → List Term → List (Term × Key) → List Term → Term → Query
-scan tree filter order project limit = record { from = inner tree end; filter = filter; group = None; project = project; distinct = false; collations = []; order = order; limit = limit; offset = lit (Int (pos 0)) }
+scan tree filter order project limit =
+    record {
+      from = inner tree end;
+      filter = filter;
+      group = None;
+      project = project;
+      distinct = false;
+      collations = [];
+      order = order;
+      limit = limit;
+      offset = lit (Int (pos 0));
+    }
 
 -- no limit, as LIMIT -1
 abbrev pub no_limit : Term

@@ -10,12 +10,12 @@ use Rattle.sqlite_value.specs.declared.value.Value.TheVariants.{Int}
 use Rattle.sqlite_value.specs.Order.{Row, column, value_cmp, row_cmp}
 use Rattle.sqlite_value.proofs.KeyLemmas.{then_tied}
 use Rattle.sqlite_rules.specs.Lists.{Has}
-use Rattle.bike_rows.specs.View.{by_key}
-use Rattle.bike_rows.proofs.LineLemmas.{apart_append, has_append}
-use Rattle.bike_rows.proofs.ListLemmas.{map_has}
-use Rattle.bike_rows.proofs.OrderLemmas.{Rises, all_has, all_from}
-use Rattle.bike_rows.proofs.SortLemmas.{AreApartAll}
-use Rattle.bike_rows.proofs.TreeLemmas.{by_key_total}
+use Rattle.bike_sql.specs.View.{by_key}
+use Rattle.bike_sql.proofs.LineLemmas.{apart_append, has_append}
+use Rattle.bike_sql.proofs.RowListLemmas.{map_has}
+use Rattle.bike_sql.proofs.OrderLemmas.{Rises, all_has, all_from}
+use Rattle.bike_sql.proofs.SortLemmas.{AreApartAll}
+use Rattle.bike_sql.proofs.TreeLemmas.{by_key_total}
 use Rattle.bike_book.proofs.Keys.{value_cmp-number_value}
 use Rattle.bike_book.specs.Tables.{Tables, Docks, Bikes, Counts}
 use Rattle.bike_book.specs.declared.columns.types.TheConstants as types

@@ -35,7 +35,8 @@ pub with_bit_has : (o : Option ℕ) (set : List Bool) (n : ℕ) → IsWithinSet 
 with_bit_has None set n within = sym (or_false (has_bit set n))
 with_bit_has (Some m) set n within = go (eqb_tells m n) where
   go : ((m == n) ≡ true) × (m ≡ n) ⊎ ((m == n) ≡ false) × (m ≡ n → ⊥) → has_bit (slice_set set m true) n ≡ (has_bit set n || (m == n))
-  go (inl same) = ap (λ (k : ℕ). get_or (slice_set set m true) k false) (sym same.1) ∙ get_or-set_same set m true false within ∙ sym (or_true (has_bit set n)) ∙ ap (λ (b : Bool). has_bit set n || b) (sym same.0)
+  go (inl same) =
+      ap (λ (k : ℕ). get_or (slice_set set m true) k false) (sym same.1) ∙ get_or-set_same set m true false within ∙ sym (or_true (has_bit set n)) ∙ ap (λ (b : Bool). has_bit set n || b) (sym same.0)
   go (inr other) = get_or-set_other set m n true false (λ e. other.1 (sym e)) ∙ sym (or_false (has_bit set n)) ∙ ap (λ (b : Bool). has_bit set n || b) (sym other.0)
 
 pub with_bit_length : (o : Option ℕ) (set : List Bool) → length (with_bit o set) ≡ length set
@@ -70,7 +71,8 @@ module _ {X Y : Type 0} where
   pub any_read : (p : Y → Bool) (read : X → Option Y) (xs : List X) → list_any p (filter_map read xs) ≡ list_any (λ x. of_read p (read x)) xs
   any_read p read [] = refl
   any_read p read (x ∷ xs) = go (read x) (any_read p read xs) where
-    go : (o : Option Y) → list_any p (filter_map read xs) ≡ list_any (λ z. of_read p (read z)) xs → list_any p (cons_option o (filter_map read xs)) ≡ (of_read p o || list_any (λ z. of_read p (read z)) xs)
+    go : (o : Option Y) → list_any p (filter_map read xs) ≡ list_any (λ z. of_read p (read z)) xs
+        → list_any p (cons_option o (filter_map read xs)) ≡ (of_read p o || list_any (λ z. of_read p (read z)) xs)
     go None rest = rest
     go (Some y) rest = ap (λ (b : Bool). p y || b) rest
 

@@ -106,8 +106,10 @@ module _ (t : Tables) (up : AreInOrder t) (wide : AreWide t) (earlier : EarlierG
       λ station type_id is.
           let same = texts_tie_of station type_id is in
           subst (HasFigures t up wide earlier station type_id) (sym e) (
-            ap (λ (o : Option (List ℕ × List ℕ × ℕ × ℕ)). has_some (λ (a : Tally). a.stored_available) (count_tally o)) it.value_is ∙ it.fact.available_is ∙ ap₂ (λ (a b : List ℕ). available_of s a b) same.0 same.1,
-            ap (λ (o : Option (List ℕ × List ℕ × ℕ × ℕ)). has_some (λ (a : Tally). a.stored_disabled) (count_tally o)) it.value_is ∙ it.fact.disabled_is ∙ ap₂ (λ (a b : List ℕ). disabled_of s a b) same.0 same.1,
+            ap (λ (o : Option (List ℕ × List ℕ × ℕ × ℕ)). has_some (λ (a : Tally). a.stored_available) (count_tally o)) it.value_is ∙ it.fact.available_is
+                ∙ ap₂ (λ (a b : List ℕ). available_of s a b) same.0 same.1,
+            ap (λ (o : Option (List ℕ × List ℕ × ℕ × ℕ)). has_some (λ (a : Tally). a.stored_disabled) (count_tally o)) it.value_is ∙ it.fact.disabled_is
+                ∙ ap₂ (λ (a b : List ℕ). disabled_of s a b) same.0 same.1,
           ),
     )
       where
@@ -124,7 +126,8 @@ module _ (t : Tables) (up : AreInOrder t) (wide : AreWide t) (earlier : EarlierG
       lines_verdict t Counts up (named_line t up wide) test (take 2) (λ row has. let four = wide.counts row has in take-append-le 2 row _ (omega (arith, four))) v is
 
   -- THE VERDICT of the two passes
-  pub counts_verdict : (m : Marks) → m.station ≡ None → m.broken ≡ none_marked → (a b : Option Row) → first_failing test (take 2) 0 (lines_of query.CountNames t) ≡ a → run m None (lines_of query.Counts t) ≡ b
+  pub counts_verdict : (m : Marks) → m.station ≡ None → m.broken ≡ none_marked → (a b : Option Row) → first_failing test (take 2) 0 (lines_of query.CountNames t) ≡ a
+      → run m None (lines_of query.Counts t) ≡ b
       → IsTableVerdict t Counts (least_key a b)
   counts_verdict m no_station no_dock a b first second =
       same_verdict t (λ key. IsNamed key × IsFigure key) (IsGoodKey t Counts) good_of of_good (least_key a b)
@@ -152,4 +155,5 @@ counts_judged db named counted before m tally least it zero no_station no_dock n
     let first : first_failing (λ n line. is_named line) (take 2) 0 (lines_of query.CountNames t) ≡ option_map key_row named =
     ap (λ (n : ℕ). first_failing (λ n line. is_named line) (take 2) n (lines_of query.CountNames t)) (sym zero) ∙ sym (it.by_name _ refl) in
     let second : run m None (lines_of query.Counts t) ≡ option_map key_row counted = ap (λ (o : Option Tally). run m o (lines_of query.Counts t)) (sym no_tally) ∙ sym (it.by_figure _ refl) in
-    subst (IsTableVerdict t Counts) (sym least_is) (counts_verdict t (stored_in_order db) (are_wide db it.ours) earlier m no_station no_dock (option_map key_row named) (option_map key_row counted) first second)
+    subst (IsTableVerdict t Counts) (sym least_is) (counts_verdict t (stored_in_order db) (are_wide db it.ours) earlier m no_station no_dock (option_map key_row named)
+    (option_map key_row counted) first second)

@@ -9,7 +9,7 @@ use Rattle.std.specs.FinMap as fin
 use Rattle.sqlite_value.specs.declared.value.Value.TheVariants.{Text}
 use Rattle.sqlite_value.specs.Order.{Row, column}
 use Rattle.sqlite_rules.specs.Lists.{Has}
-use Rattle.bike_rows.specs.View.{row_with, partner}
+use Rattle.bike_sql.specs.View.{row_with, partner}
 use Rattle.bike_operator.specs.Operator.{Station}
 use Rattle.bike_book.specs.Tables.{TableName, Tables, rows_in, Stations, Docks}
 use Rattle.bike_book.specs.declared.columns.stations.TheConstants as stations
@@ -42,7 +42,8 @@ pub take_front : (n : ℕ) (row rest : Row) → length row ≡ n → take n (row
 take_front n row rest is = ap (λ (k : ℕ). take k (row ++ rest)) (sym is) ∙ take-append_seam row rest
 
 -- what a partner is read as
-pub read_partner : {A : Type 0} (read : Row → Option A) (width : ℕ) → read (take width (nulls width)) ≡ None → (p : Option Row) → ((r : Row) → p ≡ Some r → length r ≡ width) → read (take width (or_nulls width p)) ≡ option_and_then read p
+pub read_partner : {A : Type 0} (read : Row → Option A) (width : ℕ) → read (take width (nulls width)) ≡ None → (p : Option Row) → ((r : Row) → p ≡ Some r → length r ≡ width)
+    → read (take width (or_nulls width p)) ≡ option_and_then read p
 read_partner read width none None wide = none
 read_partner read width none (Some r) wide = ap read (take_all width r (wide r refl))
 
@@ -62,7 +63,8 @@ module _ (t : Tables) (up : AreInOrder t) (wide : AreWide t) where
   line_reads row d is =
       let made = (dock_reading.sound row d is).0 in
       let at = row_with 1 (Text d.0 ∷ []) t.stations in
-      ap (λ (r : Row). is_good_dock (joined_dock r)) made ∙ ap (λ (o : Option (List ℕ × ℕ × Bool)). has_dock o (station_read (take stations.COLUMNS (or_nulls stations.COLUMNS at)))) (ap dock_read (sym made) ∙ is)
+      ap (λ (r : Row). is_good_dock (joined_dock r)) made ∙ ap (λ (o : Option (List ℕ × ℕ × Bool)). has_dock o (station_read (take stations.COLUMNS (or_nulls stations.COLUMNS at))))
+      (ap dock_read (sym made) ∙ is)
       ∙ ap (has_dock (Some d)) (read_partner station_read stations.COLUMNS refl at (station_wide d.0))
 
   dock_true : (d : List ℕ × ℕ × Bool) (o : Option (List ℕ × Station × ℤ × ℕ)) → has_dock (Some d) o ≡ true → (x : List ℕ × Station × ℤ × ℕ) × (o ≡ Some x) × (d.1 ≤ x.1.row.docks)
@@ -75,12 +77,14 @@ module _ (t : Tables) (up : AreInOrder t) (wide : AreWide t) where
     go None e = absurd cc
     go (Some r) e = ap (λ (q : Option (List ℕ × Station × ℤ × ℕ)). option_map (λ (y : List ℕ × Station). y.1) (option_map (λ (y : List ℕ × Station × ℤ × ℕ). (y.0, y.1)) q)) e
 
-  read_of_found : (id : List ℕ) (x : Station) → fin.get (operator_of t).stations id ≡ Some x → (e : List ℕ × Station × ℤ × ℕ) × (option_and_then station_read (row_with 1 (Text id ∷ []) t.stations) ≡ Some e) × (e.1 ≡ x)
+  read_of_found : (id : List ℕ) (x : Station) → fin.get (operator_of t).stations id ≡ Some x
+      → (e : List ℕ × Station × ℤ × ℕ) × (option_and_then station_read (row_with 1 (Text id ∷ []) t.stations) ≡ Some e) × (e.1 ≡ x)
   read_of_found id x found = go (row_with 1 (Text id ∷ []) t.stations) (sym (station_found id) ∙ found) where
     go : (o : Option Row) → option_map (λ (y : List ℕ × Station). y.1) (option_and_then station_in o) ≡ Some x → (e : List ℕ × Station × ℤ × ℕ) × (option_and_then station_read o ≡ Some e) × (e.1 ≡ x)
     go None e = absurd cc
     go (Some r) e = by (station_read r) refl e where
-      by : (q : Option (List ℕ × Station × ℤ × ℕ)) → station_read r ≡ q → option_map (λ (y : List ℕ × Station). y.1) (option_map (λ (y : List ℕ × Station × ℤ × ℕ). (y.0, y.1)) q) ≡ Some x → (e : List ℕ × Station × ℤ × ℕ) × (q ≡ Some e) × (e.1 ≡ x)
+      by : (q : Option (List ℕ × Station × ℤ × ℕ)) → station_read r ≡ q → option_map (λ (y : List ℕ × Station). y.1) (option_map (λ (y : List ℕ × Station × ℤ × ℕ). (y.0, y.1)) q) ≡ Some x
+          → (e : List ℕ × Station × ℤ × ℕ) × (q ≡ Some e) × (e.1 ≡ x)
       by None is same = absurd cc
       by (Some y) is same = (y, refl, cc)
 

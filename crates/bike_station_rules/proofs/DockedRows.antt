@@ -92,12 +92,13 @@ abbrev dock_of_parts : Option (List ℕ) → Option ℕ → Option (Option ℕ) 
 dock_of_parts i k r t o = cond (is_some i && (is_some r && (is_some t && is_some o))) k None
 
 elsewhere : (at : Option (List ℕ)) (n ridden on for : Option ℕ) → dock_place at n ≡ None → dock_of (first_place at n ridden on for) ≡ None
-elsewhere at n ridden on for none = ap (λ (o : Option Place). dock_of (unwrap_or (first_of o (first_of (option_map place.Rental ridden) (truck_place on for))) place.Depot)) none ∙ behind ridden on for where
-  behind : (ridden on for : Option ℕ) → dock_of (unwrap_or (first_of (option_map place.Rental ridden) (truck_place on for)) place.Depot) ≡ None
-  behind (Some r) on for = refl
-  behind None None for = refl
-  behind None (Some n) None = refl
-  behind None (Some n) (Some for) = refl
+elsewhere at n ridden on for none =
+    ap (λ (o : Option Place). dock_of (unwrap_or (first_of o (first_of (option_map place.Rental ridden) (truck_place on for))) place.Depot)) none ∙ behind ridden on for where
+      behind : (ridden on for : Option ℕ) → dock_of (unwrap_or (first_of (option_map place.Rental ridden) (truck_place on for)) place.Depot) ≡ None
+      behind (Some r) on for = refl
+      behind None None for = refl
+      behind None (Some n) None = refl
+      behind None (Some n) (Some for) = refl
 
 no_whole_dock : (at : Option (List ℕ)) (n : Option ℕ) → dock_place at n ≡ None → (r t o : Option (Option ℕ)) → option_and_then dock_of (place_of_parts (Some at) (Some n) r t o) ≡ None
 no_whole_dock at n none None t o = refl
@@ -114,7 +115,8 @@ module _ (station dock rental truck order : Value) where
 
   named_dock : (p : Place) → keep_bounds rental truck order ≡ true → in_dock station dock ≡ Some p → IsNamed station the_dock p
   named_dock p kept is = go (ident_in station) refl (dock_in dock) refl is where
-    go : (a : Option (List ℕ)) → ident_in station ≡ a → (d : Option ℕ) → dock_in dock ≡ d → option_and_then (λ at. option_and_then (λ n. Some (place.Dock at n)) d) a ≡ Some p → IsNamed station the_dock p
+    go : (a : Option (List ℕ)) → ident_in station ≡ a → (d : Option ℕ) → dock_in dock ≡ d → option_and_then (λ at. option_and_then (λ n. Some (place.Dock at n)) d) a ≡ Some p
+        → IsNamed station the_dock p
     go None ea d ed same = absurd cc
     go (Some at) ea None ed same = absurd cc
     go (Some at) ea (Some n) ed same =
@@ -128,12 +130,14 @@ module _ (station dock rental truck order : Value) where
 
   placed_named : (p : Place) → place_in station dock rental truck order ≡ Some p → IsNamed station the_dock p
   placed_named p is =
-      go (are_null (station ∷ dock ∷ rental ∷ truck ∷ order ∷ [])) refl (are_null (rental ∷ truck ∷ order ∷ [])) refl (are_null (station ∷ dock ∷ truck ∷ order ∷ [])) refl (are_null (station ∷ dock ∷ rental ∷ [])) refl is
+      go (are_null (station ∷ dock ∷ rental ∷ truck ∷ order ∷ [])) refl (are_null (rental ∷ truck ∷ order ∷ [])) refl (are_null (station ∷ dock ∷ truck ∷ order ∷ [])) refl
+      (are_null (station ∷ dock ∷ rental ∷ [])) refl is
     where
       nothing : (vs : List Value) → are_null (station ∷ vs) ≡ true → the_dock ≡ None
       nothing vs e = ap (λ (o : Option (List ℕ)). cond (is_some o && keep_bounds rental truck order) (dock_in dock) None) (null_ident station (first_null station vs e))
 
-      go : (a : Bool) → are_null (station ∷ dock ∷ rental ∷ truck ∷ order ∷ []) ≡ a → (b : Bool) → are_null (rental ∷ truck ∷ order ∷ []) ≡ b → (c : Bool) → are_null (station ∷ dock ∷ truck ∷ order ∷ []) ≡ c
+      go : (a : Bool) → are_null (station ∷ dock ∷ rental ∷ truck ∷ order ∷ []) ≡ a → (b : Bool) → are_null (rental ∷ truck ∷ order ∷ []) ≡ b → (c : Bool)
+          → are_null (station ∷ dock ∷ truck ∷ order ∷ []) ≡ c
           → (d : Bool) → are_null (station ∷ dock ∷ rental ∷ []) ≡ d
           → cond a (Some place.Depot) (cond b (in_dock station dock) (cond c (in_rental rental) (cond d (on_truck truck order) None))) ≡ Some p → IsNamed station the_dock p
       go true ea b eb c ec d ed e = let same : place.Depot ≡ p = cc in no_dock p (ap dock_of (sym same)) (nothing (dock ∷ rental ∷ truck ∷ order ∷ []) ea)
@@ -145,7 +149,8 @@ module _ (station dock rental truck order : Value) where
   -- ---- the first place
 
   nowhere : (o : Option Place) (d : Option ℕ) → option_and_then dock_of o ≡ None → d ≡ None → IsFirst station d o
-  nowhere o d none other = record { dock_is = none ∙ sym other; text_is = λ at n e. let there : option_and_then dock_of o ≡ Some n = ap (λ (q : Option Place). option_and_then dock_of q) e in absurd cc }
+  nowhere o d none other =
+      record { dock_is = none ∙ sym other; text_is = λ at n e. let there : option_and_then dock_of o ≡ Some n = ap (λ (q : Option Place). option_and_then dock_of q) e in absurd cc }
 
   first_is : IsFirst station the_dock (first_place_in station dock rental truck order)
   first_is = go (is_null station) refl (ident_in station) refl (is_null dock) refl (dock_in dock) refl (or_none serial_in rental) (or_none numbered_in truck) (or_none serial_in order) where
@@ -163,7 +168,11 @@ module _ (station dock rental truck order : Value) where
     go false ea (Some at) ei false eb (Some n) ek (Some r) None o = nowhere None None refl refl
     go false ea (Some at) ei false eb (Some n) ek (Some r) (Some t) None = nowhere None None refl refl
     go false ea (Some at) ei false eb (Some n) ek (Some r) (Some t) (Some o) =
-        record { dock_is = refl; text_is = λ other m e. let is : ◌≡◌ {A = Option Place} (Some (place.Dock at n)) (Some (place.Dock other m)) = e in let same : at ≡ other = cc in ident_text station at ei ∙ ap Text same }
+        record {
+          dock_is = refl;
+          text_is =
+              λ other m e. let is : ◌≡◌ {A = Option Place} (Some (place.Dock at n)) (Some (place.Dock other m)) = e in let same : at ≡ other = cc in ident_text station at ei ∙ ap Text same;
+        }
 
 -- ---- rows
 
@@ -190,10 +199,18 @@ bike_is true (Some n) (Some t) None station dock p first each it = record { dock
 bike_is true (Some n) (Some t) (Some s) station dock None None each it = record { docked_is = it.dock_is; named = λ e is. absurd cc; number_is = λ e is. absurd cc }
 bike_is true (Some n) (Some t) (Some s) station dock None (Some first) each it =
     let here : IsNamed station dock first = record { dock_is = it.dock_is; text_is = λ at m is. it.text_is at m (ap (λ (p : Place). Some p) is) } in
-    record { docked_is = it.dock_is; named = λ e is. let same : made n t s first ≡ e = cc in subst (λ (x : ℕ × Bike). IsNamed station dock x.1.place) same here; number_is = λ e is. (refl, let same : made n t s first ≡ e = cc in ap (λ (x : ℕ × Bike). Some x.0) same) }
+    record {
+      docked_is = it.dock_is;
+      named = λ e is. let same : made n t s first ≡ e = cc in subst (λ (x : ℕ × Bike). IsNamed station dock x.1.place) same here;
+      number_is = λ e is. (refl, let same : made n t s first ≡ e = cc in ap (λ (x : ℕ × Bike). Some x.0) same);
+    }
 bike_is true (Some n) (Some t) (Some s) station dock (Some p) first each it =
     let here = each p refl in
-    record { docked_is = here.dock_is; named = λ e is. let same : made n t s p ≡ e = cc in subst (λ (x : ℕ × Bike). IsNamed station dock x.1.place) same here; number_is = λ e is. (refl, let same : made n t s p ≡ e = cc in ap (λ (x : ℕ × Bike). Some x.0) same) }
+    record {
+      docked_is = here.dock_is;
+      named = λ e is. let same : made n t s p ≡ e = cc in subst (λ (x : ℕ × Bike). IsNamed station dock x.1.place) same here;
+      number_is = λ e is. (refl, let same : made n t s p ≡ e = cc in ap (λ (x : ℕ × Bike). Some x.0) same);
+    }
 
 -- the dock that the columns of a row's place name first
 abbrev pub dock_of_row : Row → Option ℕ
@@ -223,5 +240,6 @@ docked_is line =
     let c5 : column row 5 ≡ column line 8 = at 5 (omega arith) in
     let c6 : column row 6 ≡ column line 9 = at 6 (omega arith) in
     let c7 : column row 7 ≡ column line 10 = at 7 (omega arith) in
-    (λ i. cond (wide i && (is_some (numbered_in (sym c0 i)) && (is_some (ident_in (sym c1 i)) && is_some (state_in (sym c2 i))))) (dock_named (sym c3 i) (sym c4 i) (sym c5 i) (sym c6 i) (sym c7 i)) None)
+    (λ i. cond (wide i && (is_some (numbered_in (sym c0 i)) && (is_some (ident_in (sym c1 i)) && is_some (state_in (sym c2 i)))))
+    (dock_named (sym c3 i) (sym c4 i) (sym c5 i) (sym c6 i) (sym c7 i)) None)
     ∙ sym (row_is row).docked_is

@@ -10,9 +10,9 @@ use Rattle.sqlite_value.specs.Order.{Row, value_cmp, row_cmp}
 use Rattle.sqlite_value.proofs.OrderLemmas.{value_cmp-Text, value_cmp-apart}
 use Rattle.sqlite_value.proofs.KeyLemmas.{then_tied}
 use Rattle.sqlite_rules.specs.Lists.{Has}
-use Rattle.bike_rows.specs.View.{row_with}
-use Rattle.bike_rows.proofs.OrderLemmas.{rises}
-use Rattle.bike_rows.proofs.TreeLemmas.{by_key_total}
+use Rattle.bike_sql.specs.View.{row_with}
+use Rattle.bike_sql.proofs.OrderLemmas.{rises}
+use Rattle.bike_sql.proofs.TreeLemmas.{by_key_total}
 use Rattle.bike_laws.proofs.SingleSteps.MapLemmas.{text_order}
 use Rattle.bike_operator.specs.declared.records.Bike.{Bike}
 use Rattle.bike_operator.specs.Operator.{Operator}
@@ -38,7 +38,8 @@ use Rattle.bike_station_rules.proofs.Apart.{AreWide, all_lines, lines_apart}
 use Rattle.bike_station_rules.proofs.Groups.{IsEven, Came, total, first_came}
 use Rattle.bike_station_rules.proofs.LinesAre.{sorted, sorted_lines, broken_said}
 use Rattle.bike_station_rules.proofs.Pass.{tallies_up, run_is, marks, length-none_marked}
-use Rattle.bike_station_rules.proofs.Totals.{has_some, stored_in, of_lines, ordered_total, appended, docks_total, counts_total, bikes_total, bikes_store_none, available_adds, disabled_adds, none_stored}
+use Rattle.bike_station_rules.proofs.Totals.{has_some, stored_in, of_lines, ordered_total, appended, docks_total, counts_total, bikes_total, bikes_store_none, available_adds, disabled_adds}
+use Rattle.bike_station_rules.proofs.Totals.{none_stored}
 
 -- ---- keys that tie with two texts
 
@@ -58,7 +59,8 @@ key_same (x ∷ y ∷ []) a b tie =
     ap₂ (λ (u v : Value). u ∷ v ∷ []) (text_same x a first.0) (text_same y b second.0)
 key_same (x ∷ y ∷ z ∷ zs) a b tie = absurd (let it = (then_tied (value_cmp y (Text b)) _ (then_tied (value_cmp x (Text a)) _ tie).1).1 in cc)
 
-none_of_row : (f : Tally → ℕ) → ((at ty : List ℕ) (n m : ℕ) → f (record { station = at; type_id = ty; stored_available = n; stored_disabled = m; available = 0; disabled = 0 }) ≡ 0) → (o : Option (List ℕ × List ℕ × ℕ × ℕ)) → has_some f (count_tally o) ≡ 0
+none_of_row : (f : Tally → ℕ) → ((at ty : List ℕ) (n m : ℕ) → f (record { station = at; type_id = ty; stored_available = n; stored_disabled = m; available = 0; disabled = 0 }) ≡ 0)
+    → (o : Option (List ℕ × List ℕ × ℕ × ℕ)) → has_some f (count_tally o) ≡ 0
 none_of_row f zero None = refl
 none_of_row f zero (Some e) = zero e.0 e.1 e.2 e.3
 
@@ -150,7 +152,9 @@ module _ (t : Tables) (up : AreInOrder t) (wide : AreWide t) (earlier : EarlierG
   came_verdict : (v : Option Row) → Came tallies v → IsFirstFailing t Counts IsFigured v
   came_verdict None all = λ key. figured key (λ station type_id is. all station type_id)
   came_verdict (Some key) it = record {
-    bad = λ holds. it.bad (has_even it.tally.station it.tally.type_id (subst (λ (k : Row). HasFigures it.tally.station it.tally.type_id (row_under t Counts k)) it.key_is (holds it.tally.station it.tally.type_id it.key_is)));
+    bad =
+        λ holds. it.bad (has_even it.tally.station it.tally.type_id (subst (λ (k : Row). HasFigures it.tally.station it.tally.type_id (row_under t Counts k)) it.key_is
+        (holds it.tally.station it.tally.type_id it.key_is)));
     own = own (row_under t Counts key) refl;
     before = λ other less. figured other (λ station type_id is. it.before station type_id (ap (λ (k : Row). row_cmp k key) (sym is) ∙ less));
   }

@@ -50,7 +50,8 @@ total f station type_id (b ∷ bs) = adds f station type_id b + total f station 
 -- the numbers that are stored are those of the bicycles
 abbrev pub IsEven : List ℕ → List ℕ → List Tally → Type 0
 IsEven station type_id bs =
-    (total (λ a. a.stored_available) station type_id bs ≡ total (λ a. a.available) station type_id bs) × (total (λ a. a.stored_disabled) station type_id bs ≡ total (λ a. a.disabled) station type_id bs)
+    (total (λ a. a.stored_available) station type_id bs ≡ total (λ a. a.available) station type_id bs)
+    × (total (λ a. a.stored_disabled) station type_id bs ≡ total (λ a. a.disabled) station type_id bs)
 
 -- none of them is of this
 abbrev pub NoneOf : List ℕ → List ℕ → List Tally → Type 0
@@ -132,8 +133,11 @@ equal_even m n is = elim (eqb_tells m n) [ inl same ↦ same.0 | inr other ↦ a
 one_even : (a : Tally) → is_even a ≡ true → (station type_id : List ℕ)
     → (adds (λ t. t.stored_available) station type_id a ≡ adds (λ t. t.available) station type_id a) × (adds (λ t. t.stored_disabled) station type_id a ≡ adds (λ t. t.disabled) station type_id a)
 one_even a even station type_id =
-    let it = both_true (a.stored_available == a.available) (a.stored_disabled == a.disabled) even in
-    (ap (λ (n : ℕ). cond (is_of station type_id a) n 0) (even_equal a.stored_available a.available it.0), ap (λ (n : ℕ). cond (is_of station type_id a) n 0) (even_equal a.stored_disabled a.disabled it.1))
+    let it = both_true (a.stored_available == a.available) (a.stored_disabled == a.disabled) even in (
+      ap (λ (n : ℕ). cond (is_of station type_id a) n 0) (even_equal a.stored_available a.available it.0),
+      ap (λ (n : ℕ). cond (is_of station type_id a) n 0)
+          (even_equal a.stored_disabled a.disabled it.1),
+    )
 
 with_even : (a : Tally) (bs : List Tally) → is_even a ≡ true → (station type_id : List ℕ) → IsEven station type_id bs → IsEven station type_id (a ∷ bs)
 with_even a bs even station type_id rest =
@@ -148,7 +152,8 @@ without_even a bs even station type_id all =
     (omega (arith, a0, r0), omega (arith, a1, r1))
 
 none_even : (station type_id : List ℕ) (bs : List Tally) → NoneOf station type_id bs → IsEven station type_id bs
-none_even station type_id bs none = (total_none _ station type_id bs none ∙ sym (total_none _ station type_id bs none), total_none _ station type_id bs none ∙ sym (total_none _ station type_id bs none))
+none_even station type_id bs none =
+    (total_none _ station type_id bs none ∙ sym (total_none _ station type_id bs none), total_none _ station type_id bs none ∙ sym (total_none _ station type_id bs none))
 
 -- a tally that isn't even, below all that come after it
 own_uneven : (a : Tally) (bs : List Tally) → IsBelow a bs → is_even a ≡ false → Uneven (a ∷ bs) (tally_key a)

@@ -8,13 +8,13 @@ use Rattle.std.proofs.lemmas.Bool.Decides.{eqb_tells}
 use Rattle.sqlite_value.specs.declared.value.Value.TheVariants.{Text}
 use Rattle.sqlite_value.specs.Order.{Row, column}
 use Rattle.sqlite_rules.specs.Lists.{Has}
-use Rattle.bike_rows.specs.View.{by_key}
-use Rattle.bike_rows.specs.Keyed.{in_order}
-use Rattle.bike_rows.proofs.LineLemmas.{has_append}
-use Rattle.bike_rows.proofs.ListLemmas.{map_has, has_map, permuted}
-use Rattle.bike_rows.proofs.OrderLemmas.{order_has}
-use Rattle.bike_rows.proofs.SortLemmas.{order_permutes}
-use Rattle.bike_rows.proofs.TreeLemmas.{by_key_total}
+use Rattle.bike_sql.specs.View.{by_key}
+use Rattle.bike_sql.specs.Keyed.{in_order}
+use Rattle.bike_sql.proofs.LineLemmas.{has_append}
+use Rattle.bike_sql.proofs.RowListLemmas.{map_has, has_map, permuted}
+use Rattle.bike_sql.proofs.OrderLemmas.{order_has}
+use Rattle.bike_sql.proofs.SortLemmas.{order_permutes}
+use Rattle.bike_sql.proofs.TreeLemmas.{by_key_total}
 use Rattle.bike_operator.specs.declared.records.Place.{Place}
 use Rattle.bike_operator.specs.declared.records.Place.TheVariants as place
 use Rattle.bike_operator.specs.declared.records.Bike.{Bike}
@@ -195,7 +195,8 @@ module _ (t : Tables) (up : AreInOrder t) (wide : AreWide t) where
     -- what is broken is said by the lines
     pub broken_said : is_broken (operator_of t) station dock ≡ list_any (marks station dock) sorted
     broken_said = go (is_broken (operator_of t) station dock) refl (list_any (marks station dock) sorted) refl where
-      go : (a : Bool) → is_broken (operator_of t) station dock ≡ a → (b : Bool) → list_any (marks station dock) sorted ≡ b → is_broken (operator_of t) station dock ≡ list_any (marks station dock) sorted
+      go : (a : Bool) → is_broken (operator_of t) station dock ≡ a → (b : Bool) → list_any (marks station dock) sorted ≡ b
+          → is_broken (operator_of t) station dock ≡ list_any (marks station dock) sorted
       go true e true f = e ∙ sym f
       go true e false f = absurd (let yes_it_is = from_broken e in cc)
       go false e true f = absurd (let x = any_true (marks station dock) sorted f in let it = to_broken x.0 x.1 x.2 in cc)

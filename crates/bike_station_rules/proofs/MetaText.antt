@@ -1,7 +1,7 @@
 -- The look-up of row 1 of `meta`.
 use Rattle.std.proofs.Common.{[], ◌∷◌, codes, refl}
 use Rattle.sqlite_tied.specs.Compute.{everything}
-use Rattle.bike_rows.specs.View.{row_with}
+use Rattle.bike_sql.specs.View.{row_with}
 use Rattle.bike_book.specs.Tables.{Meta}
 use Rattle.bike_book.specs.Rows.{number_value}
 use Rattle.bike_schema.proofs.AnswerLemmas.{FindsIn, keyed_in}

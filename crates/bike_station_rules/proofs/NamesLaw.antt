@@ -6,7 +6,7 @@ use Rattle.std.proofs.Math.Seq.{drop-append_seam}
 use Rattle.sqlite_value.specs.declared.value.Value.TheVariants.{Text}
 use Rattle.sqlite_value.specs.Order.{Row, column}
 use Rattle.sqlite_rules.specs.Lists.{Has}
-use Rattle.bike_rows.specs.View.{row_with, partner}
+use Rattle.bike_sql.specs.View.{row_with, partner}
 use Rattle.bike_catalogue.specs.Rows.{TypeRow}
 use Rattle.bike_operator.specs.Operator.{Station}
 use Rattle.bike_book.specs.Tables.{Tables, Stations, Types}
@@ -54,7 +54,8 @@ module _ (t : Tables) (up : AreInOrder t) (wide : AreWide t) where
   station_there id = ap is_some (found_at texts station_in station_key t.stations (up Stations) id tt) ∙ go (station_under id) where
     go : (o : Option Row) → is_some (option_map (λ e. e.1) (option_and_then station_in o)) ≡ is_some (option_and_then station_read o)
     go None = refl
-    go (Some r) = elim (station_read r) as (λ q. is_some (option_map (λ (e : List ℕ × Station). e.1) (option_map (λ (x : List ℕ × Station × _ × ℕ). (x.0, x.1)) q)) ≡ is_some q) [ None ↦ refl | Some x ↦ refl ]
+    go (Some r) =
+        elim (station_read r) as (λ q. is_some (option_map (λ (e : List ℕ × Station). e.1) (option_map (λ (x : List ℕ × Station × _ × ℕ). (x.0, x.1)) q)) ≡ is_some q) [ None ↦ refl | Some x ↦ refl ]
 
   type_there : (id : List ℕ) → fin.contains_key (operator_of t).types id ≡ is_some (option_and_then type_read (type_under id))
   type_there id = ap is_some (found_at texts type_read type_key t.types (up Types) id tt) ∙ go (option_and_then type_read (type_under id)) where
@@ -77,15 +78,19 @@ module _ (t : Tables) (up : AreInOrder t) (wide : AreWide t) where
     back_wide = partner_length types.COLUMNS refl (type_under kind) (λ x q. wide.types x (under_has 1 (Text kind ∷ []) t.types x q).0)
 
     front_reads : is_some (station_read (take stations.COLUMNS (front ++ back))) ≡ fin.contains_key (operator_of t).stations id
-    front_reads = ap (λ (x : Row). is_some (station_read x)) (take_front stations.COLUMNS front back front_wide) ∙ ap is_some (read_partner station_read stations.COLUMNS refl (station_under id)) ∙ sym (station_there id)
+    front_reads =
+        ap (λ (x : Row). is_some (station_read x)) (take_front stations.COLUMNS front back front_wide) ∙ ap is_some (read_partner station_read stations.COLUMNS refl (station_under id))
+        ∙ sym (station_there id)
 
     back_reads : is_some (type_read (take types.COLUMNS (drop stations.COLUMNS (front ++ back)))) ≡ fin.contains_key (operator_of t).types kind
     back_reads =
-        ap (λ (x : Row). is_some (type_read x)) (ap (take types.COLUMNS) (drop_front stations.COLUMNS front back front_wide) ∙ take_all types.COLUMNS back back_wide) ∙ ap is_some (read_partner type_read types.COLUMNS refl (type_under kind))
+        ap (λ (x : Row). is_some (type_read x)) (ap (take types.COLUMNS) (drop_front stations.COLUMNS front back front_wide) ∙ take_all types.COLUMNS back back_wide)
+        ∙ ap is_some (read_partner type_read types.COLUMNS refl (type_under kind))
         ∙ sym (type_there kind)
 
   -- where counts are read: their station and their type are there
-  pub named_is : (r : Row) (e : List ℕ × List ℕ × ℕ × ℕ) → count_read r ≡ Some e → is_named (named_line r) ≡ (fin.contains_key (operator_of t).stations e.0 && fin.contains_key (operator_of t).types e.1)
+  pub named_is : (r : Row) (e : List ℕ × List ℕ × ℕ × ℕ) → count_read r ≡ Some e
+      → is_named (named_line r) ≡ (fin.contains_key (operator_of t).stations e.0 && fin.contains_key (operator_of t).types e.1)
   named_is r e is =
       let made : r ≡ count_row e.0 e.1 e.2 e.3 = (count_reading.sound r e is).0 in
       ap (λ (x : Row). is_named (named_line x)) made
@@ -95,5 +100,7 @@ module _ (t : Tables) (up : AreInOrder t) (wide : AreWide t) where
   -- and where they aren't, the test fails
   pub unread_fails : (r : Row) → Has t.counts r → count_read r ≡ None → is_named (named_line r) ≡ false
   unread_fails r has none =
-      ap (λ (o : Option (List ℕ × List ℕ × ℕ × ℕ)). is_some o && (is_some (station_read (part counts.COLUMNS stations.COLUMNS (named_line r))) && is_some (type_read (part (counts.COLUMNS + stations.COLUMNS) types.COLUMNS (named_line r)))))
-      (ap count_read (take_front counts.COLUMNS r (or_nulls stations.COLUMNS (partner 1 (map (column r) (0 ∷ [])) t.stations) ++ or_nulls types.COLUMNS (partner 1 (map (column r) (1 ∷ [])) t.types)) (wide.counts r has)) ∙ none)
+      ap (λ (o : Option (List ℕ × List ℕ × ℕ × ℕ)). is_some o && (is_some (station_read (part counts.COLUMNS stations.COLUMNS (named_line r)))
+      && is_some (type_read (part (counts.COLUMNS + stations.COLUMNS) types.COLUMNS (named_line r)))))
+      (ap count_read (take_front counts.COLUMNS r (or_nulls stations.COLUMNS (partner 1 (map (column r) (0 ∷ [])) t.stations) ++ or_nulls types.COLUMNS (partner 1 (map (column r) (1 ∷ [])) t.types))
+      (wide.counts r has)) ∙ none)

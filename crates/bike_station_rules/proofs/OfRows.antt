@@ -29,6 +29,7 @@ module _ (t : Tables) (name : TableName) where
       go (Some r) e g = it.passes (rows_below t name key) r (under_has (keys_of name) key (rows_in t name) r e).0 g
 
 -- what says the same fails first at the same key
-pub same_verdict : (t : Tables) (name : TableName) (P Q : Row → Type 0) → ((key : Row) → P key → Q key) → ((key : Row) → Q key → P key) → (v : Option Row) → IsFirstFailing t name P v → IsFirstFailing t name Q v
+pub same_verdict : (t : Tables) (name : TableName) (P Q : Row → Type 0) → ((key : Row) → P key → Q key) → ((key : Row) → Q key → P key) → (v : Option Row) → IsFirstFailing t name P v
+    → IsFirstFailing t name Q v
 same_verdict t name P Q to from None all = λ key. to key (all key)
 same_verdict t name P Q to from (Some key) it = record { bad = λ q. it.bad (from key q); own = it.own; before = λ other less. to other (it.before other less) }

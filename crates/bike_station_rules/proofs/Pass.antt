@@ -15,9 +15,9 @@ use Rattle.sqlite_value.specs.declared.value.Value.TheVariants.{Int, Text}
 use Rattle.sqlite_value.specs.Order.{Row, column, value_cmp, row_cmp}
 use Rattle.sqlite_value.proofs.OrderLemmas.{value_cmp_total, row_cmp_total, value_cmp-Text}
 use Rattle.sqlite_rules.specs.Lists.{Has}
-use Rattle.bike_rows.specs.View.{by_key}
-use Rattle.bike_rows.proofs.OrderLemmas.{Rises, all_has}
-use Rattle.bike_rows.proofs.TreeLemmas.{by_key_total}
+use Rattle.bike_sql.specs.View.{by_key}
+use Rattle.bike_sql.proofs.OrderLemmas.{Rises, all_has}
+use Rattle.bike_sql.proofs.TreeLemmas.{by_key_total}
 use Rattle.bike_laws.proofs.SingleSteps.MapLemmas.{text_order}
 use Rattle.bike_operator.specs.declared.records.Place.{Place}
 use Rattle.bike_operator.specs.declared.records.Place.TheVariants as place
@@ -30,7 +30,8 @@ use Rattle.bike_judges.specs.Lines.{part}
 use Rattle.bike_station_rules.specs.declared.marks.TheConstants.{PLACES}
 use Rattle.bike_station_rules.specs.declared.marks.Marks.{Marks}
 use Rattle.bike_station_rules.specs.declared.tally.Tally.{Tally}
-use Rattle.bike_station_rules.specs.Tallies.{is_place, is_station, is_at, has_mark, none_marked, no_marks, marks_of, with_mark, marked_by, marks_after, count_tally, docked_tally, placed_tally, bike_tally, tally_in, tally_key, next_of, found_of, first_uneven, run}
+use Rattle.bike_station_rules.specs.Tallies.{is_place, is_station, is_at, has_mark, none_marked, no_marks, marks_of, with_mark, marked_by, marks_after, count_tally, docked_tally, placed_tally}
+use Rattle.bike_station_rules.specs.Tallies.{bike_tally, tally_in, tally_key, next_of, found_of, first_uneven, run}
 use Rattle.bike_station_rules.proofs.Groups.{Up, NotAbove}
 
 -- ---- truth
@@ -135,7 +136,8 @@ no_fall_keys x y a b it at bt fall = elim (then_less (value_cmp (Text a.station)
     back : row_cmp (tally_key a) (tally_key b) ≡ Greater
     back = row_cmp_total.antisymm (tally_key a) (tally_key b) ∙ ap ordering_reverse fall
 
-    turned : ordering_then (value_cmp (Text a.station) (Text b.station)) (ordering_then (value_cmp (Int (pos 1)) (Int (pos 1))) (ordering_then (value_cmp (Text a.type_id) (Text b.type_id)) it.after)) ≡ Less
+    turned : ordering_then (value_cmp (Text a.station) (Text b.station)) (ordering_then (value_cmp (Int (pos 1)) (Int (pos 1))) (ordering_then (value_cmp (Text a.type_id) (Text b.type_id)) it.after))
+        ≡ Less
     turned =
         sym (λ i. ordering_then (value_cmp (at.0 i) (bt.0 i)) (ordering_then (value_cmp (at.1 i) (bt.1 i)) (ordering_then (value_cmp (at.2 i) (bt.2 i)) it.after)))
         ∙ it.is
@@ -164,7 +166,8 @@ module _ (g : List ℕ → ℕ → Bool) where
 abbrev Marked : Marks → Row → Type 0
 Marked m x =
     ((marks_after m x ≡ m) × ((station : List ℕ) (dock : ℕ) → marks station dock x ≡ false))
-    ⊎ ((e : List ℕ × ℕ) × (marks_after m x ≡ with_mark m e.0 e.1) × ((station : List ℕ) (dock : ℕ) → marks station dock x ≡ (bytes_eq e.0 station && (e.1 == dock))) × (column x 0 ≡ Text e.0) × (e.1 < PLACES))
+    ⊎ ((e : List ℕ × ℕ) × (marks_after m x ≡ with_mark m e.0 e.1) × ((station : List ℕ) (dock : ℕ) → marks station dock x ≡ (bytes_eq e.0 station && (e.1 == dock))) × (column x 0 ≡ Text e.0)
+    × (e.1 < PLACES))
 
 effect : (m : Marks) (x : Row) → IsLine x → Marked m x
 effect m x line = go (is_place 0 (column x 1)) refl where
@@ -227,7 +230,8 @@ station_of m station is = go m.station refl is where
   go (Some at) e t = e ∙ ap (λ (s : List ℕ). Some s) ((bytes_eq-Decides at station).0 t)
 
 -- with a dock of another station marked, a station to come isn't that of the marks
-marks_step : (m : Marks) (x y : Row) (xs : List Row) (e : List ℕ × ℕ) (station : List ℕ) (dock : ℕ) → length m.broken ≡ PLACES → IsReached m (x ∷ xs) → Ranks x y → column x 0 ≡ Text e.0 → column y 0 ≡ Text station → e.1 < PLACES
+marks_step : (m : Marks) (x y : Row) (xs : List Row) (e : List ℕ × ℕ) (station : List ℕ) (dock : ℕ) → length m.broken ≡ PLACES → IsReached m (x ∷ xs) → Ranks x y → column x 0 ≡ Text e.0
+    → column y 0 ≡ Text station → e.1 < PLACES
     → has_mark (with_mark m e.0 e.1) station dock ≡ (has_mark m station dock || (bytes_eq e.0 station && (e.1 == dock)))
 marks_step m x y xs e station dock long reached low a b within = go (is_at m e.0) refl where
   go : (c : Bool) → is_at m e.0 ≡ c
@@ -301,7 +305,8 @@ same_tally g h x same = go (is_place 1 (column x 1)) refl where
       read None q = refl
       read (Some b) q = placed b.1.place refl where
         placed : (p : Place) → b.1.place ≡ p → placed_tally g b.1.type_id b.1.state p ≡ placed_tally h b.1.type_id b.1.state p
-        placed (place.Dock station dock) r = ap (λ (c : Bool). Some (docked_tally station b.1.type_id (is_fit b.1.state && not c))) (same station dock (record { bike = b; read_is = q; of_rest = e; of_bikes = f; place_is = r }))
+        placed (place.Dock station dock) r =
+            ap (λ (c : Bool). Some (docked_tally station b.1.type_id (is_fit b.1.state && not c))) (same station dock (record { bike = b; read_is = q; of_rest = e; of_bikes = f; place_is = r }))
         placed (place.Rental rental) r = refl
         placed (place.Truck truck order) r = refl
         placed place.Depot r = refl
@@ -341,14 +346,16 @@ module _ (is_broken : List ℕ → ℕ → Bool) where
             by (Some d) q = ((lines y (inl refl)).dock_at d f q).1
 
   -- the line's own question
-  asked : (m : Marks) (x : Row) (xs : List Row) → AreLines (x ∷ xs) → Rises (by_key_total 5) (x ∷ xs) → IsMarked m (x ∷ xs) → (station : List ℕ) (dock : ℕ) → Asks x station dock → has_mark m station dock ≡ is_broken station dock
+  asked : (m : Marks) (x : Row) (xs : List Row) → AreLines (x ∷ xs) → Rises (by_key_total 5) (x ∷ xs) → IsMarked m (x ∷ xs) → (station : List ℕ) (dock : ℕ) → Asks x station dock
+      → has_mark m station dock ≡ is_broken station dock
   asked m x xs lines up known station dock asks =
       let at = (lines x (inl refl)).asks_at station dock asks in
       let none = none_later x station dock (lines x (inl refl)) at.0 at.1 xs (λ y h. lines y (inr h)) (λ y h. all_has (λ z. by_key 5 x z ≡ Less) xs y up.0 h) in
       let own : marks station dock x ≡ false = ap (λ (v : Value). is_place 0 v && says_broken station dock (dock_read (part 5 3 x))) at.1 in
       sym (known x (inl refl) station dock asks ∙ ap₂ (λ (p q : Bool). has_mark m station dock || (p || q)) own none ∙ or_false (has_mark m station dock))
 
-  still_marked : (m : Marks) (x : Row) (xs : List Row) → AreLines (x ∷ xs) → Rises (by_key_total 5) (x ∷ xs) → length m.broken ≡ PLACES → IsReached m (x ∷ xs) → IsMarked m (x ∷ xs) → IsMarked (marks_after m x) xs
+  still_marked : (m : Marks) (x : Row) (xs : List Row) → AreLines (x ∷ xs) → Rises (by_key_total 5) (x ∷ xs) → length m.broken ≡ PLACES → IsReached m (x ∷ xs) → IsMarked m (x ∷ xs)
+      → IsMarked (marks_after m x) xs
   still_marked m x xs lines up long reached known y h station dock asks =
       known y (inr h) station dock asks ∙ sym (or_assoc (has_mark m station dock) (marks station dock x) (list_any (marks station dock) xs))
       ∙ ap (λ (c : Bool). c || list_any (marks station dock) xs) (sym step)
@@ -370,7 +377,8 @@ module _ (is_broken : List ℕ → ℕ → Bool) where
   run_is [] m last lines up long reached known = refl
   run_is (x ∷ xs) m last lines up long reached known =
       ap (λ (o : Option Tally). first_of (found_of last o) (run (marks_after m x) (next_of last o) xs)) (same_tally (has_mark m) is_broken x (asked m x xs lines up known))
-      ∙ go (tally_in is_broken x) (λ other. run_is xs (marks_after m x) other (λ y h. lines y (inr h)) up.1 (marks_length m x (lines x (inl refl)) long) (still_reached m x xs lines up reached) (still_marked m x xs lines up long reached known))
+      ∙ go (tally_in is_broken x) (λ other. run_is xs (marks_after m x) other (λ y h. lines y (inr h)) up.1 (marks_length m x (lines x (inl refl)) long) (still_reached m x xs lines up reached)
+      (still_marked m x xs lines up long reached known))
     where
       go : (o : Option Tally) → ((other : Option Tally) → run (marks_after m x) other xs ≡ first_uneven other (filter_map (tally_in is_broken) xs))
           → first_of (found_of last o) (run (marks_after m x) (next_of last o) xs) ≡ first_uneven last (cons_option o (filter_map (tally_in is_broken) xs))

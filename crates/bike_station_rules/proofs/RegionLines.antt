@@ -8,7 +8,7 @@ use Rattle.sqlite_value.specs.declared.value.Value.TheVariants.{Text}
 use Rattle.sqlite_value.specs.Order.{Row, column}
 use Rattle.sqlite.specs.Values.{or_null}
 use Rattle.sqlite_rules.specs.Lists.{Has}
-use Rattle.bike_rows.specs.View.{row_with, partner}
+use Rattle.bike_sql.specs.View.{row_with, partner}
 use Rattle.bike_operator.specs.Rows.{RegionRow}
 use Rattle.bike_operator.specs.Operator.{Station}
 use Rattle.bike_operator.specs.View.{has_region as has_region_in}
@@ -41,7 +41,8 @@ module _ (t : Tables) (up : AreInOrder t) (wide : AreWide t) where
   own_part row has = take_front stations.COLUMNS row (or_nulls regions.COLUMNS (partner 1 (column row 11 ∷ []) t.regions)) (wide Stations row has)
 
   region_part : (row : Row) (p : Option Row) → Has t.stations row → part stations.COLUMNS regions.COLUMNS (with_one regions.COLUMNS row p) ≡ take regions.COLUMNS (or_nulls regions.COLUMNS p)
-  region_part row p has = ap (λ (n : ℕ). take regions.COLUMNS (drop n (row ++ or_nulls regions.COLUMNS p))) (sym (wide Stations row has)) ∙ ap (take regions.COLUMNS) (drop-append_seam row (or_nulls regions.COLUMNS p))
+  region_part row p has =
+      ap (λ (n : ℕ). take regions.COLUMNS (drop n (row ++ or_nulls regions.COLUMNS p))) (sym (wide Stations row has)) ∙ ap (take regions.COLUMNS) (drop-append_seam row (or_nulls regions.COLUMNS p))
 
   -- a line begins with the key of its row
   pub station_key : (row : Row) → Has t.stations row → take 1 (with_region t row) ≡ take 1 row

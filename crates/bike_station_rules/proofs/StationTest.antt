@@ -1,5 +1,6 @@
 -- The account of a station with all lines of docks and bicycles says what is demanded of its numbers.
-use Rattle.std.proofs.Common.{◌≡◌, inl, inr, ℕ, ◌-◌, ℤ, pos, List, [], ◌∷◌, ◌++◌, length, map, fold, Bool, true, false, cond, not, ◌&&◌, ◌||◌, ◌==◌, Option, Some, None, is_none, find, refl, sym, ap, ◌∙◌}
+use Rattle.std.proofs.Common.{◌≡◌, inl, inr, ℕ, ◌-◌, ℤ, pos, List, [], ◌∷◌, ◌++◌, length, map, fold, Bool, true, false, cond, not, ◌&&◌, ◌||◌, ◌==◌, Option, Some, None, is_none, find, refl, sym, ap}
+use Rattle.std.proofs.Common.{◌∙◌}
 use Rattle.std.specs.Prelude.{take, replicate, option_and_then}
 use Rattle.std.specs.List.{filter_map, list_any}
 use Rattle.std.specs.Option.{IsSomeAnd}
@@ -76,7 +77,8 @@ none_of_owner station x n said none = ap (λ (o : Option ℕ). is_bit n (of_owne
 -- a key of a dock
 key_test : (id at : List ℕ) (n m : ℕ) → is_bit n (cond (bytes_eq at id) (Some m) None) ≡ eq_by_cmp texts_cmp (dock_key id n) (dock_key at m)
 key_test id at n m = go (bytes_eq at id) refl (m == n) refl (eq_by_cmp texts_cmp (dock_key id n) (dock_key at m)) refl where
-  go : (a : Bool) → bytes_eq at id ≡ a → (b : Bool) → (m == n) ≡ b → (c : Bool) → eq_by_cmp texts_cmp (dock_key id n) (dock_key at m) ≡ c → is_bit n (cond a (Some m) None) ≡ eq_by_cmp texts_cmp (dock_key id n) (dock_key at m)
+  go : (a : Bool) → bytes_eq at id ≡ a → (b : Bool) → (m == n) ≡ b → (c : Bool) → eq_by_cmp texts_cmp (dock_key id n) (dock_key at m) ≡ c
+      → is_bit n (cond a (Some m) None) ≡ eq_by_cmp texts_cmp (dock_key id n) (dock_key at m)
   go true ea true eb c ec =
       let same : at ≡ id = (bytes_eq-Decides at id).0 ea in
       let number : m ≡ n = elim (eqb_tells m n) [ inl is ↦ is.1 | inr other ↦ absurd (let no = other.0 in cc) ] in
@@ -102,22 +104,25 @@ module _ (id : List ℕ) (n : ℕ) where
 
   -- a row of docks says that the dock is broken
   dock_says : (r : Row) → length r ≡ docks.COLUMNS → says_broken id n (station_dock_line r) ≡ of_key (broken_in r)
-  dock_says r wide = ap (λ (x : Row). is_bit n (of_owner (Text id) (station_dock_line r) (broken_dock (dock_read x)))) (take_front docks.COLUMNS r (nulls (stations.COLUMNS - docks.COLUMNS)) wide) ∙ go (dock_read r) refl where
-    go : (o : Option (List ℕ × ℕ × Bool)) → dock_read r ≡ o → is_bit n (of_owner (Text id) (station_dock_line r) (broken_dock (dock_read r))) ≡ of_key (broken_in r)
-    go None e = none_of_owner (Text id) (station_dock_line r) n (broken_dock (dock_read r)) (ap broken_dock e) ∙ sym (ap (λ (q : Option (List ℕ × ℕ × Bool)). of_key (option_and_then key_of_broken q)) e)
-    go (Some d) e = by d.2 refl where
-      station : column r 0 ≡ Text d.0
-      station = ap (λ (x : Row). column x 0) (dock_reading.sound r d e).0
+  dock_says r wide =
+      ap (λ (x : Row). is_bit n (of_owner (Text id) (station_dock_line r) (broken_dock (dock_read x)))) (take_front docks.COLUMNS r (nulls (stations.COLUMNS - docks.COLUMNS)) wide)
+      ∙ go (dock_read r) refl where
+        go : (o : Option (List ℕ × ℕ × Bool)) → dock_read r ≡ o → is_bit n (of_owner (Text id) (station_dock_line r) (broken_dock (dock_read r))) ≡ of_key (broken_in r)
+        go None e =
+            none_of_owner (Text id) (station_dock_line r) n (broken_dock (dock_read r)) (ap broken_dock e) ∙ sym (ap (λ (q : Option (List ℕ × ℕ × Bool)). of_key (option_and_then key_of_broken q)) e)
+        go (Some d) e = by d.2 refl where
+          station : column r 0 ≡ Text d.0
+          station = ap (λ (x : Row). column x 0) (dock_reading.sound r d e).0
 
-      by : (b : Bool) → d.2 ≡ b → is_bit n (of_owner (Text id) (station_dock_line r) (broken_dock (dock_read r))) ≡ of_key (broken_in r)
-      by true t =
-          (λ i. is_bit n (cond (is_same_text (station i) (Text id)) (broken_dock (e i)) None))
-          ∙ ap (λ (b : Bool). is_bit n (cond (bytes_eq d.0 id) (cond b (Some d.1) None) None)) t
-          ∙ key_test id d.0 n d.1
-          ∙ sym (ap (λ (q : Option (List ℕ × ℕ × Bool)). of_key (option_and_then key_of_broken q)) e ∙ ap (λ (b : Bool). of_key (cond b (Some (dock_key d.0 d.1)) None)) t)
-      by false t =
-          none_of_owner (Text id) (station_dock_line r) n (broken_dock (dock_read r)) (ap broken_dock e ∙ ap (λ (b : Bool). cond b (Some d.1) None) t)
-          ∙ sym (ap (λ (q : Option (List ℕ × ℕ × Bool)). of_key (option_and_then key_of_broken q)) e ∙ ap (λ (b : Bool). of_key (cond b (Some (dock_key d.0 d.1)) None)) t)
+          by : (b : Bool) → d.2 ≡ b → is_bit n (of_owner (Text id) (station_dock_line r) (broken_dock (dock_read r))) ≡ of_key (broken_in r)
+          by true t =
+              (λ i. is_bit n (cond (is_same_text (station i) (Text id)) (broken_dock (e i)) None))
+              ∙ ap (λ (b : Bool). is_bit n (cond (bytes_eq d.0 id) (cond b (Some d.1) None) None)) t
+              ∙ key_test id d.0 n d.1
+              ∙ sym (ap (λ (q : Option (List ℕ × ℕ × Bool)). of_key (option_and_then key_of_broken q)) e ∙ ap (λ (b : Bool). of_key (cond b (Some (dock_key d.0 d.1)) None)) t)
+          by false t =
+              none_of_owner (Text id) (station_dock_line r) n (broken_dock (dock_read r)) (ap broken_dock e ∙ ap (λ (b : Bool). cond b (Some d.1) None) t)
+              ∙ sym (ap (λ (q : Option (List ℕ × ℕ × Bool)). of_key (option_and_then key_of_broken q)) e ∙ ap (λ (b : Bool). of_key (cond b (Some (dock_key d.0 d.1)) None)) t)
 
   abbrev is_in : ℕ × Bike → Bool
   is_in e = is_dock id n e.1.place
@@ -128,25 +133,26 @@ module _ (id : List ℕ) (n : ℕ) where
 
   -- a row of bicycles says that the dock holds one
   bike_says : (r : Row) → length r ≡ bikes.COLUMNS → says_taken id n (station_bike_line r) ≡ of_read is_in (bike_in r)
-  bike_says r wide = ap (λ (x : Row). is_bit n (of_owner (Text id) (station_bike_line r) (docked_in x))) (take_front bikes.COLUMNS r (nulls (stations.COLUMNS - bikes.COLUMNS)) wide) ∙ go (bike_in r) refl where
-    go : (o : Option (ℕ × Bike)) → bike_in r ≡ o → is_bit n (of_owner (Text id) (station_bike_line r) (docked_in r)) ≡ of_read is_in (bike_in r)
-    go None e =
-        none_of_owner (Text id) (station_bike_line r) n (docked_in r) (ap (λ (q : Option (ℕ × Bike)). option_and_then (λ (x : ℕ × Bike). dock_of x.1.place) q) e) ∙ sym (ap (of_read is_in) e)
-    go (Some x) e = by x.1.place refl ∙ sym (ap (of_read is_in) e) where
-      said : docked_in r ≡ dock_of x.1.place
-      said = ap (λ (q : Option (ℕ × Bike)). option_and_then (λ (y : ℕ × Bike). dock_of y.1.place) q) e
+  bike_says r wide =
+      ap (λ (x : Row). is_bit n (of_owner (Text id) (station_bike_line r) (docked_in x))) (take_front bikes.COLUMNS r (nulls (stations.COLUMNS - bikes.COLUMNS)) wide) ∙ go (bike_in r) refl where
+        go : (o : Option (ℕ × Bike)) → bike_in r ≡ o → is_bit n (of_owner (Text id) (station_bike_line r) (docked_in r)) ≡ of_read is_in (bike_in r)
+        go None e =
+            none_of_owner (Text id) (station_bike_line r) n (docked_in r) (ap (λ (q : Option (ℕ × Bike)). option_and_then (λ (x : ℕ × Bike). dock_of x.1.place) q) e) ∙ sym (ap (of_read is_in) e)
+        go (Some x) e = by x.1.place refl ∙ sym (ap (of_read is_in) e) where
+          said : docked_in r ≡ dock_of x.1.place
+          said = ap (λ (q : Option (ℕ × Bike)). option_and_then (λ (y : ℕ × Bike). dock_of y.1.place) q) e
 
-      elsewhere : (p : Place) → x.1.place ≡ p → dock_of p ≡ None → is_dock id n p ≡ false → is_bit n (of_owner (Text id) (station_bike_line r) (docked_in r)) ≡ is_in x
-      elsewhere p is none out = none_of_owner (Text id) (station_bike_line r) n (docked_in r) (said ∙ ap dock_of is ∙ none) ∙ sym (ap (is_dock id n) is ∙ out)
+          elsewhere : (p : Place) → x.1.place ≡ p → dock_of p ≡ None → is_dock id n p ≡ false → is_bit n (of_owner (Text id) (station_bike_line r) (docked_in r)) ≡ is_in x
+          elsewhere p is none out = none_of_owner (Text id) (station_bike_line r) n (docked_in r) (said ∙ ap dock_of is ∙ none) ∙ sym (ap (is_dock id n) is ∙ out)
 
-      by : (p : Place) → x.1.place ≡ p → is_bit n (of_owner (Text id) (station_bike_line r) (docked_in r)) ≡ is_in x
-      by (place.Dock at m) is =
-          let station : column r 3 ≡ Text at = ((row_is r).named x e).text_is at m is in
-          let dock : docked_in r ≡ Some m = said ∙ ap dock_of is in
-          (λ i. is_bit n (cond (is_same_text (station i) (Text id)) (dock i) None)) ∙ and_by (bytes_eq at id) (m == n) m refl ∙ sym (ap (is_dock id n) is)
-      by (place.Rental rental) is = elsewhere (place.Rental rental) is refl refl
-      by (place.Truck truck order) is = elsewhere (place.Truck truck order) is refl refl
-      by place.Depot is = elsewhere place.Depot is refl refl
+          by : (p : Place) → x.1.place ≡ p → is_bit n (of_owner (Text id) (station_bike_line r) (docked_in r)) ≡ is_in x
+          by (place.Dock at m) is =
+              let station : column r 3 ≡ Text at = ((row_is r).named x e).text_is at m is in
+              let dock : docked_in r ≡ Some m = said ∙ ap dock_of is in
+              (λ i. is_bit n (cond (is_same_text (station i) (Text id)) (dock i) None)) ∙ and_by (bytes_eq at id) (m == n) m refl ∙ sym (ap (is_dock id n) is)
+          by (place.Rental rental) is = elsewhere (place.Rental rental) is refl refl
+          by (place.Truck truck order) is = elsewhere (place.Truck truck order) is refl refl
+          by place.Depot is = elsewhere place.Depot is refl refl
 
 -- ---- the account of a station with all lines
 
@@ -164,7 +170,8 @@ module _ (t : Tables) (up : AreInOrder t) (wide : AreWide t) where
         let here : list_any (λ (r : Row). says_broken id n (station_dock_line r)) t.docks ≡ list_any (λ (r : Row). of_key id n (broken_in r)) t.docks =
         any_same (λ (r : Row). says_broken id n (station_dock_line r)) (λ (r : Row). of_key id n (broken_in r)) t.docks (λ r has. dock_says id n r (wide Docks r has)) in
         let bikes : list_any (says_broken id n) (map station_bike_line t.bikes) ≡ false =
-        any_map (says_broken id n) station_bike_line t.bikes ∙ any_none (λ (r : Row). says_broken id n (station_bike_line r)) t.bikes (λ r. none_of_owner (Text id) (station_bike_line r) n None refl) in
+        any_map (says_broken id n) station_bike_line t.bikes ∙ any_none (λ (r : Row). says_broken id n (station_bike_line r)) t.bikes
+        (λ r. none_of_owner (Text id) (station_bike_line r) n None refl) in
         broken_after all_items a n (ap (λ (xs : List Bool). length xs) none ∙ length-replicate PLACES false)
         ∙ (λ i. (has_bit (none i) n || list_any (said (own i)) all_items))
         ∙ ap (λ (b : Bool). b || list_any (says_broken id n) all_items) (none_set PLACES n)

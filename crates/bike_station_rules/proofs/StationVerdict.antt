@@ -7,7 +7,7 @@ use Rattle.std.proofs.lemmas.Bool.{and_parts, leb-true, le-leb}
 use Rattle.std.proofs.lemmas.Bool.Decides.{nat_tests}
 use Rattle.sqlite_value.specs.Order.{Row}
 use Rattle.sqlite_rules.specs.Lists.{Has}
-use Rattle.bike_rows.specs.View.{row_with}
+use Rattle.bike_sql.specs.View.{row_with}
 use Rattle.bike_operator.specs.declared.limits.TheConstants.{MOST_STATIONS}
 use Rattle.bike_operator.specs.Rows.{RegionRow}
 use Rattle.bike_operator.specs.Operator.{Station}
@@ -81,7 +81,8 @@ module _ (t : Tables) (up : AreInOrder t) (wide : AreWide t) (now : Option ℕ) 
       let parts = and_parts (is_good_row now t below row) (is_accounted t below row) is in
       go (station_read row) refl (sym (asked below row has) ∙ parts.0) (with_all_good t up wide row has below parts.1)
     where
-      go : (o : Option (List ℕ × Station × ℤ × ℕ)) → station_read row ≡ o → stands_well now below o (region_beside row) ≡ true → IsSomeAnd o (HasNumbers t up wide) → IsSomeAnd o (IsGoodStation (operator_of t) below)
+      go : (o : Option (List ℕ × Station × ℤ × ℕ)) → station_read row ≡ o → stands_well now below o (region_beside row) ≡ true → IsSomeAnd o (HasNumbers t up wide)
+          → IsSomeAnd o (IsGoodStation (operator_of t) below)
       go None e room numbers = absurd cc
       go (Some x) e room numbers =
           let law = (station_reading.sound row x e).1 in

@@ -14,11 +14,11 @@ use Rattle.sqlite_value.specs.declared.value.Value.TheVariants.{Text}
 use Rattle.sqlite_value.specs.Order.{Row, row_cmp}
 use Rattle.sqlite_value.proofs.OrderLemmas.{row_cmp_total}
 use Rattle.sqlite_rules.specs.Lists.{Has}
-use Rattle.bike_rows.specs.View.{by_key, row_with}
-use Rattle.bike_rows.specs.Keyed.{in_order}
-use Rattle.bike_rows.proofs.OrderLemmas.{Rises, all_has}
-use Rattle.bike_rows.proofs.TreeLemmas.{by_key_total}
-use Rattle.bike_rows.proofs.SortLemmas.{AreApartAll}
+use Rattle.bike_sql.specs.View.{by_key, row_with}
+use Rattle.bike_sql.specs.Keyed.{in_order}
+use Rattle.bike_sql.proofs.OrderLemmas.{Rises, all_has}
+use Rattle.bike_sql.proofs.TreeLemmas.{by_key_total}
+use Rattle.bike_sql.proofs.SortLemmas.{AreApartAll}
 use Rattle.bike_operator.specs.declared.records.Place.{Place}
 use Rattle.bike_operator.specs.declared.records.Place.TheVariants as place
 use Rattle.bike_operator.specs.declared.records.Bike.{Bike}
@@ -127,7 +127,8 @@ module _ (f : Tally → ℕ) (station type_id : List ℕ) where
       go (Some x) e =
           let equal : row_cmp (Text x.0 ∷ Text x.1 ∷ []) key ≡ Equal = ap (λ (k : Row). row_cmp k key) (sym (own_key r x e)) ∙ (Equal-is (row_cmp (take 2 r) key)).0 tie in
           let it = texts_tie x.0 x.1 station type_id equal in
-          ap (λ (b : Bool). cond b (f (record { station = x.0; type_id = x.1; stored_available = x.2; stored_disabled = x.3; available = 0; disabled = 0 })) 0) (texts_same x.0 x.1 station type_id it.0 it.1)
+          ap (λ (b : Bool). cond b (f (record { station = x.0; type_id = x.1; stored_available = x.2; stored_disabled = x.3; available = 0; disabled = 0 })) 0)
+          (texts_same x.0 x.1 station type_id it.0 it.1)
 
     all_away : (rows : List Row) → ((r : Row) → Has rows r → length r ≡ 4) → ((r : Row) → Has rows r → is_eq (row_cmp (take 2 r) key) ≡ false) → of_lines (map count_line rows) ≡ 0
     all_away [] wide other = refl
@@ -146,7 +147,8 @@ module _ (f : Tally → ℕ) (station type_id : List ℕ) where
       sums : of_lines (map count_line (r ∷ rows)) ≡ adds_some (tally_in g (count_line r)) + of_lines (map count_line rows)
       sums = total_cons (tally_in g (count_line r)) (filter_map (tally_in g) (map count_line rows))
 
-      go : (b : Bool) → is_eq (row_cmp (take 2 r) key) ≡ b → of_lines (map count_line rows) ≡ stored_in f (row_with 2 key rows) → of_lines (map count_line (r ∷ rows)) ≡ stored_in f (cond b (Some r) (row_with 2 key rows))
+      go : (b : Bool) → is_eq (row_cmp (take 2 r) key) ≡ b → of_lines (map count_line rows) ≡ stored_in f (row_with 2 key rows)
+          → of_lines (map count_line (r ∷ rows)) ≡ stored_in f (cond b (Some r) (row_with 2 key rows))
       go false e rest = let none = away r e in omega (arith, here, sums, none, rest)
       go true e rest =
           let none = all_away rows (λ x h. wide x (inr h)) (λ x h. later x h (is_eq (row_cmp (take 2 x) key)) refl) in
@@ -218,19 +220,24 @@ module _ (s : Operator) where
           disabled_table (bytes_eq at station) (bytes_eq b.type_id type_id) (is_fit b.state) (is_broken s at dock) (is_broken s station dock) (same_dock at dock)
           ∙ ap (λ (p : Place). one (is_disabled_of s station type_id (record { type_id = b.type_id; state = b.state; place = p }))) (sym e)
       go (place.Rental rental) e =
-          not_there (bytes_eq b.type_id type_id) (not (is_fit b.state && false)) ∙ ap (λ (p : Place). one (is_disabled_of s station type_id (record { type_id = b.type_id; state = b.state; place = p }))) (sym e)
+          not_there (bytes_eq b.type_id type_id) (not (is_fit b.state && false))
+          ∙ ap (λ (p : Place). one (is_disabled_of s station type_id (record { type_id = b.type_id; state = b.state; place = p }))) (sym e)
       go (place.Truck truck order) e =
-          not_there (bytes_eq b.type_id type_id) (not (is_fit b.state && false)) ∙ ap (λ (p : Place). one (is_disabled_of s station type_id (record { type_id = b.type_id; state = b.state; place = p }))) (sym e)
+          not_there (bytes_eq b.type_id type_id) (not (is_fit b.state && false))
+          ∙ ap (λ (p : Place). one (is_disabled_of s station type_id (record { type_id = b.type_id; state = b.state; place = p }))) (sym e)
       go place.Depot e =
-          not_there (bytes_eq b.type_id type_id) (not (is_fit b.state && false)) ∙ ap (λ (p : Place). one (is_disabled_of s station type_id (record { type_id = b.type_id; state = b.state; place = p }))) (sym e)
+          not_there (bytes_eq b.type_id type_id) (not (is_fit b.state && false))
+          ∙ ap (λ (p : Place). one (is_disabled_of s station type_id (record { type_id = b.type_id; state = b.state; place = p }))) (sym e)
 
     -- a bicycle stores no counts
-    pub none_stored : (f : Tally → ℕ) → ((at ty : List ℕ) (n m : ℕ) → f (record { station = at; type_id = ty; stored_available = 0; stored_disabled = 0; available = n; disabled = m }) ≡ 0) → (b : Bike)
+    pub none_stored : (f : Tally → ℕ) → ((at ty : List ℕ) (n m : ℕ) → f (record { station = at; type_id = ty; stored_available = 0; stored_disabled = 0; available = n; disabled = m }) ≡ 0)
+        → (b : Bike)
         → adds_some f station type_id (placed_tally broken b.type_id b.state b.place) ≡ 0
     none_stored f zero b = go b.place where
       go : (p : Place) → adds_some f station type_id (placed_tally broken b.type_id b.state p) ≡ 0
       go (place.Dock at dock) =
-          ap (λ (n : ℕ). cond (bytes_eq at station && bytes_eq b.type_id type_id) n 0) (zero at b.type_id (one (is_fit b.state && not (is_broken s at dock))) (one (not (is_fit b.state && not (is_broken s at dock)))))
+          ap (λ (n : ℕ). cond (bytes_eq at station && bytes_eq b.type_id type_id) n 0)
+          (zero at b.type_id (one (is_fit b.state && not (is_broken s at dock))) (one (not (is_fit b.state && not (is_broken s at dock)))))
           ∙ zero_adds (bytes_eq at station && bytes_eq b.type_id type_id)
       go (place.Rental rental) = refl
       go (place.Truck truck order) = refl
@@ -253,7 +260,8 @@ module _ (s : Operator) where
           omega (arith, rest, a, b, c, d)
 
     module _ (f : Tally → ℕ) (zero : (b : Bike) → adds_some f station type_id (placed_tally broken b.type_id b.state b.place) ≡ 0) where
-      pub bikes_store_none : (rows : List Row) → ((r : Row) → Has rows r → IsStored bike_read stored_bike r) → ((r : Row) → Has rows r → length r ≡ 8) → of_lines f station type_id broken (map count_bike_line rows) ≡ 0
+      pub bikes_store_none : (rows : List Row) → ((r : Row) → Has rows r → IsStored bike_read stored_bike r) → ((r : Row) → Has rows r → length r ≡ 8)
+          → of_lines f station type_id broken (map count_bike_line rows) ≡ 0
       bikes_store_none [] stored wide = refl
       bikes_store_none (r ∷ rows) stored wide =
           let it = stored r (inl refl) in

@@ -7,12 +7,12 @@ use Rattle.sqlite_schema.specs.Names.{place_of}
 use Rattle.sqlite_schema.specs.declared.schema.Table.{Table}
 use Rattle.sqlite_rules.specs.Lists.{Has}
 use Rattle.sqlite.specs.Effect.{Database}
-use Rattle.bike_rows.specs.View.{columns_of}
-use Rattle.bike_rows.specs.Layout.{table_of}
-use Rattle.bike_rows.proofs.FrameLemmas.{rows_of_is}
-use Rattle.bike_rows.proofs.OrderLemmas.{order_has}
-use Rattle.bike_rows.proofs.TreeLemmas.{by_key_total}
-use Rattle.bike_rows.proofs.ListLemmas.{map_has}
+use Rattle.bike_sql.specs.View.{columns_of}
+use Rattle.bike_sql.specs.Layout.{table_of}
+use Rattle.bike_sql.proofs.FrameLemmas.{rows_of_is}
+use Rattle.bike_sql.proofs.OrderLemmas.{order_has}
+use Rattle.bike_sql.proofs.TreeLemmas.{by_key_total}
+use Rattle.bike_sql.proofs.RowListLemmas.{map_has}
 use Rattle.bike_book.specs.Tables.{TableName, rows_in, keys_of}
 use Rattle.bike_schema.specs.Layouts.{layout_of, layout_in}
 use Rattle.bike_schema.specs.Tables.{tables_of, HasTables}

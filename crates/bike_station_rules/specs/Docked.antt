@@ -1,5 +1,6 @@
 -- Bicycles in docks, of whatever rows: the dock that a row names first.
-use Rattle.std.specs.Prelude.{ℕ, ◌+◌, Bool, ◌&&◌, nat_le, length, if◌then◌else◌, Option, Some, None, is_some, option_and_then}
+use Rattle.std.specs.Prelude.{ℕ, ◌+◌, Bool, ◌&&◌, nat_le, length, if◌then◌else◌, Option, Some, None, is_some}
+use Rattle.std.specs.Prelude.{option_and_then}
 use Rattle.sqlite_value.specs.declared.value.Value.{Value}
 use Rattle.sqlite_value.specs.Order.{Row, column}
 use Rattle.bike_operator.specs.declared.records.Bike.{Bike}
@@ -25,11 +26,13 @@ docked_in row = option_and_then (λ (e : ℕ × Bike). dock_of e.1.place) (bike_
 
 -- each of the columns of a rental, a truck and an order is NULL or keeps its bounds
 abbrev pub keep_bounds : Value → Value → Value → Bool
-keep_bounds rental truck order = is_some (or_none serial_in rental) && (is_some (or_none numbered_in truck) && is_some (or_none serial_in order))
+keep_bounds rental truck order =
+    is_some (or_none serial_in rental) && (is_some (or_none numbered_in truck) && is_some (or_none serial_in order))
 
 -- the dock that the columns of a place name first
 abbrev pub dock_named : Value → Value → Value → Value → Value → Option ℕ
-dock_named station dock rental truck order = if is_some (ident_in station) && keep_bounds rental truck order then dock_in dock else None
+dock_named station dock rental truck order =
+    if is_some (ident_in station) && keep_bounds rental truck order then dock_in dock else None
 
 -- the dock that the bicycle is in of the columns of a line from the fourth on
 abbrev pub docked_columns : Row → Option ℕ

@@ -15,4 +15,5 @@ has_dock None station = false
 
 -- the dock is one of its station's
 abbrev pub is_good_dock : Row → Bool
-is_good_dock line = has_dock (dock_read (part 0 docks.COLUMNS line)) (station_read (part docks.COLUMNS stations.COLUMNS line))
+is_good_dock line =
+    has_dock (dock_read (part 0 docks.COLUMNS line)) (station_read (part docks.COLUMNS stations.COLUMNS line))

@@ -11,4 +11,5 @@ use Rattle.bike_judges.specs.Lines.{part}
 abbrev pub is_named : Row → Bool
 is_named line =
     is_some (count_read (part 0 counts.COLUMNS line))
-    && (is_some (station_read (part counts.COLUMNS stations.COLUMNS line)) && is_some (type_read (part (counts.COLUMNS + stations.COLUMNS) types.COLUMNS line)))
+    && (is_some (station_read (part counts.COLUMNS stations.COLUMNS line))
+    && is_some (type_read (part (counts.COLUMNS + stations.COLUMNS) types.COLUMNS line)))

@@ -21,9 +21,11 @@ has_region (Some id) region = is_some region
 
 abbrev pub stands_well : Option ℕ → ℕ → Option (List ℕ × Station × ℤ × ℕ) → Option (List ℕ × RegionRow) → Bool
 stands_well now before None region = false
-stands_well now before (Some e) region = (nat_lt before MOST_STATIONS && is_by now e.1.reported) && has_region e.1.region region
+stands_well now before (Some e) region =
+    (nat_lt before MOST_STATIONS && is_by now e.1.reported) && has_region e.1.region region
 
 -- a line has a station's row and that of its region
 abbrev pub is_good_station : Option ℕ → ℕ → Row → Bool
 is_good_station now before line =
-    stands_well now before (station_read (part 0 stations.COLUMNS line)) (region_read (part stations.COLUMNS regions.COLUMNS line))
+    stands_well now before (station_read (part 0 stations.COLUMNS line))
+    (region_read (part stations.COLUMNS regions.COLUMNS line))

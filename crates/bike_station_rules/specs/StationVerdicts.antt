@@ -2,7 +2,7 @@
 use Rattle.std.specs.Prelude.{ℕ, [], ◌∷◌, ◌++◌, map, take, Bool, Option, option_map, option_and_then}
 use Rattle.sqlite_value.specs.Order.{Row, column}
 use Rattle.sqlite.specs.Effect.{Database}
-use Rattle.bike_rows.specs.View.{row_with, partner}
+use Rattle.bike_sql.specs.View.{row_with, partner}
 use Rattle.bike_book.specs.Tables.{Tables, Stations}
 use Rattle.bike_book.specs.Rows.{number_value}
 use Rattle.bike_book.specs.declared.columns.regions.TheConstants as regions
@@ -32,12 +32,18 @@ is_good_row now t n row = is_good_station now n (with_region t row)
 
 -- the first station whose row isn't good, where it is now that moment
 abbrev pub FindsByRow : Option ℕ → Database → Option BadKey → Type 0
-FindsByRow now db found = IsFirstFailing (tables_of db) Stations (Demands (tables_of db) Stations (is_good_row now (tables_of db))) (option_map key_row found)
+FindsByRow now db found =
+    IsFirstFailing (tables_of db) Stations (Demands (tables_of db) Stations (is_good_row now (tables_of db)))
+    (option_map key_row found)
 
 -- the station's account with the lines of all docks and bicycles is good, where so many stations have lesser keys
 abbrev pub is_accounted : Tables → ℕ → Row → Bool
-is_accounted t n row = is_good_with begins more good key (take 1) (map station_dock_line t.docks ++ map station_bike_line t.bikes) n (begins (station_line row))
+is_accounted t n row =
+    is_good_with begins more good key (take 1) (map station_dock_line t.docks ++ map station_bike_line t.bikes) n
+    (begins (station_line row))
 
 -- the first station whose numbers aren't those of its docks and bicycles
 abbrev pub FindsByNumber : Database → Option BadKey → Type 0
-FindsByNumber db found = IsFirstFailing (tables_of db) Stations (Demands (tables_of db) Stations (is_accounted (tables_of db))) (option_map key_row found)
+FindsByNumber db found =
+    IsFirstFailing (tables_of db) Stations (Demands (tables_of db) Stations (is_accounted (tables_of db)))
+    (option_map key_row found)

@@ -1,5 +1,6 @@
 -- The account of a station: which of its docks are broken, and which hold a bicycle.
-use Rattle.std.specs.Prelude.{ℕ, ℤ, pos, List, [], ◌∷◌, Bool, false, ◌&&◌, ◌==◌, if◌then◌else◌, replicate, Option, Some, None}
+use Rattle.std.specs.Prelude.{ℕ, ℤ, pos, List, [], ◌∷◌, Bool, false, ◌&&◌, ◌==◌, if◌then◌else◌, replicate, Option, Some}
+use Rattle.std.specs.Prelude.{None}
 use Rattle.std.specs.Ordering.{int_eq}
 use Rattle.std.specs.Str.{bytes_eq}
 use Rattle.sqlite_value.specs.declared.value.Value.{Value}
@@ -46,10 +47,18 @@ taken_at line = if is_place 2 (column line 1) then docked_in (part 3 bikes.COLUM
 abbrev pub station_opening : Row → Option (List ℕ × Station × ℤ × ℕ) → Opening StationAccount
 station_opening line None = Unread
 station_opening line (Some e) =
-    Head (record { head = line; docks = e.1.row.docks; free = e.2; broken = e.3; is_broken = replicate PLACES false; is_taken = replicate PLACES false })
+    Head (record {
+      head = line;
+      docks = e.1.row.docks;
+      free = e.2;
+      broken = e.3;
+      is_broken = replicate PLACES false;
+      is_taken = replicate PLACES false;
+    })
 
 abbrev pub begins : Row → Opening StationAccount
-begins line = if is_place 0 (column line 1) then station_opening line (station_read (part 3 stations.COLUMNS line)) else Item
+begins line =
+    if is_place 0 (column line 1) then station_opening line (station_read (part 3 stations.COLUMNS line)) else Item
 
 abbrev pub owner : StationAccount → Value
 owner a = column a.head 0
@@ -66,7 +75,8 @@ more a line = record a {
 
 -- the numbers that are stored are those of its docks
 abbrev pub good : ℕ → StationAccount → Bool
-good before a = int_eq a.free (pos (many_in_neither a.is_taken a.is_broken a.docks)) && (a.broken == many_in a.is_broken a.docks)
+good before a =
+    int_eq a.free (pos (many_in_neither a.is_taken a.is_broken a.docks)) && (a.broken == many_in a.is_broken a.docks)
 
 abbrev pub key : StationAccount → Row
 key a = owner a ∷ []

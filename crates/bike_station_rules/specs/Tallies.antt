@@ -1,5 +1,6 @@
 -- The counts of stations by their lines: the broken docks of a station are kept, and what came of one type there.
-use Rattle.std.specs.Prelude.{ℕ, pos, ◌+◌, ◌==◌, ◌&&◌, not, List, [], ◌∷◌, Bool, true, false, if◌then◌else◌, get_or, slice_set, replicate, Option, Some, None}
+use Rattle.std.specs.Prelude.{ℕ, pos, ◌+◌, ◌==◌, ◌&&◌, not, List, [], ◌∷◌, Bool, true, false, if◌then◌else◌, get_or}
+use Rattle.std.specs.Prelude.{slice_set, replicate, Option, Some, None}
 use Rattle.std.specs.Ordering.{int_eq}
 use Rattle.std.specs.Str.{bytes_eq}
 use Rattle.sqlite_value.specs.declared.value.Value.{Value}
@@ -65,16 +66,32 @@ marks_after m line = if is_place 0 (column line 1) then marked_by m (dock_read (
 
 abbrev pub count_tally : Option (List ℕ × List ℕ × ℕ × ℕ) → Option Tally
 count_tally None = None
-count_tally (Some e) = Some (record { station = e.0; type_id = e.1; stored_available = e.2; stored_disabled = e.3; available = 0; disabled = 0 })
+count_tally (Some e) =
+    Some (record {
+      station = e.0;
+      type_id = e.1;
+      stored_available = e.2;
+      stored_disabled = e.3;
+      available = 0;
+      disabled = 0;
+    })
 
 -- a bicycle in a dock, which can be rented or can't
 abbrev pub docked_tally : List ℕ → List ℕ → Bool → Tally
 docked_tally station type_id can_be_rented =
-    record { station = station; type_id = type_id; stored_available = 0; stored_disabled = 0; available = one can_be_rented; disabled = one (not can_be_rented) }
+    record {
+      station = station;
+      type_id = type_id;
+      stored_available = 0;
+      stored_disabled = 0;
+      available = one can_be_rented;
+      disabled = one (not can_be_rented);
+    }
 
 module _ (is_broken : List ℕ → ℕ → Bool) where
   abbrev pub placed_tally : List ℕ → BikeState → Place → Option Tally
-  placed_tally type_id state (place.Dock station dock) = Some (docked_tally station type_id (is_fit state && not (is_broken station dock)))
+  placed_tally type_id state (place.Dock station dock) =
+      Some (docked_tally station type_id (is_fit state && not (is_broken station dock)))
   placed_tally type_id state (place.Rental rental) = None
   placed_tally type_id state (place.Truck truck order) = None
   placed_tally type_id state place.Depot = None
@@ -136,4 +153,6 @@ first_uneven last (b ∷ bs) = first_of (found_of last (Some b)) (first_uneven (
 -- THE PASS
 unfoldable pub run : Marks → Option Tally → List Row → Option Row
 run m last [] = bad_key last
-run m last (x ∷ xs) = first_of (found_of last (tally_in (has_mark m) x)) (run (marks_after m x) (next_of last (tally_in (has_mark m) x)) xs)
+run m last (x ∷ xs) =
+    first_of (found_of last (tally_in (has_mark m) x))
+    (run (marks_after m x) (next_of last (tally_in (has_mark m) x)) xs)

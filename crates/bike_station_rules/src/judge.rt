@@ -2,7 +2,7 @@
 
 ghost use Rattle.std.specs.Prelude.{◌≡◌};
 ghost use Rattle.bike_book.specs.Tables.{Docks, Stations};
-ghost use Rattle.bike_rows.specs.Calls.{ReadsWhere};
+ghost use Rattle.bike_sql.specs.Calls.{ReadsWhere};
 ghost use Rattle.bike_schema.specs.Tables.{IsOurs, tables_of};
 ghost use Rattle.bike_judges.specs.Verdicts.{JudgesTable};
 ghost use Rattle.bike_station_rules.specs.StationVerdicts.{meta_in, now_in, FindsByRow, FindsByNumber};
@@ -13,8 +13,8 @@ use crate::station_rows::StationTest;
 use bike_fixed::Moment;
 use bike_judges::{BadKey, LineJudge, Query, StretchJudge, judge_lines, least};
 use bike_readings::{Part, read_meta};
-use bike_rows::lookup::first_row;
 use bike_schema::StatementFault;
+use bike_sql::lookup::first_row;
 use sqlite::{Alter, Connection, Row, params};
 
 /// The first bad key of `docks`, where all tables before it are good. The database stays as it was. `NoMemory` where

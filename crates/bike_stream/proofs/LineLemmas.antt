@@ -41,7 +41,8 @@ lines_open (b ∷ c ∷ last) free some = elim (eqb_tells b 10) [
 pub lines_joined : (lines : List (List ℕ)) (rest : List ℕ) → All IsFree lines → lines_of (lines_text lines ++ rest) ≡ lines ++ lines_of rest
 lines_joined [] rest free = refl
 lines_joined (line ∷ lines) rest free =
-    ap lines_of (append_assoc line (10 ∷ lines_text lines) rest) ∙ (lines_ended line (lines_text lines ++ rest) (free 0 [] (omega arith)) ∙ ap (λ ls. line ∷ ls) (lines_joined lines rest (λ k d within. free (suc k) d (omega arith))))
+    ap lines_of (append_assoc line (10 ∷ lines_text lines) rest) ∙ (lines_ended line (lines_text lines ++ rest) (free 0 [] (omega arith))
+    ∙ ap (λ ls. line ∷ ls) (lines_joined lines rest (λ k d within. free (suc k) d (omega arith))))
 
 pub lines_all : (lines : List (List ℕ)) → All IsFree lines → lines_of (lines_text lines) ≡ lines
 lines_all lines free = let e : lines_of (lines_text lines ++ []) ≡ lines ++ [] = lines_joined lines [] free in rw (append-nil, append-nil) at e

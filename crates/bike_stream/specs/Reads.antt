@@ -1,5 +1,6 @@
 -- How many reads the taking of a line makes, and what they give.
-use Rattle.std.specs.Prelude.{ℕ, ◌+◌, ◌*◌, ◌≤◌, Bool, List, [], ◌∷◌, ◌++◌, length, ⊤, Option, None, Some, Result, Ok, Err}
+use Rattle.std.specs.Prelude.{ℕ, ◌+◌, ◌*◌, ◌≤◌, Bool, List, [], ◌∷◌, ◌++◌, length, ⊤, Option, None, Some, Result, Ok}
+use Rattle.std.specs.Prelude.{Err}
 use Rattle.bike_stream.specs.declared.buffer.ReadFault.{ReadFault}
 use Rattle.bike_stream.specs.declared.buffer.ReadFault.TheVariants.{Failed, TooMany}
 use Rattle.bike_stream.specs.declared.buffer.TheConstants.{READ_LENGTH}
@@ -19,4 +20,5 @@ idle_reads (Err TooMany) ahead = 0
 abbrev pub ReadsBytes : Option (List ℕ) → Option (List ℕ) → List ℕ → ℕ → ℕ → Result Bool ReadFault → Type 0
 ReadsBytes None new held before after result = ⊤
 ReadsBytes (Some text) None held before after result = ⊥
-ReadsBytes (Some text) (Some left) held before after result = before + length left ≤ after + length text + idle_reads result (held ++ left)
+ReadsBytes (Some text) (Some left) held before after result =
+    before + length left ≤ after + length text + idle_reads result (held ++ left)

@@ -5,7 +5,8 @@ use Rattle.bike_stream.specs.Lines.{first_line, IsFree}
 
 -- the first line was taken off a text, and its first bytes were kept; or the text is empty
 abbrev pub TakesLine : ℕ → List ℕ → List ℕ → Bool → List ℕ → Type 0
-TakesLine most text rest true line = (0 < length text) × (line ≡ take most (first_line text)) × (rest ≡ drop_through 10 text)
+TakesLine most text rest true line =
+    (0 < length text) × (line ≡ take most (first_line text)) × (rest ≡ drop_through 10 text)
 TakesLine most text rest false line = (text ≡ []) × (rest ≡ [])
 
 -- the same, where the bytes are known
@@ -21,7 +22,8 @@ has_byte (b ∷ bytes) = true
 
 -- a front of the first line was taken, and its first bytes were kept; whether any was taken
 abbrev pub IsTaking : ℕ → List ℕ → Bool → List ℕ → List ℕ → Type 0
-IsTaking most text some rest line = (front : List ℕ) × (text ≡ front ++ rest) × IsFree front × (line ≡ take most front) × (some ≡ has_byte front)
+IsTaking most text some rest line =
+    (front : List ℕ) × (text ≡ front ++ rest) × IsFree front × (line ≡ take most front) × (some ≡ has_byte front)
 
 -- the same, where the bytes are known
 abbrev pub Taking : ℕ → Option (List ℕ) → Bool → Option (List ℕ) → List ℕ → Type 0

@@ -1,5 +1,6 @@
 -- Reading a chain of fields: what is read is spelled by the parts, and what the parts spell is read.
-use Rattle.std.proofs.Common.{◌≡◌, ℕ, ℤ, pos, negsuc, neg_ℤ, ◌≤ℤ◌, ◌≤◌, ◌<◌, ◌^◌, List, [], ◌∷◌, ◌++◌, ◌&&◌, Bool, true, false, cond, leb, FitsSigned, Option, Some, None, refl, sym, ap, ◌∙◌, subst, lit<, arith, append_assoc, codes}
+use Rattle.std.proofs.Common.{◌≡◌, ℕ, ℤ, pos, negsuc, neg_ℤ, ◌≤ℤ◌, ◌≤◌, ◌<◌, ◌^◌, List, [], ◌∷◌, ◌++◌, ◌&&◌, Bool, true, false, cond, leb, FitsSigned, Option, Some, None, refl, sym, ap, ◌∙◌, subst}
+use Rattle.std.proofs.Common.{lit<, arith, append_assoc, codes}
 use Rattle.std.specs.Prelude.{int_le}
 use Rattle.std.specs.Int.{w64}
 use Rattle.std.specs.Str.{bytes_eq}
@@ -32,7 +33,8 @@ use Rattle.bike_texts.specs.declared.ends.OrderEnd.TheVariants.{Depot, Station}
 use Rattle.bike_texts.specs.declared.ends.Side.{Side}
 use Rattle.bike_texts.specs.declared.ends.Side.TheVariants.{From, To}
 use Rattle.bike_texts.specs.Parts.{Parts}
-use Rattle.bike_texts.specs.Fields.{Field, Number, Signed, Fixed, Id, Language, Currency, Name, Ascii, Degrees, Metres, Segments, End, IsEnd, end_text, IsGood, Spells, HasNoTab, Choice, IdOrNone, side_text}
+use Rattle.bike_texts.specs.Fields.{Field, Number, Signed, Fixed, Id, Language, Currency, Name, Ascii, Degrees, Metres, Segments, End, IsEnd, end_text, IsGood, Spells, HasNoTab, Choice, IdOrNone}
+use Rattle.bike_texts.specs.Fields.{side_text}
 use Rattle.bike_texts.specs.Reading.{◌>>=◌, field_at, no_more, exactly, degrees_of, metres_of, choice_of, side_of, end_of, ident_or_none_of}
 use Rattle.bike_texts.specs.Escapes.{name_at, ascii_at}
 use Rattle.bike_texts.specs.SegmentReading.{segments_of}
@@ -172,7 +174,8 @@ ascii_reader = record { sound = ascii_sound; full = λ text a e g. ap ascii_at e
 
 -- ---- words
 
-choice_sound : (word other : List ℕ) → HasNoTab word → HasNoTab other → (text : List ℕ) (b : Bool) → choice_of word other text ≡ Some b → Spells (Choice word other b) text × IsGood (Choice word other b)
+choice_sound : (word other : List ℕ) → HasNoTab word → HasNoTab other → (text : List ℕ) (b : Bool) → choice_of word other text ≡ Some b
+    → Spells (Choice word other b) text × IsGood (Choice word other b)
 unfolding choice_of
 choice_sound word other free others text b e =
     pick e (λ is e. subst (λ (x : Bool). Spells (Choice word other x) text × IsGood (Choice word other x)) (same_Some true b e) (is, free)) (λ e.
@@ -201,7 +204,8 @@ propulsion_no_tab Human = refl
 propulsion_no_tab ElectricAssist = refl
 
 pub propulsion_reader : IsReader propulsion_of (λ propulsion. Fixed (propulsion_text propulsion))
-propulsion_reader = record { sound = λ text propulsion e. (propulsion_sound text propulsion e, propulsion_no_tab propulsion); full = λ text propulsion e g. ap propulsion_of e ∙ propulsion_full propulsion }
+propulsion_reader =
+    record { sound = λ text propulsion e. (propulsion_sound text propulsion e, propulsion_no_tab propulsion); full = λ text propulsion e g. ap propulsion_of e ∙ propulsion_full propulsion }
 
 kind_no_tab : (kind : NameKind) → HasNoTab (kind_text kind)
 kind_no_tab kind.System = refl
@@ -299,11 +303,23 @@ module _ {B : Type 0} {word_of : B → List ℕ} {fields_of : B → List Field} 
       let here : next (a, ps) ≡ Some value = ap next (same_Some (a, ps) x s) ∙ second in
       let got = reader.sound p a r in
       let t = k a ps here in
-      record { word_is = t.word_is; fields = field a ∷ t.fields; whole = t.whole ∙ append_assoc front (field a ∷ []) t.fields; read = record { each = (got.0, t.read.each); good = (got.1, t.read.good) } }))
+      record {
+        word_is = t.word_is;
+        fields = field a ∷ t.fields;
+        whole = t.whole ∙ append_assoc front (field a ∷ []) t.fields;
+        read = record { each = (got.0, t.read.each); good = (got.1, t.read.good) };
+      }))
 
   -- all fields were read
-  pub ends : {word : List ℕ} {front : List Field} {value : B} (made : B) (ps : Parts) → word ≡ word_of made → fields_of made ≡ front → (no_more ps >>= λ u. Some made) ≡ Some value → Rest word_of fields_of word value front ps
-  ends {front = front} {value = value} made [] w f e = record { word_is = w ∙ ap word_of (same_Some made value e); fields = []; whole = ap fields_of (sym (same_Some made value e)) ∙ f ∙ sym (append-nil front); read = record { each = tt; good = tt } }
+  pub ends : {word : List ℕ} {front : List Field} {value : B} (made : B) (ps : Parts) → word ≡ word_of made → fields_of made ≡ front → (no_more ps >>= λ u. Some made) ≡ Some value
+      → Rest word_of fields_of word value front ps
+  ends {front = front} {value = value} made [] w f e =
+      record {
+        word_is = w ∙ ap word_of (same_Some made value e);
+        fields = [];
+        whole = ap fields_of (sym (same_Some made value e)) ∙ f ∙ sym (append-nil front);
+        read = record { each = tt; good = tt };
+      }
   ends made (p ∷ ps) w f e = absurd cc
 
 -- a part that spells the next field is read

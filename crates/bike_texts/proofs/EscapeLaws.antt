@@ -80,7 +80,8 @@ unescape_sound false (c ∷ bs) a h = go (λ e x k. unescape_sound e bs x k) (eq
       let o = onto_parts (Some c) (unescape_behind false bs) a n in
       let r = again false o.bytes o.others_are in
       let same : c ≡ o.byte = same_Some c o.byte o.first_is in
-      subst (λ (x : List ℕ). c ∷ bs ≡ escapes_of x) (ap (λ (x : ℕ). x ∷ o.bytes) same ∙ o.whole) (ap (λ (x : List ℕ). c ∷ x) r ∙ ap (λ (x : List ℕ). x ++ escapes_of o.bytes) (sym (plain_escape c w.0 i)) ∙ sym (escaped_first c o.bytes))
+      subst (λ (x : List ℕ). c ∷ bs ≡ escapes_of x) (ap (λ (x : ℕ). x ∷ o.bytes) same ∙ o.whole)
+      (ap (λ (x : List ℕ). c ∷ x) r ∙ ap (λ (x : List ℕ). x ++ escapes_of o.bytes) (sym (plain_escape c w.0 i)) ∙ sym (escaped_first c o.bytes))
 
 escape_undone : (b : ℕ) (rest : List ℕ) → unescape_behind false (escape b ++ rest) ≡ onto (Some b) (unescape_behind false rest)
 escape_undone b rest = go (eqb_tells b 92) (eqb_tells b 9) (eqb_tells b 10) (eqb_tells b 13) where

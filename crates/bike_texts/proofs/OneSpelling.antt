@@ -5,7 +5,8 @@ use Rattle.std.specs.List.{join_with_byte}
 use Rattle.std.proofs.lemmas.Int.{ints}
 use Rattle.std.proofs.lemmas.List.{append-nil}
 use Rattle.bike_fixed.proofs.Spellings.{micro_text_spelled}
-use Rattle.bike_texts.specs.Fields.{Field, Number, Signed, Fixed, Id, Language, Currency, Name, Ascii, Degrees, Metres, Segments, End, IsGood, AreGood, Spells, EachSpells, IsSpelled, IsAsWritten, AreAsWritten, IsWritten, field_text, fields_text}
+use Rattle.bike_texts.specs.Fields.{Field, Number, Signed, Fixed, Id, Language, Currency, Name, Ascii, Degrees, Metres, Segments, End, IsGood, AreGood, Spells, EachSpells, IsSpelled, IsAsWritten}
+use Rattle.bike_texts.specs.Fields.{AreAsWritten, IsWritten, field_text, fields_text}
 use Rattle.bike_texts.proofs.TabFree.{AreRead}
 
 field_spells : (f : Field) → IsGood f → Spells f (field_text f)

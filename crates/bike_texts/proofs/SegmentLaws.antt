@@ -1,5 +1,6 @@
 -- Segments are read exactly from their text.
-use Rattle.std.proofs.Common.{◌≡◌, ℕ, ℤ, ◌≤◌, pos, negsuc, neg_ℤ, List, [], ◌∷◌, length, Bool, true, false, cond, leb, FitsSigned, Option, Some, None, refl, sym, ap, ◌∙◌, subst, arith, decimal, lit<, codes}
+use Rattle.std.proofs.Common.{◌≡◌, ℕ, ℤ, ◌≤◌, pos, negsuc, neg_ℤ, List, [], ◌∷◌, length, Bool, true, false, cond, leb, FitsSigned, Option, Some, None, refl, sym, ap, ◌∙◌, subst, arith, decimal, lit<}
+use Rattle.std.proofs.Common.{codes}
 use Rattle.std.specs.Prelude.{map}
 use Rattle.std.specs.Int.{w64}
 use Rattle.std.specs.Fmt.{signed_decimal}
@@ -81,7 +82,8 @@ end_full (Some n) g =
 end_reader : IsTextReader segment_end_of segment_end_text IsMinute
 end_reader = record { sound = end_sound; full = end_full }
 
-takes : {A B P : Type 0} {read : List ℕ → Option A} {text : A → List ℕ} {good : A → Type 0} {y : B} (next : A × Parts → Option B) (ps : Parts) → IsTextReader read text good → (field_at read ps >>= next) ≡ Some y
+takes : {A B P : Type 0} {read : List ℕ → Option A} {text : A → List ℕ} {good : A → Type 0} {y : B} (next : A × Parts → Option B) (ps : Parts) → IsTextReader read text good
+    → (field_at read ps >>= next) ≡ Some y
     → ((a : A) (rest : Parts) → good a → ps ≡ text a ∷ rest → next (a, rest) ≡ Some y → P) → P
 takes next [] reader e k = absurd cc
 takes {read = read} {y = y} next (p ∷ ps) reader e k =
@@ -90,7 +92,8 @@ takes {read = read} {y = y} next (p ∷ ps) reader e k =
     let got = reader.sound p a r in
     k a ps got.1 (ap (λ (t : List ℕ). t ∷ ps) got.0) (ap next (same_Some (a, ps) x s) ∙ second)))
 
-gives : {A B : Type 0} {read : List ℕ → Option A} {text : A → List ℕ} {good : A → Type 0} {y : B} (next : A × Parts → Option B) (a : A) (rest : Parts) → IsTextReader read text good → good a → next (a, rest) ≡ Some y
+gives : {A B : Type 0} {read : List ℕ → Option A} {text : A → List ℕ} {good : A → Type 0} {y : B} (next : A × Parts → Option B) (a : A) (rest : Parts) → IsTextReader read text good → good a
+    → next (a, rest) ≡ Some y
     → (field_at read (text a ∷ rest) >>= next) ≡ Some y
 gives next a rest reader g k = rw (reader.full a g) k
 
@@ -138,7 +141,8 @@ segment_full s g =
     let lack = segment_parts_lack 58 refl refl s g in
     let parts = split_joined 58 (decimal s.start) (signed_decimal s.rate ∷ decimal s.interval ∷ segment_end_text s.end ∷ []) refl lack.0 lack.1 in
     let after = end_after s.start s.end g.end in
-    rw parts (gives _ s.start _ minute_reader g.start (gives _ s.rate _ rate_reader g.rate (gives _ s.interval _ minute_reader g.interval (gives _ s.end _ end_reader (end_minute s.start s.end g.end) (rw after refl)))))
+    rw parts (gives _ s.start _ minute_reader g.start (gives _ s.rate _ rate_reader g.rate
+    (gives _ s.interval _ minute_reader g.interval (gives _ s.end _ end_reader (end_minute s.start s.end g.end) (rw after refl)))))
 
 -- ---- all of them
 

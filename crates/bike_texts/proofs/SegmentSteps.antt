@@ -16,7 +16,8 @@ regroup : (front : List SegmentRow) (s : SegmentRow) (read : Option (List Segmen
 regroup front s None = refl
 regroup front s (Some ss) = ap Some (sym (append_assoc front (s ∷ []) ss))
 
-pub one_more : (front : List SegmentRow) (s : SegmentRow) (p : List ℕ) (old new : Parts) (all : Option (List SegmentRow)) → part_at old ≡ Some (p, new) → segment_of p ≡ Some s → with_front front (all_of old) ≡ all → with_front (front ++ s ∷ []) (all_of new) ≡ all
+pub one_more : (front : List SegmentRow) (s : SegmentRow) (p : List ℕ) (old new : Parts) (all : Option (List SegmentRow)) → part_at old ≡ Some (p, new) → segment_of p ≡ Some s
+    → with_front front (all_of old) ≡ all → with_front (front ++ s ∷ []) (all_of new) ≡ all
 unfolding all_of
 one_more front s p [] new all h e i = absurd cc
 one_more front s p (q ∷ qs) new all h e i =
@@ -26,7 +27,8 @@ one_more front s p (q ∷ qs) new all h e i =
     let c : segment_of q ≡ Some s = ap segment_of a ∙ e in
     sym (regroup front s (all_of new)) ∙ ap (λ ps. with_front front (all_of ps >>= λ ss. Some (s ∷ ss))) (sym b) ∙ ap (λ o. with_front front (o >>= λ x. all_of qs >>= λ xs. Some (x ∷ xs))) (sym c) ∙ i
 
-pub fails_here : (front : List SegmentRow) (p : List ℕ) (old new : Parts) (all : Option (List SegmentRow)) → part_at old ≡ Some (p, new) → segment_of p ≡ None → with_front front (all_of old) ≡ all → all ≡ None
+pub fails_here : (front : List SegmentRow) (p : List ℕ) (old new : Parts) (all : Option (List SegmentRow)) → part_at old ≡ Some (p, new) → segment_of p ≡ None → with_front front (all_of old) ≡ all
+    → all ≡ None
 unfolding all_of
 fails_here front p [] new all h e i = absurd cc
 fails_here front p (q ∷ qs) new all h e i =

@@ -15,7 +15,8 @@ use Rattle.bike_fields.specs.declared.vehicle.Propulsion.{Propulsion}
 use Rattle.bike_fields.specs.declared.vehicle.Propulsion.TheVariants.{Human, ElectricAssist}
 use Rattle.bike_texts.specs.declared.ends.OrderEnd.TheVariants.{Depot, Station}
 use Rattle.bike_texts.specs.Parts.{Parts}
-use Rattle.bike_texts.specs.Fields.{Field, Number, Signed, Fixed, Id, Language, Currency, Name, Ascii, Degrees, Metres, Segments, End, AreSegments, HasNoTab, IsGood, AreGood, Spells, EachSpells, escape, escapes_of, segment_text, segment_end_text, segments_text}
+use Rattle.bike_texts.specs.Fields.{Field, Number, Signed, Fixed, Id, Language, Currency, Name, Ascii, Degrees, Metres, Segments, End, AreSegments, HasNoTab, IsGood, AreGood, Spells, EachSpells}
+use Rattle.bike_texts.specs.Fields.{escape, escapes_of, segment_text, segment_end_text, segments_text}
 use Rattle.bike_texts.specs.Reading.{part_at}
 use Rattle.bike_texts.proofs.Splitting.{is_tab}
 pub use Rattle.bike_texts.proofs.Absent.{all_weaker}
@@ -44,7 +45,15 @@ currency_no_tab : (bs : List ℕ) → is_currency bs ≡ true → HasNoTab bs
 currency_no_tab bs h = set_lacks is_upper 9 refl bs (both_hold (has_length 3 3 bs) (list_all is_upper bs) h).1
 
 escape_no_tab : (b : ℕ) → HasNoTab (escape b)
-escape_no_tab b = elim (eqb_tells b 92) [ inl w ↦ at 92 w.1 refl | inr v ↦ elim (eqb_tells b 9) [ inl w ↦ at 9 w.1 refl | inr x ↦ elim (eqb_tells b 10) [ inl w ↦ at 10 w.1 refl | inr y ↦ elim (eqb_tells b 13) [ inl w ↦ at 13 w.1 refl | inr z ↦ rw (v.0, x.0, y.0, z.0) (rw (x.0) refl) ] ] ] ]
+escape_no_tab b =
+    elim (eqb_tells b 92) [
+      | inl w ↦ at 92 w.1 refl
+      | inr v ↦ elim (eqb_tells b 9) [
+        | inl w ↦ at 9 w.1 refl
+        | inr x ↦ elim
+            (eqb_tells b 10) [ inl w ↦ at 10 w.1 refl | inr y ↦ elim (eqb_tells b 13) [ inl w ↦ at 13 w.1 refl | inr z ↦ rw (v.0, x.0, y.0, z.0) (rw (x.0) refl) ] ]
+      ]
+    ]
   where
     at : (k : ℕ) → b ≡ k → HasNoTab (escape k) → HasNoTab (escape b)
     at k e h = rw e h
@@ -84,8 +93,17 @@ pub segment_parts_lack : (c : ℕ) → is_ascii_digit c ≡ false → eqb 45 c �
     → AllLack c (decimal s.start ∷ signed_decimal s.rate ∷ decimal s.interval ∷ segment_end_text s.end ∷ [])
 segment_parts_lack c out sign s h =
     let low : neg_ℤ (pos 9223372036854775808) ≤ℤ s.rate = omega (arith, ints, h.rate.0) in
-    let high : s.rate ≤ℤ pos 9223372036854775807 = omega (arith, ints, h.rate.1) in
-    (decimal_lacks c s.start out (omega (arith, h.start)), (signed_lacks c s.rate out sign low high, (decimal_lacks c s.interval out (omega (arith, h.interval)), (end_lacks c out sign s.start s.end h.end, tt))))
+    let high : s.rate ≤ℤ pos 9223372036854775807 = omega (arith, ints, h.rate.1) in (
+      decimal_lacks c s.start out (omega (arith, h.start)),
+      (
+        signed_lacks c s.rate out sign low high,
+        (
+          decimal_lacks c s.interval out
+              (omega (arith, h.interval)),
+          (end_lacks c out sign s.start s.end h.end, tt),
+        ),
+      ),
+    )
 
 pub segment_lacks : (c : ℕ) → is_ascii_digit c ≡ false → eqb 45 c ≡ false → eqb 58 c ≡ false → (s : SegmentRow) → IsSegment s → Lacks c (segment_text s)
 segment_lacks c out sign colon s h =

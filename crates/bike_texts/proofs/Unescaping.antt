@@ -1,5 +1,6 @@
 -- Undoing escapes, byte by byte.
-use Rattle.std.proofs.Common.{◌≡◌, ◌≢◌, ℕ, ◌<◌, ◌+◌, List, [], ◌∷◌, ◌++◌, Option, Some, None, refl, sym, ap, ◌∙◌, append_assoc, false, true, eqb, drop, get_or, length, drop-cons, add-one, inl, inr, Bool, ◌&&◌, cond, leb, suc, zero, ◌≤◌, arith, rules}
+use Rattle.std.proofs.Common.{◌≡◌, ◌≢◌, ℕ, ◌<◌, ◌+◌, List, [], ◌∷◌, ◌++◌, Option, Some, None, refl, sym, ap, ◌∙◌, append_assoc, false, true, eqb, drop, get_or, length, drop-cons, add-one, inl, inr}
+use Rattle.std.proofs.Common.{Bool, ◌&&◌, cond, leb, suc, zero, ◌≤◌, arith, rules}
 use Rattle.std.specs.List.{list_all}
 use Rattle.std.specs.Str.{IsUtf8, is_utf8, IsAscii}
 use Rattle.std.proofs.lemmas.Bool.{le-leb, lt-leb, leb-true, eqb-true}

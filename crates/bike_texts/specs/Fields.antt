@@ -1,11 +1,13 @@
 -- The fields of a command or reply, as they stand between TABs.
-use Rattle.std.specs.Prelude.{◌≡◌, ℕ, ℤ, ◌≤◌, ◌<◌, ◌^◌, List, [], ◌∷◌, ◌++◌, ◌==◌, Bool, not, true, Option, Some, None, length, decimal, codes, map, pos, neg_ℤ, ◌≤ℤ◌, if◌then◌else◌}
+use Rattle.std.specs.Prelude.{◌≡◌, ℕ, ℤ, ◌≤◌, ◌<◌, ◌^◌, List, [], ◌∷◌, ◌++◌, ◌==◌, Bool, not, true, Option, Some, None}
+use Rattle.std.specs.Prelude.{length, decimal, codes, map, pos, neg_ℤ, ◌≤ℤ◌, if◌then◌else◌}
 use Rattle.std.specs.Fmt.{signed_decimal}
 use Rattle.std.specs.List.{list_all, join_with_byte}
 use Rattle.bike_fixed.specs.declared.micro.TheConstants.{GREATEST_COORDINATE}
 use Rattle.bike_fixed.specs.Coordinate.{IsCoordinate}
 use Rattle.bike_fixed.specs.Text.{micro_text}
-use Rattle.bike_fields.specs.declared.numbers.TheConstants.{MOST_DOCKS, GREATEST_NUMBER, GREATEST_SERIAL, GREATEST_PAYMENT}
+use Rattle.bike_fields.specs.declared.numbers.TheConstants.{MOST_DOCKS, GREATEST_NUMBER, GREATEST_SERIAL}
+use Rattle.bike_fields.specs.declared.numbers.TheConstants.{GREATEST_PAYMENT}
 use Rattle.bike_fields.specs.declared.limits.TheConstants.{MOST_SEGMENTS}
 use Rattle.bike_fields.specs.Bytes.{is_ident, is_language, is_currency, is_name, is_ascii_field}
 use Rattle.bike_fields.specs.declared.vehicle.Propulsion.{Propulsion}
@@ -84,7 +86,8 @@ IsEnd (Station station) = is_ident station ≡ true
 -- what a field may hold
 abbrev pub IsGood : Field → Type 0
 IsGood (Number least greatest n) = (least ≤ n) × (n ≤ greatest) × (greatest < 2 ^ 64)
-IsGood (Signed least greatest z) = (least ≤ℤ z) × (z ≤ℤ greatest) × (neg_ℤ (pos 9223372036854775808) ≤ℤ least) × (greatest ≤ℤ pos 9223372036854775807)
+IsGood (Signed least greatest z) =
+    (least ≤ℤ z) × (z ≤ℤ greatest) × (neg_ℤ (pos 9223372036854775808) ≤ℤ least) × (greatest ≤ℤ pos 9223372036854775807)
 IsGood (Fixed word) = HasNoTab word
 IsGood (Id bs) = is_ident bs ≡ true
 IsGood (Language bs) = is_language bs ≡ true
@@ -118,7 +121,8 @@ segment_end_text None = codes "-"
 segment_end_text (Some end) = decimal end
 
 abbrev pub segment_text : SegmentRow → List ℕ
-segment_text s = join_with_byte 58 (decimal s.start ∷ signed_decimal s.rate ∷ decimal s.interval ∷ segment_end_text s.end ∷ [])
+segment_text s =
+    join_with_byte 58 (decimal s.start ∷ signed_decimal s.rate ∷ decimal s.interval ∷ segment_end_text s.end ∷ [])
 
 -- segments have a semicolon between them, and `-` stands for none
 abbrev pub segments_text : List SegmentRow → List ℕ

@@ -28,7 +28,8 @@ segment_of text = do
   interval ← field_at minute_of rate.1
   end ← field_at segment_end_of interval.1
   nothing ← no_more end.1
-  if is_after start.0 end.0 then Some (record { start = start.0; rate = rate.0; interval = interval.0; end = end.0 }) else None
+  if is_after start.0 end.0 then Some (record { start = start.0; rate = rate.0; interval = interval.0; end = end.0 })
+      else None
 
 -- a segment in each part
 unfoldable pub all_of : Parts → Option (List SegmentRow)

@@ -46,7 +46,8 @@ module _ (kind : NameKind) (id language : List ℕ) where
       ∙ lists_ties text_cmp (λ x y. sym (is_eq-slice_cmp x y)) (name_key other of tongue) (name_key kind id language)
       ∙ (eq_by_cmp_equiv texts_total).symm (name_key other of tongue) (name_key kind id language)
 
-  among : (es : List (NameKey × List ℕ)) → ((e : NameKey × List ℕ) → Has es e → is_wanted e.0 ≡ has_key e.0) → is_among language (map named_in (filter (λ e. is_name_of kind id e.0) es)) ≡ list_any has_key (map (λ e. e.0) es)
+  among : (es : List (NameKey × List ℕ)) → ((e : NameKey × List ℕ) → Has es e → is_wanted e.0 ≡ has_key e.0)
+      → is_among language (map named_in (filter (λ e. is_name_of kind id e.0) es)) ≡ list_any has_key (map (λ e. e.0) es)
   among [] same = refl
   among (e ∷ es) same = go (is_name_of kind id e.0) (same e (inl refl)) (among es (λ x has. same x (inr has))) where
     go : (b : Bool) → (b && bytes_eq (part_at e.0 2) language) ≡ has_key e.0 → is_among language (map named_in (filter (λ x. is_name_of kind id x.0) es)) ≡ list_any has_key (map (λ x. x.0) es)

@@ -6,8 +6,8 @@ use Rattle.sqlite.specs.Effect.{Database}
 use Rattle.sqlite.specs.Held.{Held, state}
 use Rattle.sqlite.specs.State.{HasCleanDisk}
 use Rattle.sqlite.proofs.StateLemmas.{unchanged}
-use Rattle.bike_rows.specs.Calls.{IsQuiet, ReadsWhere}
-use Rattle.bike_rows.proofs.ChainLaws.{quiet_then, reads_as, reads_both, reads_failed}
+use Rattle.bike_sql.specs.Calls.{IsQuiet, ReadsWhere}
+use Rattle.bike_sql.proofs.ChainLaws.{quiet_then, reads_as, reads_both, reads_failed}
 use Rattle.bike_operator.specs.Operator.{Operator}
 use Rattle.bike_operator.specs.Sound.{IsSound}
 use Rattle.bike_book.specs.Stored.{Listed}
@@ -42,7 +42,13 @@ module _ {S : Type 0} {g : Ghosts S} where
   -- the same of every sound operator
   pub open_sound : {A E : Type 0} {h : Held S} {x : A} (says : Operator → Listed → A → Type 0) → ((s : Operator) (m : Listed) → IsSound s → says s m x) → AnswersOpen g h h {E = E} (Ok x) says
   open_sound {h = h} says fact = record {
-    answers = λ is_open. record { found = λ clean has s stores. fact s stores.listed stores.sound; same = λ clean has. unchanged (state g h) is_open; failed = λ clean has. tt; quiet = quiet_same g IsOurs h };
+    answers =
+        λ is_open. record {
+          found = λ clean has s stores. fact s stores.listed stores.sound;
+          same = λ clean has. unchanged (state g h) is_open;
+          failed = λ clean has. tt;
+          quiet = quiet_same g IsOurs h;
+        };
     quiet = quiet_same g IsOurs h;
     ours = λ clean has. has;
   }
@@ -54,20 +60,24 @@ module _ {S : Type 0} {g : Ghosts S} where
     ours = λ clean has. on_ok_weaker result (λ same. subst IsOurs (sym same.0.now_is) has) (it.same clean has);
   }
 
-  pub open_weaker : {A E : Type 0} {old new : Held S} {result : Result A E} {says told : Operator → Listed → A → Type 0} → AnswersOpen g old new result says → ((s : Operator) (m : Listed) (x : A) → says s m x → told s m x) → AnswersOpen g old new result told
+  pub open_weaker : {A E : Type 0} {old new : Held S} {result : Result A E} {says told : Operator → Listed → A → Type 0} → AnswersOpen g old new result says
+      → ((s : Operator) (m : Listed) (x : A) → says s m x → told s m x) → AnswersOpen g old new result told
   open_weaker it then = record { answers = λ is_open. reads_weaker (it.answers is_open) (λ db x each s h. then s h.listed x (each s h)); quiet = it.quiet; ours = it.ours }
 
   -- what is made of a value
-  pub open_as : {A B E F : Type 0} {old new : Held S} {x : A} {y : B} {says : Operator → Listed → A → Type 0} {told : Operator → Listed → B → Type 0} → AnswersOpen g old new {E = E} (Ok x) says → ((s : Operator) (m : Listed) → says s m x → told s m y) → AnswersOpen g old new {E = F} (Ok y) told
+  pub open_as : {A B E F : Type 0} {old new : Held S} {x : A} {y : B} {says : Operator → Listed → A → Type 0} {told : Operator → Listed → B → Type 0} → AnswersOpen g old new {E = E} (Ok x) says
+      → ((s : Operator) (m : Listed) → says s m x → told s m y) → AnswersOpen g old new {E = F} (Ok y) told
   open_as it then = record { answers = λ is_open. reads_as (it.answers is_open) (λ db each s h. then s h.listed (each s h)); quiet = it.quiet; ours = it.ours }
 
   -- it failed, and its caller with it
-  pub open_failed : {A B E F : Type 0} {old new : Held S} {e : E} {result : Result B F} {says : Operator → Listed → A → Type 0} {told : Operator → Listed → B → Type 0} → AnswersOpen g old new {A = A} (Err e) says → IsErr result → AnswersOpen g old new result told
+  pub open_failed : {A B E F : Type 0} {old new : Held S} {e : E} {result : Result B F} {says : Operator → Listed → A → Type 0} {told : Operator → Listed → B → Type 0}
+      → AnswersOpen g old new {A = A} (Err e) says → IsErr result → AnswersOpen g old new result told
   open_failed {result = Ok y} it is = absurd (let e = is in cc)
   open_failed {result = Err f} it is = record { answers = λ is_open. reads_failed (it.answers is_open) is; quiet = it.quiet; ours = λ clean has. tt }
 
   -- After a read the connection is open, and both values are so of the database before the first.
-  pub open_both : {X Y E F : Type 0} {old mid new : Held S} {x : X} {result : Result Y F} {says : Database → X → Type 0} {told : Operator → Listed → Y → Type 0} → ReadsWhere g IsOurs old mid {E = E} (Ok x) says → AnswersOpen g mid new result told
+  pub open_both : {X Y E F : Type 0} {old mid new : Held S} {x : X} {result : Result Y F} {says : Database → X → Type 0} {told : Operator → Listed → Y → Type 0}
+      → ReadsWhere g IsOurs old mid {E = E} (Ok x) says → AnswersOpen g mid new result told
       → ReadsWhere g IsOurs old new result (λ db y. says db x × OfEach told db y)
   open_both {old = old} {mid = mid} {new = new} {x = x} {result = result} {says = says} {told = told} one two = record {
     found = λ clean has. (both clean has).found clean has;
@@ -86,7 +96,8 @@ module _ {S : Type 0} {g : Ghosts S} where
       both clean has = reads_both one (two.answers (one.same (before clean) has).0.is_open)
 
   -- two that may read nothing, one after the other
-  pub open_then : {X Y E F : Type 0} {old mid new : Held S} {x : X} {result : Result Y F} {says : Operator → Listed → X → Type 0} {told : Operator → Listed → Y → Type 0} → AnswersOpen g old mid {E = E} (Ok x) says → AnswersOpen g mid new result told
+  pub open_then : {X Y E F : Type 0} {old mid new : Held S} {x : X} {result : Result Y F} {says : Operator → Listed → X → Type 0} {told : Operator → Listed → Y → Type 0}
+      → AnswersOpen g old mid {E = E} (Ok x) says → AnswersOpen g mid new result told
       → AnswersOpen g old new result (λ s m y. says s m x × told s m y)
   open_then one two = record {
     answers = λ is_open. reads_weaker (open_both (one.answers is_open) two) (λ db y both s h. (both.0 s h, both.1 s h));

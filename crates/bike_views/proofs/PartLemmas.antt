@@ -28,17 +28,20 @@ typed_some b (Some t) {plan = plan} read some = let same : plan ≡ t.plan_id = 
 
 -- ---- the docks of a station
 
-pub docks_read : (s : Operator) (station : List ℕ) {numbers : Option DockNumbers} {d : StationDocks} → d ≡ record { station = station; numbers = numbers; listing = None } → numbers ≡ dock_numbers_at s station → Some d ≡ Some (station_docks s station)
+pub docks_read : (s : Operator) (station : List ℕ) {numbers : Option DockNumbers} {d : StationDocks} → d ≡ record { station = station; numbers = numbers; listing = None }
+    → numbers ≡ dock_numbers_at s station → Some d ≡ Some (station_docks s station)
 docks_read s station is numbers = ap Some is ∙ ap (λ (n : Option DockNumbers). let d : StationDocks = record { station = station; numbers = n; listing = None } in Some d) numbers
 
-pub listed_read : (s : Operator) (m : Listed) (station : List ℕ) (dock : ℕ) {numbers : Option DockNumbers} {listed : Bool} {d : StationDocks} → d ≡ record { station = station; numbers = numbers; listing = Some (record { dock = dock; is_listed = listed }) }
+pub listed_read : (s : Operator) (m : Listed) (station : List ℕ) (dock : ℕ) {numbers : Option DockNumbers} {listed : Bool} {d : StationDocks}
+    → d ≡ record { station = station; numbers = numbers; listing = Some (record { dock = dock; is_listed = listed }) }
     → numbers ≡ dock_numbers_at s station → listed ≡ map.contains_key m.docks (dock_key station dock) → Some d ≡ Some (listed_docks s m station dock)
 listed_read s m station dock is numbers listed = ap Some is ∙ (λ i. Some (record { station = station; numbers = numbers i; listing = Some (record { dock = dock; is_listed = listed i }) }))
 
 -- ---- a rental
 
 -- the rental that was read, and the sum of its refunds
-pub rental_read : (number : ℕ) (entries : List Entry) (o : Option Rental) {x : Option (Rental × ℤ)} {found : Rental} {refunded : ℤ} → x ≡ option_map (λ r. (r, refunded_of number entries)) o → x ≡ Some (found, refunded)
+pub rental_read : (number : ℕ) (entries : List Entry) (o : Option Rental) {x : Option (Rental × ℤ)} {found : Rental} {refunded : ℤ} → x ≡ option_map (λ r. (r, refunded_of number entries)) o
+    → x ≡ Some (found, refunded)
     → (o ≡ Some found) × (refunded ≡ refunded_of number entries)
 rental_read number entries None read some = absurd cc
 rental_read number entries (Some r) {found = found} {refunded = refunded} read some =
@@ -49,7 +52,8 @@ pub rental_lacks : (number : ℕ) (entries : List Entry) (o : Option Rental) {x 
 rental_lacks number entries None read none = refl
 rental_lacks number entries (Some r) read none = absurd cc
 
-pub planned_some : (s : Operator) (number : ℕ) (r : Rental) (o : Option PlanRow) {x : Option PlanRow} {plan : PlanRow} {refunded balance : ℤ} → x ≡ o → x ≡ Some plan → refunded ≡ refunded_of number s.entries → balance ≡ balance_of r.rider s.entries
+pub planned_some : (s : Operator) (number : ℕ) (r : Rental) (o : Option PlanRow) {x : Option PlanRow} {plan : PlanRow} {refunded balance : ℤ} → x ≡ o → x ≡ Some plan
+    → refunded ≡ refunded_of number s.entries → balance ≡ balance_of r.rider s.entries
     → Some (record { number = number; rental = r; plan = plan; refunded = refunded; balance = balance }) ≡ planned_rental s number r o
 planned_some s number r o {plan = plan} read some refunds balances =
     (λ i. Some (record { number = number; rental = r; plan = plan; refunded = refunds i; balance = balances i })) ∙ ap (planned_rental s number r) (sym some ∙ read)

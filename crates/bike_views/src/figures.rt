@@ -16,7 +16,7 @@ use sqlite::{Alter, Connection};
 
 /// What is known of the operator before a request is read.
 #[derive(Clone, Copy)]
-pub struct Known {
+pub struct KnownFigures {
     /// Its figures.
     pub figures: Figures,
     /// Whether each open rental is known to be its rider's newest.

@@ -17,9 +17,7 @@ mod stored;
 mod view;
 mod view_and_docks;
 
-pub use bike_booking::{Stored, StoredCounts, StoredDock, Sums};
-pub use bike_fleet_reads::{DockNumbers, TypeCounts, find_counts, find_dock_numbers, find_mark};
-pub use figures::{Known, find_figures, know_figures};
+pub use figures::{KnownFigures, find_figures, know_figures};
 pub use stored::find_stored;
 pub use view::find_view;
 pub use view_and_docks::{DockListing, StationDocks, ViewAndDocks};

@@ -13,7 +13,7 @@ ghost use Rattle.bike_views.specs.Parts.{rental_bike, rental_bike_at};
 
 use crate::docks::find_dock_view;
 use crate::empty::empty_view;
-use crate::figures::{Known, is_ledger_full};
+use crate::figures::{KnownFigures, is_ledger_full};
 use crate::view_and_docks::ViewAndDocks;
 use bike_fields::{BicycleNumber, DockNumber, Ident, RentalNumber, RiderNumber};
 use bike_fixed::Cents;
@@ -93,7 +93,7 @@ pub(crate) fn view_to_start<S: Alter>(
     rider: RiderNumber,
     station: &Ident,
     dock: DockNumber,
-    known: &Known,
+    known: &KnownFigures,
 ) -> Result<ViewAndDocks, StatementFault>
     ensures { Answers S.Store conn.old conn.new result
         (λ s m x. IsKnown s known.now → IsFoundFor s m (command.Start rider station.now dock) x) }

@@ -12,12 +12,11 @@ ghost use Rattle.bike_views.specs.Open.{AnswersOpen};
 ghost use Rattle.bike_views.specs.ViewAndDocks.{docks_for};
 ghost use Rattle.bike_views.specs.StoredParts.{AreDocks, counts_read, dock_read};
 
-use crate::{
-    DockNumbers, StationDocks, Stored, StoredCounts, StoredDock, Sums, TypeCounts, find_counts,
-    find_dock_numbers, find_mark,
-};
-use bike_accepted::{DockAt, Held, Moved};
+use crate::StationDocks;
+use bike_accepted::{DockAt, DockOccupant, Movement};
+use bike_booking::{Stored, StoredCounts, StoredDock, Sums};
 use bike_fields::Ident;
+use bike_fleet_reads::{DockNumbers, TypeCounts, find_counts, find_dock_numbers, find_mark};
 use bike_schema::StatementFault;
 use sqlite::{Alter, Connection};
 
@@ -147,7 +146,7 @@ fn find_counts_at<S: Alter>(
 fn find_held_counts<S: Alter>(
     conn: &mut Connection<S>,
     at: &DockAt<'_>,
-    held: &Option<Held<'_>>,
+    held: &Option<DockOccupant<'_>>,
 ) -> Result<Option<StoredCounts>, StatementFault>
     ensures { AnswersOpen S.Store conn.old conn.new result (λ s m counts. AreHeldStored s m at.now held.now counts) }
 {
@@ -172,7 +171,7 @@ fn untouched(sums: Sums) -> Stored
 fn find_moved<S: Alter>(
     conn: &mut Connection<S>,
     docks: &Option<StationDocks>,
-    moved: &Moved<'_>,
+    moved: &Movement<'_>,
     sums: Sums,
 ) -> Result<Stored, StatementFault>
     ensures stored { AnswersOpen S.Store conn.old conn.new result
@@ -180,13 +179,13 @@ fn find_moved<S: Alter>(
     ensures sums { IfOk result (λ stored. stored.sums ≡ sums) }
 {
     match moved {
-        Moved::Away { .. } => Ok(untouched(sums)),
-        Moved::AtDock { at, type_id, .. } => {
+        Movement::Away { .. } => Ok(untouched(sums)),
+        Movement::AtDock { at, type_id, .. } => {
             let dock = find_station_docks(conn, docks, at.station)?;
             let counts = find_counts_at(conn, at, type_id)?;
             Ok(Stored { dock, counts, sums })
         }
-        Moved::AddDocks { station, .. } => {
+        Movement::AddDocks { station, .. } => {
             let dock = find_station_docks(conn, docks, station)?;
             Ok(Stored {
                 dock,
@@ -194,7 +193,7 @@ fn find_moved<S: Alter>(
                 sums,
             })
         }
-        Moved::Marked { at, held, .. } => {
+        Movement::Marked { at, held, .. } => {
             let dock = find_listed_dock(conn, docks, at)?;
             let counts = find_held_counts(conn, at, held)?;
             Ok(Stored { dock, counts, sums })
@@ -212,7 +211,7 @@ fn find_moved<S: Alter>(
 pub fn find_stored<S: Alter>(
     conn: &mut Connection<S>,
     docks: &Option<StationDocks>,
-    moved: &Option<Moved<'_>>,
+    moved: &Option<Movement<'_>>,
     sums: Sums,
 ) -> Result<Stored, StatementFault>
     ensures stored { AnswersOpen S.Store conn.old conn.new result (λ s m stored. (c : Command)

@@ -9,7 +9,7 @@ use crate::catalogue::{
     find_system_view, find_type_view, view_to_add_plan, view_to_add_region, view_to_add_type,
 };
 use crate::docks::view_to_mark_dock;
-use crate::figures::Known;
+use crate::figures::KnownFigures;
 use crate::names::{view_to_add_name, view_to_change_name};
 use crate::orders::{
     view_to_add_truck, view_to_close_order, view_to_load, view_to_open_order, view_to_unload,
@@ -36,7 +36,7 @@ pub fn find_view<S: Alter>(
     alloc: Global,
     conn: &mut Connection<S>,
     command: &Command,
-    known: &Known,
+    known: &KnownFigures,
 ) -> Result<ViewAndDocks, StatementFault>
     ensures { Answers S.Store conn.old conn.new result (λ s m x. IsKnown s known.now → IsFoundFor s m command.now x) }
 {

@@ -8,7 +8,7 @@ use Rattle.bike_book.specs.Tables.{System, Plans, Segments, Types, Regions}
 use Rattle.bike_book.specs.Rows.{number_value, system_row, plan_row, segment_row, type_row, region_row}
 use Rattle.bike_writes.proofs.TextLemmas.{Makes, number_suits}
 use Rattle.sqlite_tied.specs.Compute.{everything}
-use Rattle.bike_rows.proofs.WriteLaws.{row_put, row_updated}
+use Rattle.bike_sql.proofs.WriteLaws.{row_put, row_updated}
 use Rattle.bike_accepted.specs.declared.change.Change.TheVariants as change
 use Rattle.bike_book.specs.declared.row_change.RowChange.TheVariants as row
 use Rattle.bike_book.specs.Writes.{record_write, write_of}
@@ -21,9 +21,12 @@ unfolding everything
 sets_system x = adds_row System (λ s. row_put (unique_key System) (λ s tree. (refl, refl, refl, λ base. refl)) refl refl (λ rows. refl))
 
 pub changes_system : (x : Bor SettingsRow) → Makes (codes "UPDATE system SET name = ?2, hours = ?3, contact = ?4, zone = ?5, base_url = ?6, ttl = ?7 WHERE one = ?1")
-    (Int (pos 1) ∷ Text x.now.name ∷ Text x.now.opening_hours ∷ Text x.now.feed_contact_email ∷ Text x.now.timezone ∷ Text x.now.base_url ∷ number_value x.now.ttl ∷ []) (record_write (change.ChangeSystem x))
+    (Int (pos 1) ∷ Text x.now.name ∷ Text x.now.opening_hours ∷ Text x.now.feed_contact_email ∷ Text x.now.timezone ∷ Text x.now.base_url ∷ number_value x.now.ttl ∷ [])
+    (record_write (change.ChangeSystem x))
 unfolding everything
-changes_system x = sets_columns System _ _ (λ s. row_updated (unique_key System) 0 ((3, 1) ∷ (4, 2) ∷ (5, 3) ∷ (6, 4) ∷ (8, 5) ∷ (9, 6) ∷ []) _ (λ tree. (refl, refl, refl), refl) refl refl refl (λ r. refl) (λ r. refl))
+changes_system x =
+    sets_columns System _ _ (λ s. row_updated (unique_key System) 0 ((3, 1) ∷ (4, 2) ∷ (5, 3) ∷ (6, 4) ∷ (8, 5) ∷ (9, 6) ∷ []) _ (λ tree. (refl, refl, refl), refl) refl refl refl (λ r. refl)
+    (λ r. refl))
 
 pub adds_plan : (p : Bor PlanRow) → Makes (insert_text Plans) (plan_row p.now.plan_id p.now) (record_write (change.AddPlan p))
 unfolding everything

@@ -7,7 +7,7 @@ use Rattle.bike_book.specs.Tables.{Entries, Kept, Meta}
 use Rattle.bike_book.specs.Rows.{number_value, entry_row, kept_row}
 use Rattle.bike_writes.proofs.TextLemmas.{Makes}
 use Rattle.sqlite_tied.specs.Compute.{everything}
-use Rattle.bike_rows.proofs.WriteLaws.{row_put, row_put_free, row_updated}
+use Rattle.bike_sql.proofs.WriteLaws.{row_put, row_put_free, row_updated}
 use Rattle.bike_book.specs.declared.row_change.RowChange.TheVariants as row
 use Rattle.bike_book.specs.Writes.{write_of}
 use Rattle.bike_schema.proofs.InsertTexts.{insert_text}
@@ -22,6 +22,7 @@ pub adds_kept : (caller key command reply : Bor (List ℕ)) → Makes (insert_te
 unfolding everything
 adds_kept caller key command reply = keeps_row (λ s. row_put_free (λ s tree. (refl, refl, refl, λ base. refl)) refl refl (λ rows. refl))
 
-pub sets_meta : (now : ℕ) (cash revenue : ℤ) → Makes (codes "UPDATE meta SET now = ?2, cash = ?3, revenue = ?4 WHERE one = ?1") (Int (pos 1) ∷ number_value now ∷ Int cash ∷ Int revenue ∷ []) (write_of (row.SetMeta now cash revenue))
+pub sets_meta : (now : ℕ) (cash revenue : ℤ) → Makes (codes "UPDATE meta SET now = ?2, cash = ?3, revenue = ?4 WHERE one = ?1") (Int (pos 1) ∷ number_value now ∷ Int cash ∷ Int revenue ∷ [])
+    (write_of (row.SetMeta now cash revenue))
 unfolding everything
 sets_meta now cash revenue = sets_columns Meta _ _ (λ s. row_updated (unique_key Meta) 0 ((3, 1) ∷ (4, 2) ∷ (5, 3) ∷ []) _ (λ tree. (refl, refl, refl), refl) refl refl refl (λ r. refl) (λ r. refl))

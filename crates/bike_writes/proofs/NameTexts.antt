@@ -10,7 +10,7 @@ use Rattle.bike_book.specs.Tables.{System, Plans, Types, Regions, Stations, More
 use Rattle.bike_book.specs.Rows.{name_row}
 use Rattle.bike_writes.proofs.TextLemmas.{Makes}
 use Rattle.sqlite_tied.specs.Compute.{everything}
-use Rattle.bike_rows.proofs.WriteLaws.{row_put, row_updated, row_removed}
+use Rattle.bike_sql.proofs.WriteLaws.{row_put, row_updated, row_removed}
 use Rattle.bike_accepted.specs.declared.change.Change.TheVariants as change
 use Rattle.bike_book.specs.Writes.{record_write}
 use Rattle.bike_schema.proofs.InsertTexts.{insert_text}
@@ -21,7 +21,8 @@ pub sets_system_name : (id name : Bor (List ℕ)) → Makes (codes "UPDATE syste
 unfolding everything
 sets_system_name id name = sets_columns System _ _ (λ s. row_updated (unique_key System) 0 ((3, 1) ∷ []) _ (λ tree. (refl, refl, refl), refl) refl refl refl (λ r. refl) (λ r. refl))
 
-pub sets_station_name : (id name : Bor (List ℕ)) → Makes (codes "UPDATE stations_3 SET name = ?2 WHERE station_id = ?1") (Text id.now ∷ Text name.now ∷ []) (record_write (change.SetOwnName named.Station id name))
+pub sets_station_name : (id name : Bor (List ℕ)) → Makes (codes "UPDATE stations_3 SET name = ?2 WHERE station_id = ?1") (Text id.now ∷ Text name.now ∷ [])
+    (record_write (change.SetOwnName named.Station id name))
 unfolding everything
 sets_station_name id name = sets_columns Stations _ _ (λ s. row_updated (unique_key Stations) 0 ((1, 1) ∷ []) _ (λ tree. (refl, refl, refl), refl) refl refl refl (λ r. refl) (λ r. refl))
 
@@ -33,22 +34,26 @@ pub sets_plan_name : (id name : Bor (List ℕ)) → Makes (codes "UPDATE plans S
 unfolding everything
 sets_plan_name id name = sets_columns Plans _ _ (λ s. row_updated (unique_key Plans) 0 ((1, 1) ∷ []) _ (λ tree. (refl, refl, refl), refl) refl refl refl (λ r. refl) (λ r. refl))
 
-pub sets_plan_description : (id name : Bor (List ℕ)) → Makes (codes "UPDATE plans SET description = ?2 WHERE plan_id = ?1") (Text id.now ∷ Text name.now ∷ []) (record_write (change.SetOwnName named.Description id name))
+pub sets_plan_description : (id name : Bor (List ℕ)) → Makes (codes "UPDATE plans SET description = ?2 WHERE plan_id = ?1") (Text id.now ∷ Text name.now ∷ [])
+    (record_write (change.SetOwnName named.Description id name))
 unfolding everything
 sets_plan_description id name = sets_columns Plans _ _ (λ s. row_updated (unique_key Plans) 0 ((4, 1) ∷ []) _ (λ tree. (refl, refl, refl), refl) refl refl refl (λ r. refl) (λ r. refl))
 
-pub sets_region_name : (id name : Bor (List ℕ)) → Makes (codes "UPDATE regions SET name = ?2 WHERE region_id = ?1") (Text id.now ∷ Text name.now ∷ []) (record_write (change.SetOwnName named.Region id name))
+pub sets_region_name : (id name : Bor (List ℕ)) → Makes (codes "UPDATE regions SET name = ?2 WHERE region_id = ?1") (Text id.now ∷ Text name.now ∷ [])
+    (record_write (change.SetOwnName named.Region id name))
 unfolding everything
 sets_region_name id name = sets_columns Regions _ _ (λ s. row_updated (unique_key Regions) 0 ((1, 1) ∷ []) _ (λ tree. (refl, refl, refl), refl) refl refl refl (λ r. refl) (λ r. refl))
 
-pub adds_name : (kind : NameKind) (id language name : Bor (List ℕ)) → Makes (insert_text MoreNames) (name_row (name_key kind id.now language.now) name.now) (record_write (change.AddName kind id language name))
+pub adds_name : (kind : NameKind) (id language name : Bor (List ℕ)) → Makes (insert_text MoreNames) (name_row (name_key kind id.now language.now) name.now)
+    (record_write (change.AddName kind id language name))
 unfolding everything
 adds_name kind id language name = adds_row MoreNames (λ s. row_put (unique_key MoreNames) (λ s tree. (refl, refl, refl, λ base. refl)) refl refl (λ rows. refl))
 
 pub sets_further_name : (kind : NameKind) (id language name : Bor (List ℕ)) → Makes (codes "UPDATE more_names SET name = ?4 WHERE kind = ?1 AND id = ?2 AND language = ?3")
     (Text (kind_text kind) ∷ Text id.now ∷ Text language.now ∷ Text name.now ∷ []) (record_write (change.SetFurtherName kind id language name))
 unfolding everything
-sets_further_name kind id language name = sets_columns MoreNames _ _ (λ s. row_updated (unique_key MoreNames) 0 ((3, 3) ∷ []) _ (λ tree. (refl, refl, refl), refl) refl refl refl (λ r. refl) (λ r. refl))
+sets_further_name kind id language name =
+    sets_columns MoreNames _ _ (λ s. row_updated (unique_key MoreNames) 0 ((3, 3) ∷ []) _ (λ tree. (refl, refl, refl), refl) refl refl refl (λ r. refl) (λ r. refl))
 
 pub removes_name : (kind : NameKind) (id language : Bor (List ℕ)) → Makes (codes "DELETE FROM more_names WHERE kind = ?1 AND id = ?2 AND language = ?3")
     (Text (kind_text kind) ∷ Text id.now ∷ Text language.now ∷ []) (record_write (change.RemoveName kind id language))

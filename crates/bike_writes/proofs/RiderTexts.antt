@@ -5,7 +5,7 @@ use Rattle.bike_book.specs.Tables.{Riders}
 use Rattle.bike_book.specs.Rows.{truth, number_value, rider_row}
 use Rattle.bike_writes.proofs.TextLemmas.{Makes}
 use Rattle.sqlite_tied.specs.Compute.{everything}
-use Rattle.bike_rows.proofs.WriteLaws.{row_put, row_updated}
+use Rattle.bike_sql.proofs.WriteLaws.{row_put, row_updated}
 use Rattle.bike_accepted.specs.declared.change.Change.TheVariants as change
 use Rattle.bike_book.specs.declared.row_change.RowChange.TheVariants as row
 use Rattle.bike_book.specs.Writes.{record_write, write_of}
@@ -17,7 +17,8 @@ pub adds_rider : (rider : ℕ) → Makes (insert_text Riders) (rider_row rider f
 unfolding everything
 adds_rider rider = adds_row Riders (λ s. row_put (unique_key Riders) (λ s tree. (refl, refl, refl, λ base. refl)) refl refl (λ rows. refl))
 
-pub sets_rider : (rider : ℕ) (blocked : Bool) → Makes (codes "UPDATE riders SET blocked = ?2 WHERE rider = ?1") (number_value rider ∷ Int (truth blocked) ∷ []) (record_write (change.SetRider rider blocked))
+pub sets_rider : (rider : ℕ) (blocked : Bool) → Makes (codes "UPDATE riders SET blocked = ?2 WHERE rider = ?1") (number_value rider ∷ Int (truth blocked) ∷ [])
+    (record_write (change.SetRider rider blocked))
 unfolding everything
 sets_rider rider blocked = sets_columns Riders _ _ (λ s. row_updated (unique_key Riders) 0 ((1, 1) ∷ []) _ (λ tree. (refl, refl, refl), refl) refl refl refl (λ r. refl) (λ r. refl))
 

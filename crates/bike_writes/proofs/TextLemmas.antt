@@ -5,9 +5,9 @@ use Rattle.sqlite_value.specs.declared.value.Value.TheVariants.{Int}
 use Rattle.sqlite_value.specs.Order.{Row}
 use Rattle.sqlite_schema.specs.declared.schema.Kind.TheVariants.{Integer}
 use Rattle.sqlite.specs.Values.{or_null, bound_value}
-use Rattle.bike_rows.proofs.CallLaws.{Does}
-use Rattle.bike_rows.proofs.CastLemmas.{suits}
-use Rattle.bike_rows.proofs.ParamLemmas.{text_or_null}
+use Rattle.bike_sql.proofs.CallLaws.{Does}
+use Rattle.bike_sql.proofs.CastLemmas.{suits}
+use Rattle.bike_sql.proofs.ParamLemmas.{text_or_null}
 use Rattle.bike_book.specs.Rows.{number_value}
 use Rattle.bike_book.specs.Writes.{RowWrite}
 use Rattle.bike_schema.specs.Tables.{tables_of}

@@ -9,5 +9,6 @@ use Rattle.bike_writes.specs.declared.fleet.PlaceColumns.{PlaceColumns}
 -- station_id, dock, rental, truck, ord
 abbrev pub columns_of : PlaceColumns → Row
 columns_of c =
-    or_null Text (option_map (λ text. text.now) c.station) ∷ or_null number_value c.dock ∷ or_null number_value c.rental ∷ or_null number_value c.truck ∷ or_null number_value c.order
+    or_null Text (option_map (λ text. text.now) c.station) ∷ or_null number_value c.dock ∷ or_null number_value c.rental
+    ∷ or_null number_value c.truck ∷ or_null number_value c.order
     ∷ []

@@ -8,13 +8,13 @@ ghost use Rattle.bike_schema.specs.Calls.{Writes};
 use bike_book::table;
 use bike_catalogue::{Plan, Region, Settings, System, VehicleType};
 use bike_fields::{Ident, Segment};
-use bike_rows::write::run;
-use bike_schema::{Staged, StatementFault};
+use bike_schema::{OpenTransaction, StatementFault};
+use bike_sql::write::run;
 use sqlite::{Alter, params};
 
 /// Adds the one row of `system`.
 pub(crate) fn set_system<S: Alter>(
-    tx: &mut Staged<'_, S>,
+    tx: &mut OpenTransaction<'_, S>,
     system: &System,
 ) -> Result<(), StatementFault>
     ensures { Writes S.Store tx.old.conn tx.new.conn result (record_write (change.SetSystem system.entry)) }
@@ -39,7 +39,7 @@ pub(crate) fn set_system<S: Alter>(
 
 /// Sets the columns of `system` that may change.
 pub(crate) fn change_system<S: Alter>(
-    tx: &mut Staged<'_, S>,
+    tx: &mut OpenTransaction<'_, S>,
     settings: &Settings,
 ) -> Result<(), StatementFault>
     ensures { Writes S.Store tx.old.conn tx.new.conn result (record_write (change.ChangeSystem settings.entry)) }
@@ -60,7 +60,10 @@ pub(crate) fn change_system<S: Alter>(
 }
 
 /// Adds a plan, without its segments.
-pub(crate) fn add_plan<S: Alter>(tx: &mut Staged<'_, S>, plan: &Plan) -> Result<(), StatementFault>
+pub(crate) fn add_plan<S: Alter>(
+    tx: &mut OpenTransaction<'_, S>,
+    plan: &Plan,
+) -> Result<(), StatementFault>
     ensures { Writes S.Store tx.old.conn tx.new.conn result (record_write (change.AddPlan plan.entry)) }
 {
     run(
@@ -78,7 +81,7 @@ pub(crate) fn add_plan<S: Alter>(tx: &mut Staged<'_, S>, plan: &Plan) -> Result<
 
 /// Adds the `seq`-th segment of a plan.
 pub(crate) fn add_segment<S: Alter>(
-    tx: &mut Staged<'_, S>,
+    tx: &mut OpenTransaction<'_, S>,
     plan: &Ident,
     seq: u32,
     segment: &Segment,
@@ -101,7 +104,7 @@ pub(crate) fn add_segment<S: Alter>(
 
 /// Adds a vehicle type.
 pub(crate) fn add_type<S: Alter>(
-    tx: &mut Staged<'_, S>,
+    tx: &mut OpenTransaction<'_, S>,
     vehicle_type: &VehicleType,
 ) -> Result<(), StatementFault>
     ensures { Writes S.Store tx.old.conn tx.new.conn result (record_write (change.AddType vehicle_type.entry)) }
@@ -122,7 +125,7 @@ pub(crate) fn add_type<S: Alter>(
 
 /// Sets the default plan of a type.
 pub(crate) fn set_plan<S: Alter>(
-    tx: &mut Staged<'_, S>,
+    tx: &mut OpenTransaction<'_, S>,
     type_id: &Ident,
     plan: &Ident,
 ) -> Result<(), StatementFault>
@@ -137,7 +140,7 @@ pub(crate) fn set_plan<S: Alter>(
 
 /// Adds a region.
 pub(crate) fn add_region<S: Alter>(
-    tx: &mut Staged<'_, S>,
+    tx: &mut OpenTransaction<'_, S>,
     region: &Region,
 ) -> Result<(), StatementFault>
     ensures { Writes S.Store tx.old.conn tx.new.conn result (record_write (change.AddRegion region.entry)) }

@@ -13,8 +13,8 @@ use crate::columns::state_number;
 use bike_book::table;
 use bike_fields::Ident;
 use bike_operator::{BikeState, NewPlace};
-use bike_rows::write::run;
-use bike_schema::{Staged, StatementFault};
+use bike_schema::{OpenTransaction, StatementFault};
+use bike_sql::write::run;
 use sqlite::{Alter, params};
 
 /// The columns of a place. Those of the other places are NULL.
@@ -55,7 +55,7 @@ fn columns_of<'a>(place: &NewPlace<'a>) -> PlaceColumns<'a>
 
 /// Adds a bicycle: fit, in the depot.
 pub(crate) fn add_bike<S: Alter>(
-    tx: &mut Staged<'_, S>,
+    tx: &mut OpenTransaction<'_, S>,
     bike: u32,
     type_id: &Ident,
 ) -> Result<(), StatementFault>
@@ -79,7 +79,7 @@ pub(crate) fn add_bike<S: Alter>(
 
 /// Sets a bicycle's state and place.
 pub(crate) fn set_bike<S: Alter>(
-    tx: &mut Staged<'_, S>,
+    tx: &mut OpenTransaction<'_, S>,
     bike: u32,
     state: BikeState,
     place: &NewPlace<'_>,
@@ -104,7 +104,7 @@ pub(crate) fn set_bike<S: Alter>(
 
 /// Adds a truck.
 pub(crate) fn add_truck<S: Alter>(
-    tx: &mut Staged<'_, S>,
+    tx: &mut OpenTransaction<'_, S>,
     truck: u32,
     capacity: u32,
 ) -> Result<(), StatementFault>

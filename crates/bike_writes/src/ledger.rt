@@ -8,13 +8,13 @@ use crate::columns::{kind_number, seconds_of};
 use bike_book::table;
 use bike_fixed::{Cents, Moment};
 use bike_ledger::Entry;
-use bike_rows::write::run;
-use bike_schema::{Staged, StatementFault};
+use bike_schema::{OpenTransaction, StatementFault};
+use bike_sql::write::run;
 use sqlite::{Alter, params};
 
 /// Adds an entry.
 pub(crate) fn add_entry<S: Alter>(
-    tx: &mut Staged<'_, S>,
+    tx: &mut OpenTransaction<'_, S>,
     entry: &Entry,
 ) -> Result<(), StatementFault>
     ensures { Writes S.Store tx.old.conn tx.new.conn result (write_of (row.AddEntry entry.entry)) }
@@ -35,7 +35,7 @@ pub(crate) fn add_entry<S: Alter>(
 
 /// Adds what is kept of a request.
 pub(crate) fn add_kept<S: Alter>(
-    tx: &mut Staged<'_, S>,
+    tx: &mut OpenTransaction<'_, S>,
     caller: &str,
     key: &str,
     command: &str,
@@ -53,7 +53,7 @@ pub(crate) fn add_kept<S: Alter>(
 
 /// Sets the operator's moment and sums.
 pub(crate) fn set_meta<S: Alter>(
-    tx: &mut Staged<'_, S>,
+    tx: &mut OpenTransaction<'_, S>,
     now: Moment,
     cash: Cents,
     revenue: Cents,

@@ -6,14 +6,14 @@ ghost use Rattle.bike_schema.specs.Calls.{Writes};
 
 use bike_book::table;
 use bike_fields::{Ident, Language, Name, NameKind};
-use bike_rows::write::run;
-use bike_schema::{Staged, StatementFault};
+use bike_schema::{OpenTransaction, StatementFault};
+use bike_sql::write::run;
 use sqlite::{Alter, params};
 
 /// Sets the name of what has this kind and identifier, or a plan's description. `system` has one row, under a key of
 /// its own.
 pub(crate) fn set_own_name<S: Alter>(
-    tx: &mut Staged<'_, S>,
+    tx: &mut OpenTransaction<'_, S>,
     kind: NameKind,
     id: &Ident,
     name: &Name,
@@ -38,7 +38,7 @@ pub(crate) fn set_own_name<S: Alter>(
 
 /// Adds a name in a further language.
 pub(crate) fn add_name<S: Alter>(
-    tx: &mut Staged<'_, S>,
+    tx: &mut OpenTransaction<'_, S>,
     kind: NameKind,
     id: &Ident,
     language: &Language,
@@ -56,7 +56,7 @@ pub(crate) fn add_name<S: Alter>(
 
 /// Sets a name in a further language.
 pub(crate) fn set_further_name<S: Alter>(
-    tx: &mut Staged<'_, S>,
+    tx: &mut OpenTransaction<'_, S>,
     kind: NameKind,
     id: &Ident,
     language: &Language,
@@ -74,7 +74,7 @@ pub(crate) fn set_further_name<S: Alter>(
 
 /// Removes a name in a further language.
 pub(crate) fn remove_name<S: Alter>(
-    tx: &mut Staged<'_, S>,
+    tx: &mut OpenTransaction<'_, S>,
     kind: NameKind,
     id: &Ident,
     language: &Language,

@@ -7,14 +7,14 @@ ghost use Rattle.bike_schema.specs.Calls.{Writes};
 use crate::columns::end_text;
 use bike_book::table;
 use bike_fields::Ident;
-use bike_rows::write::run;
-use bike_schema::{Staged, StatementFault};
+use bike_schema::{OpenTransaction, StatementFault};
+use bike_sql::write::run;
 use bike_texts::OrderEnd;
 use sqlite::{Alter, params};
 
 /// Adds an order, open, with nothing delivered.
 pub(crate) fn add_order<S: Alter>(
-    tx: &mut Staged<'_, S>,
+    tx: &mut OpenTransaction<'_, S>,
     order: u32,
     truck: u32,
     from_end: &OrderEnd,
@@ -43,7 +43,7 @@ pub(crate) fn add_order<S: Alter>(
 
 /// Sets how many bicycles of an order were delivered, and whether it is open.
 pub(crate) fn set_order<S: Alter>(
-    tx: &mut Staged<'_, S>,
+    tx: &mut OpenTransaction<'_, S>,
     order: u32,
     delivered: u32,
     is_open: bool,

@@ -9,13 +9,13 @@ use crate::columns::{seconds_of, text_in};
 use bike_book::table;
 use bike_fields::Ident;
 use bike_fixed::{Cents, Moment};
-use bike_rows::write::run;
-use bike_schema::{Staged, StatementFault};
+use bike_schema::{OpenTransaction, StatementFault};
+use bike_sql::write::run;
 use sqlite::{Alter, params};
 
 /// Adds a rental, open and without refunds.
 pub(crate) fn add_rental<S: Alter>(
-    tx: &mut Staged<'_, S>,
+    tx: &mut OpenTransaction<'_, S>,
     rental: u32,
     rider: u32,
     bike: u32,
@@ -46,7 +46,7 @@ pub(crate) fn add_rental<S: Alter>(
 
 /// Closes a rental, at a station or, where there is none, by a recovery.
 pub(crate) fn close_rental<S: Alter>(
-    tx: &mut Staged<'_, S>,
+    tx: &mut OpenTransaction<'_, S>,
     rental: u32,
     to_station: Option<&Ident>,
     finish: Moment,
@@ -69,7 +69,7 @@ pub(crate) fn close_rental<S: Alter>(
 
 /// Sets the sum of a rental's refunds.
 pub(crate) fn set_refunded<S: Alter>(
-    tx: &mut Staged<'_, S>,
+    tx: &mut OpenTransaction<'_, S>,
     rental: u32,
     refunded: Cents,
 ) -> Result<(), StatementFault>

@@ -7,12 +7,15 @@ ghost use Rattle.bike_schema.specs.Calls.{Writes};
 
 use bike_book::table;
 use bike_fixed::Cents;
-use bike_rows::write::run;
-use bike_schema::{Staged, StatementFault};
+use bike_schema::{OpenTransaction, StatementFault};
+use bike_sql::write::run;
 use sqlite::{Alter, params};
 
 /// Adds the row, not blocked and with balance 0.
-pub(crate) fn add_rider<S: Alter>(tx: &mut Staged<'_, S>, rider: u32) -> Result<(), StatementFault>
+pub(crate) fn add_rider<S: Alter>(
+    tx: &mut OpenTransaction<'_, S>,
+    rider: u32,
+) -> Result<(), StatementFault>
     ensures { Writes S.Store tx.old.conn tx.new.conn result (record_write (change.AddRider rider)) }
 {
     run(tx, table!(insert riders), params![rider, false, 0_i64])
@@ -20,7 +23,7 @@ pub(crate) fn add_rider<S: Alter>(tx: &mut Staged<'_, S>, rider: u32) -> Result<
 
 /// Sets whether the rider is blocked.
 pub(crate) fn set_rider<S: Alter>(
-    tx: &mut Staged<'_, S>,
+    tx: &mut OpenTransaction<'_, S>,
     rider: u32,
     is_blocked: bool,
 ) -> Result<(), StatementFault>
@@ -35,7 +38,7 @@ pub(crate) fn set_rider<S: Alter>(
 
 /// Sets the rider's balance.
 pub(crate) fn set_balance<S: Alter>(
-    tx: &mut Staged<'_, S>,
+    tx: &mut OpenTransaction<'_, S>,
     rider: u32,
     balance: Cents,
 ) -> Result<(), StatementFault>

@@ -18,11 +18,14 @@ use crate::stations::{
 };
 use bike_accepted::Change;
 use bike_book::RowChange;
-use bike_schema::{Staged, StatementFault};
+use bike_schema::{OpenTransaction, StatementFault};
 use sqlite::Alter;
 
 /// Puts, adds or removes the row of one record.
-fn put_record<S: Alter>(tx: &mut Staged<'_, S>, change: &Change<'_>) -> Result<(), StatementFault>
+fn put_record<S: Alter>(
+    tx: &mut OpenTransaction<'_, S>,
+    change: &Change<'_>,
+) -> Result<(), StatementFault>
     ensures { Writes S.Store tx.old.conn tx.new.conn result (record_write change.now) }
 {
     match *change {
@@ -101,7 +104,10 @@ fn put_record<S: Alter>(tx: &mut Staged<'_, S>, change: &Change<'_>) -> Result<(
 /// in a row that isn't there change nothing, nor does the removal of such a row. `NoMemory` comes where the database
 /// wanted memory that was refused, and `StoreFailed` for all else that it refused. After an error the tables are as
 /// before the call, or the transaction is undone.
-pub fn put<S: Alter>(tx: &mut Staged<'_, S>, change: &RowChange<'_>) -> Result<(), StatementFault>
+pub fn put<S: Alter>(
+    tx: &mut OpenTransaction<'_, S>,
+    change: &RowChange<'_>,
+) -> Result<(), StatementFault>
     ensures { Writes S.Store tx.old.conn tx.new.conn result (write_of change.now) }
 {
     match *change {

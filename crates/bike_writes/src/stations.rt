@@ -10,13 +10,13 @@ use bike_book::table;
 use bike_catalogue::Station;
 use bike_fields::{Ident, Position};
 use bike_fixed::Moment;
-use bike_rows::write::run;
-use bike_schema::{Staged, StatementFault};
+use bike_schema::{OpenTransaction, StatementFault};
+use bike_sql::write::run;
 use sqlite::{Alter, params};
 
 /// Adds a station: installed, renting, returning, with all docks available, and in no region.
 pub(crate) fn add_station<S: Alter>(
-    tx: &mut Staged<'_, S>,
+    tx: &mut OpenTransaction<'_, S>,
     station: &Station,
     reported: Moment,
 ) -> Result<(), StatementFault>
@@ -45,7 +45,7 @@ pub(crate) fn add_station<S: Alter>(
 
 /// Sets a station's flags and its report.
 pub(crate) fn set_station<S: Alter>(
-    tx: &mut Staged<'_, S>,
+    tx: &mut OpenTransaction<'_, S>,
     station: &Ident,
     is_installed: bool,
     is_renting: bool,
@@ -70,7 +70,7 @@ pub(crate) fn set_station<S: Alter>(
 
 /// Sets how many docks of a station are available, how many are broken, and when the station reported last.
 pub(crate) fn set_docks_reported<S: Alter>(
-    tx: &mut Staged<'_, S>,
+    tx: &mut OpenTransaction<'_, S>,
     station: &Ident,
     free: u32,
     broken: u32,
@@ -88,7 +88,7 @@ pub(crate) fn set_docks_reported<S: Alter>(
 
 /// Sets the position of a station, in microdegrees.
 pub(crate) fn move_station<S: Alter>(
-    tx: &mut Staged<'_, S>,
+    tx: &mut OpenTransaction<'_, S>,
     station: &Ident,
     position: &Position,
 ) -> Result<(), StatementFault>
@@ -108,7 +108,7 @@ pub(crate) fn move_station<S: Alter>(
 
 /// Sets how many docks a station has, and how many of them are available.
 pub(crate) fn set_dock_count<S: Alter>(
-    tx: &mut Staged<'_, S>,
+    tx: &mut OpenTransaction<'_, S>,
     station: &Ident,
     docks: u32,
     free: u32,
@@ -124,7 +124,7 @@ pub(crate) fn set_dock_count<S: Alter>(
 
 /// Sets the region in which a station stands; with none it stands in none.
 pub(crate) fn set_region<S: Alter>(
-    tx: &mut Staged<'_, S>,
+    tx: &mut OpenTransaction<'_, S>,
     station: &Ident,
     region: Option<&Ident>,
 ) -> Result<(), StatementFault>
@@ -140,7 +140,7 @@ pub(crate) fn set_region<S: Alter>(
 
 /// Adds a dock.
 pub(crate) fn add_dock<S: Alter>(
-    tx: &mut Staged<'_, S>,
+    tx: &mut OpenTransaction<'_, S>,
     station: &Ident,
     dock: u32,
     is_broken: bool,
@@ -156,7 +156,7 @@ pub(crate) fn add_dock<S: Alter>(
 
 /// Sets whether a dock is broken.
 pub(crate) fn set_dock<S: Alter>(
-    tx: &mut Staged<'_, S>,
+    tx: &mut OpenTransaction<'_, S>,
     station: &Ident,
     dock: u32,
     is_broken: bool,
@@ -172,7 +172,7 @@ pub(crate) fn set_dock<S: Alter>(
 
 /// Adds the counts of a type at a station.
 pub(crate) fn add_count<S: Alter>(
-    tx: &mut Staged<'_, S>,
+    tx: &mut OpenTransaction<'_, S>,
     station: &Ident,
     type_id: &Ident,
     available: u32,
@@ -190,7 +190,7 @@ pub(crate) fn add_count<S: Alter>(
 
 /// Sets the counts of a type at a station.
 pub(crate) fn set_count<S: Alter>(
-    tx: &mut Staged<'_, S>,
+    tx: &mut OpenTransaction<'_, S>,
     station: &Ident,
     type_id: &Ident,
     available: u32,

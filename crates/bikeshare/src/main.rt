@@ -3,7 +3,7 @@
 
 ghost use Rattle.bike_command_line.specs.Program.{IsWithin, IsWithinOnFile};
 
-use bike_app::{Counted, Fault, Progress, exit_code, run_on_file, run_words_in_memory};
+use bike_app::{CountingReader, Fault, Progress, exit_code, run_on_file, run_words_in_memory};
 use bike_command_line::{FileTask, Mistake, Task, WordsFault, read_words};
 use bike_server::{clock_moment, listen, listen_on_file};
 use sqlite::{Connection, Unknown};
@@ -55,7 +55,7 @@ fn run_on<W: Write>(
         return run_words_in_memory(rt.alloc(), task, clock, &mut rt.stdin(), out);
     }
     let is_shown = is_looked_on(rt, task);
-    let mut input = Counted::new(rt.stdin(), Progress::new(rt.stderr(), is_shown));
+    let mut input = CountingReader::new(rt.stdin(), Progress::new(rt.stderr(), is_shown));
     let mut progress = Progress::new(rt.stderr(), is_shown);
     progress.opening();
     let (_, end) = run_on_file(

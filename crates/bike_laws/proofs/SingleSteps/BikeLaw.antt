@@ -27,7 +27,8 @@ use Rattle.bike_operator.specs.Operator.{Operator, Station, Kept, texts_cmp, ite
 use Rattle.bike_operator.specs.Counts.{docked_at, is_fit, is_retired, is_depot, is_on_truck, is_for_order, order_load}
 use Rattle.bike_operator.specs.Names.{is_own_language}
 use Rattle.bike_operator.specs.View.{view_of, docked_view, rental_of, rental_view, end_at}
-use Rattle.bike_operator.specs.Steps.{on, tests, effect, key_changed, with_report, place_reported, bike_reported, bike_marked, bike_placed, rental_added, rental_closed, with_fare, fare_now, after_start, after_end, after_recovery, refunded_by, placed_at_end, with_delivery, own_name_set, further_name_set, new_station, dock_marked}
+use Rattle.bike_operator.specs.Steps.{on, tests, effect, key_changed, with_report, place_reported, bike_reported, bike_marked, bike_placed, rental_added, rental_closed, with_fare, fare_now}
+use Rattle.bike_operator.specs.Steps.{after_start, after_end, after_recovery, refunded_by, placed_at_end, with_delivery, own_name_set, further_name_set, new_station, dock_marked}
 use Rattle.bike_operator.specs.Sound.{HasDock, IsRidden, IsPlace, AreBikesSound}
 use Rattle.bike_laws.specs.SingleSteps.Accepted.{AcceptedKeeps}
 use Rattle.bike_laws.proofs.SingleSteps.Moment.{at_moment, reports}
@@ -38,7 +39,9 @@ use Rattle.bike_laws.proofs.SingleSteps.TestLemmas.{none_holds, dock_of, same_so
 use Rattle.bike_laws.proofs.SingleSteps.FoundLemmas.{docked_of, free_dock, rental_row, ridden_in}
 use Rattle.bike_laws.proofs.SingleSteps.UnloadLemmas.{TakesBike, IsUnloaded, unloaded_of}
 use Rattle.bike_laws.proofs.SingleSteps.CatalogueLemmas.{docks_changed, docks_added}
-use Rattle.bike_laws.proofs.SingleSteps.BikeLemmas.{bike_parts, same_bikes, types_bikes, stations_bikes, rental_added_bikes, rental_closed_bikes, order_added_bikes, order_changed_bikes, order_delivered_bikes, IsFree, free_rental, free_truck, free_depot, bike_added_bikes, IsPlaceable, bike_placed_bikes, rental_left, bike_marked_bikes}
+use Rattle.bike_laws.proofs.SingleSteps.BikeLemmas.{bike_parts, same_bikes, types_bikes, stations_bikes, rental_added_bikes, rental_closed_bikes, order_added_bikes, order_changed_bikes}
+use Rattle.bike_laws.proofs.SingleSteps.BikeLemmas.{order_delivered_bikes, IsFree, free_rental, free_truck, free_depot, bike_added_bikes, IsPlaceable, bike_placed_bikes, rental_left}
+use Rattle.bike_laws.proofs.SingleSteps.BikeLemmas.{bike_marked_bikes}
 
 later_bikes : (s : Operator) (now : ℕ) (k : FinMap texts_cmp Kept) → AreBikesSound s → AreBikesSound (at_moment s now k)
 later_bikes s now k h = same_bikes s (at_moment s now k) refl h
@@ -47,7 +50,8 @@ later_bikes s now k h = same_bikes s (at_moment s now k) refl h
 
 reported_bikes : (s : Operator) (now : ℕ) (k : FinMap texts_cmp Kept) (station : List ℕ) → AreBikesSound (at_moment s now k) → AreBikesSound (at_moment (with_report station now s) now k)
 reported_bikes s now k station h =
-    stations_bikes (at_moment s now k) (key_changed s.stations station (reports now)) (docks_changed (at_moment s now k) (at_moment (with_report station now s) now k) station (reports now) (λ x. omega arith) refl) h
+    stations_bikes (at_moment s now k) (key_changed s.stations station (reports now))
+    (docks_changed (at_moment s now k) (at_moment (with_report station now s) now k) station (reports now) (λ x. omega arith) refl) h
 
 place_reported_bikes : (s : Operator) (now : ℕ) (k : FinMap texts_cmp Kept) (p : Place) → AreBikesSound (at_moment s now k) → AreBikesSound (at_moment (place_reported p now s) now k)
 place_reported_bikes s now k (place.Dock station dock) h = reported_bikes s now k station h
@@ -86,7 +90,8 @@ started_bikes s now k rider station dock (Some d) e fit h =
     reported_bikes (bike_placed d.bike p (rental_added r s)) now k station (bike_placed_bikes n d.bike p can with_rental)
 
 -- a rental is closed that no bicycle is in any more, at a fare
-charged_bikes : (s : Operator) (now : ℕ) (k : FinMap texts_cmp Kept) (bike : ℕ) (p : Place) (r : RentalView) (to_station : Option (List ℕ)) → item_numbered r.number s.rentals ≡ Some r.rental → r.rental.bike ≡ bike
+charged_bikes : (s : Operator) (now : ℕ) (k : FinMap texts_cmp Kept) (bike : ℕ) (p : Place) (r : RentalView) (to_station : Option (List ℕ)) → item_numbered r.number s.rentals ≡ Some r.rental
+    → r.rental.bike ≡ bike
     → p ≢ place.Rental r.number → IsPlaceable (at_moment s now k) bike p → AreBikesSound (at_moment s now k) → AreBikesSound (at_moment (bike_placed bike p (with_fare r to_station now s)) now k)
 charged_bikes s now k bike p r to_station found bike_is other can h =
     let at : Operator = at_moment s now k in
@@ -95,7 +100,8 @@ charged_bikes s now k bike p r to_station found bike_is other can h =
     same_bikes (rental_closed r.number to_station now (fare_now r now) (bike_placed bike p at)) (at_moment (bike_placed bike p (with_fare r to_station now s)) now k) refl closed
 
 ended_bikes : (s : Operator) (now : ℕ) (k : FinMap texts_cmp Kept) (bike : ℕ) (station : List ℕ) (dock : ℕ) (o : Option RentalView) → rental_of s (map.get s.bikes bike) ≡ o
-    → HasDock (at_moment s now k) station dock → IsFree (at_moment s now k) (place.Dock station dock) → AreBikesSound (at_moment s now k) → AreBikesSound (at_moment (after_end bike station dock now o s) now k)
+    → HasDock (at_moment s now k) station dock → IsFree (at_moment s now k) (place.Dock station dock) → AreBikesSound (at_moment s now k)
+    → AreBikesSound (at_moment (after_end bike station dock now o s) now k)
 ended_bikes s now k bike station dock None e has free h = h
 ended_bikes s now k bike station dock (Some r) e has free h =
     let x = ridden_in s bike r e in
@@ -111,9 +117,11 @@ ended_bikes s now k bike station dock (Some r) e has free h =
           absurd cc;
       free = free;
     } in
-    reported_bikes (bike_placed bike (place.Dock station dock) (with_fare r (Some station) now s)) now k station (charged_bikes s now k bike (place.Dock station dock) r (Some station) x.rental bike_is (λ e. absurd cc) can h)
+    reported_bikes (bike_placed bike (place.Dock station dock) (with_fare r (Some station) now s)) now k station
+    (charged_bikes s now k bike (place.Dock station dock) r (Some station) x.rental bike_is (λ e. absurd cc) can h)
 
-recovered_bikes : (s : Operator) (now : ℕ) (k : FinMap texts_cmp Kept) (rental : ℕ) (o : Option RentalView) → rental_view s rental (item_numbered rental s.rentals) ≡ o → AreBikesSound (at_moment s now k)
+recovered_bikes : (s : Operator) (now : ℕ) (k : FinMap texts_cmp Kept) (rental : ℕ) (o : Option RentalView) → rental_view s rental (item_numbered rental s.rentals) ≡ o
+    → AreBikesSound (at_moment s now k)
     → AreBikesSound (at_moment (after_recovery now o s) now k)
 recovered_bikes s now k rental None e h = h
 recovered_bikes s now k rental (Some r) e h =
@@ -122,7 +130,8 @@ recovered_bikes s now k rental (Some r) e h =
     let placed = charged_bikes s now k r.rental.bike place.Depot r None (rw x.number_is x.found) refl (λ e. absurd cc) can h in
     bike_marked_bikes (at_moment (bike_placed r.rental.bike place.Depot (with_fare r None now s)) now k) r.rental.bike Disabled (λ b found e. absurd cc) placed
 
-refunded_bikes : (s : Operator) (now : ℕ) (k : FinMap texts_cmp Kept) (amount : ℕ) (o : Option RentalView) → AreBikesSound (at_moment s now k) → AreBikesSound (at_moment (refunded_by amount now o s) now k)
+refunded_bikes : (s : Operator) (now : ℕ) (k : FinMap texts_cmp Kept) (amount : ℕ) (o : Option RentalView) → AreBikesSound (at_moment s now k)
+    → AreBikesSound (at_moment (refunded_by amount now o s) now k)
 refunded_bikes s now k amount None h = h
 refunded_bikes s now k amount (Some r) h = same_bikes (at_moment s now k) (at_moment (refunded_by amount now (Some r) s) now k) refl h
 
@@ -137,13 +146,15 @@ placed_at_end_bikes s now k bike end.Depot dock takes fit h =
     bike_placed_bikes (at_moment s now k) bike place.Depot (record { placed = λ b found. tt; retired = λ b found is. refl; free = free_depot (at_moment s now k) }) h
 placed_at_end_bikes s now k bike (end.Station station) dock takes fit h =
     reported_bikes (bike_placed bike (place.Dock station dock) s) now k station
-    (bike_placed_bikes (at_moment s now k) bike (place.Dock station dock) (record { placed = λ b found. takes.0; retired = λ b found is. absurd (fit b found is); free = free_dock (at_moment s now k) station dock h takes.1 }) h)
+    (bike_placed_bikes (at_moment s now k) bike (place.Dock station dock)
+    (record { placed = λ b found. takes.0; retired = λ b found is. absurd (fit b found is); free = free_dock (at_moment s now k) station dock h takes.1 }) h)
 
 takes_later : (s : Operator) (now : ℕ) (k : FinMap texts_cmp Kept) (e : OrderEnd) (dock : ℕ) → TakesBike s e dock → TakesBike (at_moment s now k) e dock
 takes_later s now k end.Depot dock h = tt
 takes_later s now k (end.Station station) dock h = (record { row = h.0.row; found = h.0.found; low = h.0.low; high = h.0.high }, h.1)
 
-unloaded_bikes : (s : Operator) (now : ℕ) (k : FinMap texts_cmp Kept) (truck order bike : ℕ) (side : Side) (dock : ℕ) (x : Order) → IsUnloaded s truck order bike side dock x → AreBikesSound (at_moment s now k)
+unloaded_bikes : (s : Operator) (now : ℕ) (k : FinMap texts_cmp Kept) (truck order bike : ℕ) (side : Side) (dock : ℕ) (x : Order) → IsUnloaded s truck order bike side dock x
+    → AreBikesSound (at_moment s now k)
     → AreBikesSound (at_moment (with_delivery order side (placed_at_end bike (end_at side x) dock now s)) now k)
 unloaded_bikes s now k truck order bike side dock x can h = go side placed where
   fit : (b : Bike) → map.get s.bikes bike ≡ Some b → is_retired b.state ≡ true → ⊥
@@ -152,7 +163,8 @@ unloaded_bikes s now k truck order bike side dock x can h = go side placed where
   placed : AreBikesSound (at_moment (placed_at_end bike (end_at side x) dock now s) now k)
   placed = placed_at_end_bikes s now k bike (end_at side x) dock (takes_later s now k (end_at side x) dock can.takes) fit h
 
-  go : (to : Side) → AreBikesSound (at_moment (placed_at_end bike (end_at side x) dock now s) now k) → AreBikesSound (at_moment (with_delivery order to (placed_at_end bike (end_at side x) dock now s)) now k)
+  go : (to : Side) → AreBikesSound (at_moment (placed_at_end bike (end_at side x) dock now s) now k)
+      → AreBikesSound (at_moment (with_delivery order to (placed_at_end bike (end_at side x) dock now s)) now k)
   go From i = i
   go To i = order_delivered_bikes (at_moment (placed_at_end bike (end_at side x) dock now s) now k) order i
 
@@ -205,16 +217,19 @@ pub bikes_law : AcceptedKeeps AreBikesSound
 bikes_law s now (command.AddType t) k order good free late =
     types_bikes (at_moment s now k) (map.insert s.types t.type_id t) (known_added text_order s.types t.type_id t) (later_bikes s now k order.bikes)
 bikes_law s now (command.SetPlan type_id plan) k order good free late =
-    types_bikes (at_moment s now k) (key_changed s.types type_id (λ t. record t { plan_id = plan })) (known_changed text_order s.types type_id (λ t. record t { plan_id = plan })) (later_bikes s now k order.bikes)
+    types_bikes (at_moment s now k) (key_changed s.types type_id (λ t. record t { plan_id = plan })) (known_changed text_order s.types type_id (λ t. record t { plan_id = plan }))
+    (later_bikes s now k order.bikes)
 bikes_law s now (command.AddStation x) k order good free late =
     let tested = none_holds (tests (view_of s (command.AddStation x)) (command.AddStation x)) free in
     let at : Operator = at_moment s now k in
     stations_bikes at (map.insert s.stations x.station_id (new_station x now))
-    (docks_added at (record at { stations = map.insert s.stations x.station_id (new_station x now) }) x.station_id (new_station x now) (no_station (map.get s.stations x.station_id) tested.0) refl) (later_bikes s now k order.bikes)
+    (docks_added at (record at { stations = map.insert s.stations x.station_id (new_station x now) }) x.station_id (new_station x now) (no_station (map.get s.stations x.station_id) tested.0) refl)
+    (later_bikes s now k order.bikes)
 bikes_law s now (command.SetStation station installed renting returning) k order good free late =
     let at : Operator = at_moment s now k in
     let f : Station → Station = λ x. record x { is_installed = installed; is_renting = renting; is_returning = returning; reported = now } in
-    stations_bikes at (key_changed s.stations station f) (docks_changed at (record at { stations = key_changed s.stations station f }) station f (λ x. omega arith) refl) (later_bikes s now k order.bikes)
+    stations_bikes at (key_changed s.stations station f) (docks_changed at (record at { stations = key_changed s.stations station f }) station f (λ x. omega arith) refl)
+    (later_bikes s now k order.bikes)
 bikes_law s now (command.MarkDock station dock broken) k order good free late =
     reported_bikes (dock_marked station dock broken s) now k station (same_bikes s (at_moment (dock_marked station dock broken s) now k) refl order.bikes)
 bikes_law s now (command.AddBike bike type_id) k order good free late =
@@ -239,7 +254,8 @@ bikes_law s now (command.End bike station dock) k order good free late =
 bikes_law s now (command.Recover rental) k order good free late = recovered_bikes s now k rental (rental_view s rental (item_numbered rental s.rentals)) refl (later_bikes s now k order.bikes)
 bikes_law s now (command.Refund rental amount) k order good free late = refunded_bikes s now k amount (rental_view s rental (item_numbered rental s.rentals)) (later_bikes s now k order.bikes)
 bikes_law s now (command.OpenOrder truck from_end to_end type_id count) k order good free late =
-    order_added_bikes (at_moment s now k) (record { truck = truck; from_end = from_end; to_end = to_end; type_id = type_id; count = count; delivered = 0; is_open = true }) (later_bikes s now k order.bikes)
+    order_added_bikes (at_moment s now k) (record { truck = truck; from_end = from_end; to_end = to_end; type_id = type_id; count = count; delivered = 0; is_open = true })
+    (later_bikes s now k order.bikes)
 bikes_law s now (command.Load truck order bike) k o good free late =
     let tested = none_holds (tests (view_of s (command.Load truck order bike)) (command.Load truck order bike)) free in
     let x = some_of (item_numbered order s.orders) tested.1.0 in
@@ -264,19 +280,23 @@ bikes_law s now (command.CloseOrder order) k o good free late =
     let tested = none_holds (tests (view_of s (command.CloseOrder order)) (command.CloseOrder order)) free in
     let x = some_of (item_numbered order s.orders) tested.0 in
     let none = no_more (order_load s order) tested.1.1.0 in
-    order_changed_bikes (at_moment s now k) order (λ o. record o { is_open = false }) (λ bike b truck found is. for_order order truck b.place is (uncounted number_order (λ (y : Bike). is_for_order order y.place) s.bikes bike b none found))
+    order_changed_bikes (at_moment s now k) order (λ o. record o { is_open = false })
+    (λ bike b truck found is. for_order order truck b.place is (uncounted number_order (λ (y : Bike). is_for_order order y.place) s.bikes bike b none found))
     (later_bikes s now k o.bikes)
 bikes_law s now (command.SetRegion station region) k order good free late =
     let at : Operator = at_moment s now k in
     let f : Station → Station = λ x. record x { region = region } in
-    stations_bikes at (key_changed s.stations station f) (docks_changed at (record at { stations = key_changed s.stations station f }) station f (λ x. omega arith) refl) (later_bikes s now k order.bikes)
+    stations_bikes at (key_changed s.stations station f) (docks_changed at (record at { stations = key_changed s.stations station f }) station f (λ x. omega arith) refl)
+    (later_bikes s now k order.bikes)
 bikes_law s now (command.SetName kind id language name) k order good free late = named_bikes s now k kind id language name (is_own_language s.system language) order.bikes
 bikes_law s now (command.MoveStation station p) k order good free late =
     let at : Operator = at_moment s now k in
     let f : Station → Station = λ x. record x { row = moved_to p x.row } in
-    stations_bikes at (key_changed s.stations station f) (docks_changed at (record at { stations = key_changed s.stations station f }) station f (λ x. omega arith) refl) (later_bikes s now k order.bikes)
+    stations_bikes at (key_changed s.stations station f) (docks_changed at (record at { stations = key_changed s.stations station f }) station f (λ x. omega arith) refl)
+    (later_bikes s now k order.bikes)
 bikes_law s now (command.AddDocks station count) k order good free late =
     let at : Operator = at_moment s now k in
     let f : Station → Station = λ x. record x { row = more_docks count x.row } in
-    stations_bikes at (key_changed s.stations station f) (docks_changed at (record at { stations = key_changed s.stations station f }) station f (λ x. omega arith) refl) (later_bikes s now k order.bikes)
+    stations_bikes at (key_changed s.stations station f) (docks_changed at (record at { stations = key_changed s.stations station f }) station f (λ x. omega arith) refl)
+    (later_bikes s now k order.bikes)
 bikes_law s now c k order good free late = unchanged s now c k refl order.bikes

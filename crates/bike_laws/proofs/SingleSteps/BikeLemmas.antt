@@ -83,7 +83,8 @@ same_bikes s n e h =
       carried = λ bike truck order b found is. same_carried s n orders b.type_id truck order;
     }) h
 
-pub types_bikes : (s : Operator) (types : FinMap text_cmp TypeRow) → ((id : List ℕ) → map.contains_key s.types id ≡ true → map.contains_key types id ≡ true) → AreBikesSound s → AreBikesSound (record s { types = types })
+pub types_bikes : (s : Operator) (types : FinMap text_cmp TypeRow) → ((id : List ℕ) → map.contains_key s.types id ≡ true → map.contains_key types id ≡ true) → AreBikesSound s
+    → AreBikesSound (record s { types = types })
 types_bikes s types known h =
     let n : Operator = record s { types = types } in
     bikes_stand s n (record {
@@ -120,7 +121,8 @@ rentals_bikes s rentals ridden h =
     }) h
 
 orders_bikes : (s : Operator) (orders : List Order)
-    → ((bike truck order : ℕ) (b : Bike) → map.get s.bikes bike ≡ Some b → b.place ≡ place.Truck truck order → IsCarried s b.type_id truck order → IsCarried (record s { orders = orders }) b.type_id truck order)
+    → ((bike truck order : ℕ) (b : Bike) → map.get s.bikes bike ≡ Some b → b.place ≡ place.Truck truck order → IsCarried s b.type_id truck order
+    → IsCarried (record s { orders = orders }) b.type_id truck order)
     → AreBikesSound s → AreBikesSound (record s { orders = orders })
 orders_bikes s orders carried h =
     let n : Operator = record s { orders = orders } in
@@ -173,12 +175,25 @@ order_delivered_bikes s number h =
     let k = number_kept number (λ (o : Order). record o { delivered = o.delivered + 1 }) s.orders order i.row i.found in
     kept b.type_id truck order i k.row k.found_is k.is) h
   where
-    kept : (type_id : List ℕ) (truck order : ℕ) (i : IsCarried s type_id truck order) (row : Order) → item_numbered order (number_changed number (λ o. record o { delivered = o.delivered + 1 }) s.orders) ≡ Some row
+    kept : (type_id : List ℕ) (truck order : ℕ) (i : IsCarried s type_id truck order) (row : Order)
+        → item_numbered order (number_changed number (λ o. record o { delivered = o.delivered + 1 }) s.orders) ≡ Some row
         → IsKept (λ (o : Order). record o { delivered = o.delivered + 1 }) i.row row → IsCarried (order_changed number (λ o. record o { delivered = o.delivered + 1 }) s) type_id truck order
     kept type_id truck order i row found (Same is) =
-        record { row = row; found = found; not_closed = ap (λ (o : Order). o.is_open) is ∙ i.not_closed; truck_is = ap (λ (o : Order). o.truck) is ∙ i.truck_is; type_is = ap (λ (o : Order). o.type_id) is ∙ i.type_is }
+        record {
+          row = row;
+          found = found;
+          not_closed = ap (λ (o : Order). o.is_open) is ∙ i.not_closed;
+          truck_is = ap (λ (o : Order). o.truck) is ∙ i.truck_is;
+          type_is = ap (λ (o : Order). o.type_id) is ∙ i.type_is;
+        }
     kept type_id truck order i row found (Turned is) =
-        record { row = row; found = found; not_closed = ap (λ (o : Order). o.is_open) is ∙ i.not_closed; truck_is = ap (λ (o : Order). o.truck) is ∙ i.truck_is; type_is = ap (λ (o : Order). o.type_id) is ∙ i.type_is }
+        record {
+          row = row;
+          found = found;
+          not_closed = ap (λ (o : Order). o.is_open) is ∙ i.not_closed;
+          truck_is = ap (λ (o : Order). o.truck) is ∙ i.truck_is;
+          type_is = ap (λ (o : Order). o.type_id) is ∙ i.type_is;
+        }
 
 -- ---- bicycles with one added or changed
 
@@ -215,7 +230,8 @@ bike_added_bikes s bike type_id known low high full h = record {
         let x = h.bikes q y found in
         record { low = x.low; high = x.high; type_is = x.type_is; placed = same_place s next refl refl refl q y.type_id y.place x.placed; retired = x.retired }
 
-    is_apart : (a b : ℕ) (x y : Bike) (station : List ℕ) (dock : ℕ) → IsAdded s.bikes bike new a x → IsAdded s.bikes bike new b y → x.place ≡ place.Dock station dock → y.place ≡ place.Dock station dock → a ≡ b
+    is_apart : (a b : ℕ) (x y : Bike) (station : List ℕ) (dock : ℕ) → IsAdded s.bikes bike new a x → IsAdded s.bikes bike new b y → x.place ≡ place.Dock station dock
+        → y.place ≡ place.Dock station dock → a ≡ b
     is_apart a b x y station dock (New same is) other ex ey = let e : place.Depot ≡ place.Dock station dock = ap (λ (z : Bike). z.place) (sym is) ∙ ex in absurd cc
     is_apart a b x y station dock (Old apart found) (New same is) ex ey = let e : place.Depot ≡ place.Dock station dock = ap (λ (z : Bike). z.place) (sym is) ∙ ey in absurd cc
     is_apart a b x y station dock (Old apart found) (Old apart_too found_too) ex ey = h.apart a b x y station dock found found_too ex ey
@@ -240,7 +256,13 @@ module _ (s : Operator) (bike : ℕ) (p : Place) where
       is_bike : (q : ℕ) (y : Bike) → IsChanged s.bikes bike place_here q y → IsBikeAt (bike_placed bike p s) q y
       is_bike q y (Changed b same found is) =
           let x = h.bikes bike b found in
-          rw (same, is) (record { low = x.low; high = x.high; type_is = x.type_is; placed = same_place s (bike_placed bike p s) refl refl refl bike b.type_id p (can.placed b found); retired = can.retired b found })
+          rw (same, is) (record {
+            low = x.low;
+            high = x.high;
+            type_is = x.type_is;
+            placed = same_place s (bike_placed bike p s) refl refl refl bike b.type_id p (can.placed b found);
+            retired = can.retired b found;
+          })
       is_bike q y (Other apart found) =
           let x = h.bikes q y found in
           record { low = x.low; high = x.high; type_is = x.type_is; placed = same_place s (bike_placed bike p s) refl refl refl q y.type_id y.place x.placed; retired = x.retired }
@@ -288,7 +310,13 @@ module _ (s : Operator) (bike : ℕ) (state : BikeState) where
       is_bike : (q : ℕ) (y : Bike) → IsChanged s.bikes bike mark q y → IsBikeAt (bike_marked bike state s) q y
       is_bike q y (Changed b same found is) =
           let x = h.bikes bike b found in
-          rw (same, is) (record { low = x.low; high = x.high; type_is = x.type_is; placed = same_place s (bike_marked bike state s) refl refl refl bike b.type_id b.place x.placed; retired = can b found })
+          rw (same, is) (record {
+            low = x.low;
+            high = x.high;
+            type_is = x.type_is;
+            placed = same_place s (bike_marked bike state s) refl refl refl bike b.type_id b.place x.placed;
+            retired = can b found;
+          })
       is_bike q y (Other apart found) =
           let x = h.bikes q y found in
           record { low = x.low; high = x.high; type_is = x.type_is; placed = same_place s (bike_marked bike state s) refl refl refl q y.type_id y.place x.placed; retired = x.retired }

@@ -27,12 +27,14 @@ use Rattle.bike_operator.specs.Operator.{Operator, Station, Kept, texts_cmp, ite
 use Rattle.bike_operator.specs.Counts.{docked_at}
 use Rattle.bike_operator.specs.Names.{is_own_language}
 use Rattle.bike_operator.specs.View.{view_of, station_view, docked_view, rental_of, rental_view, has_region}
-use Rattle.bike_operator.specs.Steps.{on, tests, effect, key_changed, place_reported, bike_reported, bike_marked, bike_placed, after_start, after_end, after_recovery, refunded_by, placed_at_end, after_unload, system_named, own_name_set, further_name_set, new_station, dock_marked}
+use Rattle.bike_operator.specs.Steps.{on, tests, effect, key_changed, place_reported, bike_reported, bike_marked, bike_placed, after_start, after_end, after_recovery, refunded_by, placed_at_end}
+use Rattle.bike_operator.specs.Steps.{after_unload, system_named, own_name_set, further_name_set, new_station, dock_marked}
 use Rattle.bike_operator.specs.Sound.{IsCatalogueSound}
 use Rattle.bike_laws.specs.SingleSteps.Accepted.{AcceptedKeeps}
 use Rattle.bike_laws.proofs.SingleSteps.Moment.{at_moment, reports}
 use Rattle.bike_laws.proofs.SingleSteps.TestLemmas.{none_holds, dock_of, no_station, holds}
-use Rattle.bike_laws.proofs.SingleSteps.CatalogueLemmas.{region_stands, catalogue_of, same_catalogue, system_set, system_changed, settings_kept, plan_added, plan_changed, type_added, type_changed, region_added, region_changed, station_added, station_changed, station_reported, dock_marked_catalogue}
+use Rattle.bike_laws.proofs.SingleSteps.CatalogueLemmas.{region_stands, catalogue_of, same_catalogue, system_set, system_changed, settings_kept, plan_added, plan_changed, type_added, type_changed}
+use Rattle.bike_laws.proofs.SingleSteps.CatalogueLemmas.{region_added, region_changed, station_added, station_changed, station_reported, dock_marked_catalogue}
 
 later_catalogue : (s : Operator) (now : ℕ) (k : FinMap texts_cmp Kept) → s.now ≤ now → IsCatalogueSound s → IsCatalogueSound (at_moment s now k)
 later_catalogue s now k late h = same_catalogue s (at_moment s now k) late refl h
@@ -186,7 +188,8 @@ catalogue_law s now (command.SetStation station installed renting returning) k o
 catalogue_law s now (command.MarkDock station dock broken) k order good free late =
     let no = none_holds (tests (view_of s (command.MarkDock station dock broken)) (command.MarkDock station dock broken)) free in
     let has = dock_of (at_moment s now k) station dock (map.get s.stations station) refl no.0 no.1.0 good.1.0.0 in
-    station_reported (at_moment (dock_marked station dock broken s) now k) station now (omega arith) (dock_marked_catalogue (at_moment s now k) station dock broken has (later_catalogue s now k late order.catalogue))
+    station_reported (at_moment (dock_marked station dock broken s) now k) station now (omega arith)
+    (dock_marked_catalogue (at_moment s now k) station dock broken has (later_catalogue s now k late order.catalogue))
 catalogue_law s now (command.MarkBike bike disabled) k order good free late =
     bike_reported_catalogue s now k (later_catalogue s now k late order.catalogue) (bike_marked bike (if disabled then Disabled else Fit) s).bikes (map.get s.bikes bike)
 catalogue_law s now (command.Start rider station dock) k order good free late =
@@ -219,7 +222,8 @@ catalogue_law s now (command.ChangeSystem x) k order good free late =
       base_url = good.1.1.1.1.0;
       ttl = good.1.1.1.1.1.0.1;
     } in
-    system_set (at_moment s now k) (option_map (system_with x) s.system) (system_changed (system_with x) (settings_kept x settings) s.system order.catalogue.system) (later_catalogue s now k late order.catalogue)
+    system_set (at_moment s now k) (option_map (system_with x) s.system) (system_changed (system_with x) (settings_kept x settings) s.system order.catalogue.system)
+    (later_catalogue s now k late order.catalogue)
 catalogue_law s now (command.MoveStation station p) k order good free late =
     station_changed (at_moment s now k) station (λ x. record x { row = moved_to p x.row })
     (record {

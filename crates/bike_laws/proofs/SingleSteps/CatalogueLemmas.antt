@@ -12,7 +12,8 @@ use Rattle.bike_operator.specs.declared.limits.TheConstants.{MOST_PLANS, MOST_TY
 use Rattle.bike_operator.specs.View.{has_region}
 use Rattle.bike_operator.specs.Steps.{key_changed, with_report, dock_marked}
 use Rattle.bike_operator.specs.Sound.{IsCatalogueSound, IsSetSystem, IsPlanAt, IsTypeAt, IsRegionAt, IsStationAt, HasDock, IsBrokenDock}
-use Rattle.bike_laws.proofs.SingleSteps.MapLemmas.{text_order, texts_order, tied, IsAdded, New, Old, IsChanged, Changed, Other, added_at, changed_at, kept_added, known_added, known_changed, few_added, len_changed, IsKept, Same, Turned, kept_changed}
+use Rattle.bike_laws.proofs.SingleSteps.MapLemmas.{text_order, texts_order, tied, IsAdded, New, Old, IsChanged, Changed, Other, added_at, changed_at, kept_added, known_added, known_changed, few_added}
+use Rattle.bike_laws.proofs.SingleSteps.MapLemmas.{len_changed, IsKept, Same, Turned, kept_changed}
 
 -- ---- docks that go on being there
 
@@ -41,11 +42,13 @@ broken_stand s n key docks h = record { station = h.station; dock = h.dock; key_
 
 -- ---- regions that go on being there
 
-pub region_stands : (s n : Operator) → ((id : List ℕ) → map.contains_key s.regions id ≡ true → map.contains_key n.regions id ≡ true) → (region : Option (List ℕ)) → has_region s region ≡ true → has_region n region ≡ true
+pub region_stands : (s n : Operator) → ((id : List ℕ) → map.contains_key s.regions id ≡ true → map.contains_key n.regions id ≡ true) → (region : Option (List ℕ)) → has_region s region ≡ true
+    → has_region n region ≡ true
 region_stands s n known None h = refl
 region_stands s n known (Some region) h = known region h
 
-station_stands : (s n : Operator) → s.now ≤ n.now → ((id : List ℕ) → map.contains_key s.regions id ≡ true → map.contains_key n.regions id ≡ true) → (id : List ℕ) (x : Station) → IsStationAt s id x → IsStationAt n id x
+station_stands : (s n : Operator) → s.now ≤ n.now → ((id : List ℕ) → map.contains_key s.regions id ≡ true → map.contains_key n.regions id ≡ true) → (id : List ℕ) (x : Station) → IsStationAt s id x
+    → IsStationAt n id x
 station_stands s n later known id x h = record { id_is = h.id_is; good = h.good; by_now = omega (arith, h.by_now, later); region = region_stands s n known x.region h.region }
 
 -- ---- the catalogue where other records change
@@ -134,7 +137,8 @@ plans_changed s plans each few known h =
       few_stations = h.few_stations;
     }
 
-pub plan_added : (s : Operator) (p : PlanRow) → IsPlanAt p.plan_id p → leb MOST_PLANS (map.len s.plans) ≡ false → IsCatalogueSound s → IsCatalogueSound (record s { plans = map.insert s.plans p.plan_id p })
+pub plan_added : (s : Operator) (p : PlanRow) → IsPlanAt p.plan_id p → leb MOST_PLANS (map.len s.plans) ≡ false → IsCatalogueSound s
+    → IsCatalogueSound (record s { plans = map.insert s.plans p.plan_id p })
 plan_added s p good full h =
     plans_changed s (map.insert s.plans p.plan_id p) (λ id q found. is_plan id q (added_at text_order s.plans p.plan_id p id q found)) (few_added text_order s.plans p.plan_id p MOST_PLANS full)
     (known_added text_order s.plans p.plan_id p) h
@@ -178,7 +182,8 @@ types_changed s types each few h =
       few_stations = h.few_stations;
     }
 
-pub type_added : (s : Operator) (t : TypeRow) → IsTypeAt s t.type_id t → leb MOST_TYPES (map.len s.types) ≡ false → IsCatalogueSound s → IsCatalogueSound (record s { types = map.insert s.types t.type_id t })
+pub type_added : (s : Operator) (t : TypeRow) → IsTypeAt s t.type_id t → leb MOST_TYPES (map.len s.types) ≡ false → IsCatalogueSound s
+    → IsCatalogueSound (record s { types = map.insert s.types t.type_id t })
 type_added s t good full h =
     types_changed s (map.insert s.types t.type_id t) (λ id q found. is_type id q (added_at text_order s.types t.type_id t id q found)) (few_added text_order s.types t.type_id t MOST_TYPES full) h
   where
@@ -220,9 +225,11 @@ regions_changed s regions each few known h =
       few_stations = h.few_stations;
     }
 
-pub region_added : (s : Operator) (r : RegionRow) → IsRegionAt r.region_id r → leb MOST_REGIONS (map.len s.regions) ≡ false → IsCatalogueSound s → IsCatalogueSound (record s { regions = map.insert s.regions r.region_id r })
+pub region_added : (s : Operator) (r : RegionRow) → IsRegionAt r.region_id r → leb MOST_REGIONS (map.len s.regions) ≡ false → IsCatalogueSound s
+    → IsCatalogueSound (record s { regions = map.insert s.regions r.region_id r })
 region_added s r good full h =
-    regions_changed s (map.insert s.regions r.region_id r) (λ id q found. is_region id q (added_at text_order s.regions r.region_id r id q found)) (few_added text_order s.regions r.region_id r MOST_REGIONS full)
+    regions_changed s (map.insert s.regions r.region_id r) (λ id q found. is_region id q (added_at text_order s.regions r.region_id r id q found))
+    (few_added text_order s.regions r.region_id r MOST_REGIONS full)
     (known_added text_order s.regions r.region_id r) h
   where
     is_region : (id : List ℕ) (q : RegionRow) → IsAdded s.regions r.region_id r id q → IsRegionAt id q
@@ -236,7 +243,8 @@ pub record IsKeptRegion (f : RegionRow → RegionRow) : Type 0 where
 
 pub region_changed : (s : Operator) (region : List ℕ) (f : RegionRow → RegionRow) → IsKeptRegion f → IsCatalogueSound s → IsCatalogueSound (record s { regions = key_changed s.regions region f })
 region_changed s region f keeps h =
-    regions_changed s (key_changed s.regions region f) (λ id q found. is_region id q (changed_at text_order s.regions region f id q found)) (rw (len_changed text_order s.regions region f) h.few_regions)
+    regions_changed s (key_changed s.regions region f) (λ id q found. is_region id q (changed_at text_order s.regions region f id q found))
+    (rw (len_changed text_order s.regions region f) h.few_regions)
     (known_changed text_order s.regions region f) h
   where
     is_region : (id : List ℕ) (q : RegionRow) → IsChanged s.regions region f id q → IsRegionAt id q
@@ -282,7 +290,8 @@ pub record IsKeptStation (s : Operator) (station : List ℕ) (f : Station → St
   pub by_now : (x : Station) → x.reported ≤ s.now → (f x).reported ≤ s.now
   pub region : (x : Station) → has_region s x.region ≡ true → has_region s (f x).region ≡ true
 
-pub station_changed : (s : Operator) (station : List ℕ) (f : Station → Station) → IsKeptStation s station f → IsCatalogueSound s → IsCatalogueSound (record s { stations = key_changed s.stations station f })
+pub station_changed : (s : Operator) (station : List ℕ) (f : Station → Station) → IsKeptStation s station f → IsCatalogueSound s
+    → IsCatalogueSound (record s { stations = key_changed s.stations station f })
 station_changed s station f keeps h =
     stations_changed s (key_changed s.stations station f) (λ id q found. is_station id q (changed_at text_order s.stations station f id q found))
     (rw (len_changed text_order s.stations station f) h.few_stations) (docks_changed s (record s { stations = key_changed s.stations station f }) station f keeps.docks refl) h
@@ -304,7 +313,8 @@ station_reported s station now late h =
     (record { id = λ x. refl; docks = λ x. omega arith; good = λ x found good. good; by_now = λ x old. late; region = λ x known. known }) h
 
 -- broken docks with another list of them
-broken_changed : (s : Operator) (broken : FinSet texts_cmp) → ((key : DockKey) → set.contains broken key ≡ true → IsBrokenDock s key) → IsCatalogueSound s → IsCatalogueSound (record s { broken = broken })
+broken_changed : (s : Operator) (broken : FinSet texts_cmp) → ((key : DockKey) → set.contains broken key ≡ true → IsBrokenDock s key) → IsCatalogueSound s
+    → IsCatalogueSound (record s { broken = broken })
 broken_changed s broken each h =
     let n : Operator = record s { broken = broken } in
     record {

@@ -73,7 +73,8 @@ module _ {K : Type 0} {R : K → K → Ordering} (o : IsKeyOrder R) where
     count-put test k v [] h = rw (count-cons (λ (e : K × X). test e.1) (k, v) []) (omega arith)
     count-put test k v (e ∷ es) h = go (R k e.0) refl (count-put test k v es (and_second (below_all R e.0 es) (is_sorted R es) h)) where
       go : (r : Ordering) → R k e.0 ≡ r → count (λ e. test e.1) (put R k v es) + weight test (map.find R k es) ≡ count (λ e. test e.1) es + one (test v)
-          → count (λ e. test e.1) (by_order r ((k, v) ∷ e ∷ es) ((e.0, v) ∷ es) (e ∷ put R k v es)) + weight test (cond (is_eq r) (Some e.1) (map.find R k es)) ≡ count (λ e. test e.1) (e ∷ es) + one (test v)
+          → count (λ e. test e.1) (by_order r ((k, v) ∷ e ∷ es) ((e.0, v) ∷ es) (e ∷ put R k v es)) + weight test (cond (is_eq r) (Some e.1) (map.find R k es))
+          ≡ count (λ e. test e.1) (e ∷ es) + one (test v)
       go Less is rest =
           let none = below_none k es (below_less k e.0 es is (and_first (below_all R e.0 es) (is_sorted R es) h)) in
           rw none (let c = count-cons (λ (e : K × X). test e.1) (k, v) (e ∷ es) in omega (arith, c))
@@ -92,7 +93,8 @@ module _ {K : Type 0} {R : K → K → Ordering} (o : IsKeyOrder R) where
         → count (λ e. test e.1) (map.entries (key_changed m k f)) + one (test x) ≡ count (λ e. test e.1) (map.entries m) + one (test (f x))
     count-changed test m k f x found =
         let c : count (λ e. test e.1) (map.entries (map.insert m k (f x))) + weight test (Some x) ≡ count (λ e. test e.1) (map.entries m) + one (test (f x)) =
-        subst (λ (o : Option X). count (λ e. test e.1) (map.entries (map.insert m k (f x))) + weight test o ≡ count (λ e. test e.1) (map.entries m) + one (test (f x))) found (count-added test m k (f x)) in
+        subst (λ (o : Option X). count (λ e. test e.1) (map.entries (map.insert m k (f x))) + weight test o ≡ count (λ e. test e.1) (map.entries m) + one (test (f x))) found
+        (count-added test m k (f x)) in
         subst (λ (o : Option X). count (λ e. test e.1) (map.entries (found_changed m k f o)) + one (test x) ≡ count (λ e. test e.1) (map.entries m) + one (test (f x))) (sym found) c
 
     -- at most one more where the changed value passes, and no more where it doesn't
@@ -118,7 +120,8 @@ module _ {K : Type 0} {R : K → K → Ordering} (o : IsKeyOrder R) where
     found_fails : (test : X → Bool) (q : K) (y : X) (es : List (K × X)) → count (λ e. test e.1) es ≡ 0 → map.find R q es ≡ Some y → test y ≡ false
     found_fails test q y [] none found = absurd cc
     found_fails test q y (e ∷ es) none found = go (found_fails test q y es) (eq_by_cmp R q e.0) (test e.1) refl (sym (count-cons (λ (e : K × X). test e.1) e es) ∙ none) found where
-      go : (count (λ e. test e.1) es ≡ 0 → map.find R q es ≡ Some y → test y ≡ false) → (b t : Bool) → test e.1 ≡ t → one t + count (λ e. test e.1) es ≡ 0 → cond b (Some e.1) (map.find R q es) ≡ Some y → test y ≡ false
+      go : (count (λ e. test e.1) es ≡ 0 → map.find R q es ≡ Some y → test y ≡ false) → (b t : Bool) → test e.1 ≡ t → one t + count (λ e. test e.1) es ≡ 0
+          → cond b (Some e.1) (map.find R q es) ≡ Some y → test y ≡ false
       go rest b true is none found = absurd (omega (arith, none))
       go rest true false is none found = let same : e.1 ≡ y = cc in subst (λ (z : X). test z ≡ false) same is
       go rest false false is none found = rest (omega (arith, none)) found
@@ -131,7 +134,8 @@ module _ {K : Type 0} {R : K → K → Ordering} (o : IsKeyOrder R) where
     missed_fails : (test : X → Bool) (q : K) (y : X) (es : List (K × X)) → find (λ e. test e.1) es ≡ None → map.find R q es ≡ Some y → test y ≡ false
     missed_fails test q y [] none found = absurd cc
     missed_fails test q y (e ∷ es) none found = go (missed_fails test q y es) (eq_by_cmp R q e.0) (test e.1) refl none found where
-      go : (find (λ e. test e.1) es ≡ None → map.find R q es ≡ Some y → test y ≡ false) → (b t : Bool) → test e.1 ≡ t → cond t (Some e) (find (λ e. test e.1) es) ≡ None → cond b (Some e.1) (map.find R q es) ≡ Some y → test y ≡ false
+      go : (find (λ e. test e.1) es ≡ None → map.find R q es ≡ Some y → test y ≡ false) → (b t : Bool) → test e.1 ≡ t → cond t (Some e) (find (λ e. test e.1) es) ≡ None
+          → cond b (Some e.1) (map.find R q es) ≡ Some y → test y ≡ false
       go rest b true is none found = absurd cc
       go rest true false is none found = let same : e.1 ≡ y = cc in subst (λ (z : X). test z ≡ false) same is
       go rest false false is none found = rest none found
@@ -142,7 +146,8 @@ module _ {K : Type 0} {R : K → K → Ordering} (o : IsKeyOrder R) where
     first_found : (test : X → Bool) (b : K × X) (es : List (K × X)) → T (is_sorted R es) → find (λ e. test e.1) es ≡ Some b → (map.find R b.0 es ≡ Some b.1) × (test b.1 ≡ true)
     first_found test b [] h found = absurd cc
     first_found test b (e ∷ es) h found = go (first_found test b es (and_second (below_all R e.0 es) (is_sorted R es) h)) (test e.1) refl found where
-      go : (find (λ e. test e.1) es ≡ Some b → (map.find R b.0 es ≡ Some b.1) × (test b.1 ≡ true)) → (t : Bool) → test e.1 ≡ t → cond t (Some e) (find (λ e. test e.1) es) ≡ Some b → (map.find R b.0 (e ∷ es) ≡ Some b.1) × (test b.1 ≡ true)
+      go : (find (λ e. test e.1) es ≡ Some b → (map.find R b.0 es ≡ Some b.1) × (test b.1 ≡ true)) → (t : Bool) → test e.1 ≡ t → cond t (Some e) (find (λ e. test e.1) es) ≡ Some b
+          → (map.find R b.0 (e ∷ es) ≡ Some b.1) × (test b.1 ≡ true)
       go rest true is found = let same : e ≡ b = cc in subst (λ (z : K × X). (map.find R z.0 (e ∷ es) ≡ Some z.1) × (test z.1 ≡ true)) same (find_head e es, is)
       go rest false is found = let r = rest found in (find_tail b.0 b.1 e es h r.0, r.1)
 

@@ -83,7 +83,8 @@ module _ (s : Operator) (sound : AreBikesSound s) where
     more_low : (n : ℕ) (p : Place) → one (works p && is_low (suc n) p) ≡ one (works p && is_low n p) + one (is_dock station (suc n) p && not (is_broken s station (suc n)))
     more_low n (place.Dock at dock) = go (eqb_tells dock (suc n)) where
       go : ((dock == suc n) ≡ true) × (dock ≡ suc n) ⊎ ((dock == suc n) ≡ false) × (dock ≡ suc n → ⊥)
-          → one ((bytes_eq at station && not (is_broken s station dock)) && leb dock (suc n)) ≡ one ((bytes_eq at station && not (is_broken s station dock)) && leb dock n) + one ((bytes_eq at station && (dock == suc n)) && not (is_broken s station (suc n)))
+          → one ((bytes_eq at station && not (is_broken s station dock)) && leb dock (suc n))
+          ≡ one ((bytes_eq at station && not (is_broken s station dock)) && leb dock n) + one ((bytes_eq at station && (dock == suc n)) && not (is_broken s station (suc n)))
       go (inl same) =
           let up : leb dock (suc n) ≡ true = (let e = same.1 in grind (arith, nat_tests, e)) in
           let down : leb dock n ≡ false = (let e = same.1 in grind (arith, nat_tests, e)) in

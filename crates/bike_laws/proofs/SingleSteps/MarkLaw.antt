@@ -36,7 +36,8 @@ in_and false c = refl
 module _ (s next : Operator) (at : List ℕ) (n : ℕ) (broken : Bool) (h : HasMarked s next at n broken) where
   marked_at : (station : List ℕ) (m : ℕ) → is_broken next station m ≡ cond (eq_by_cmp texts_cmp (dock_key station m) (dock_key at n)) broken (is_broken s station m)
   marked_at station m = ap (λ (b : FinSet texts_cmp). set.contains b (dock_key station m)) h.marks ∙ go broken where
-    go : (b : Bool) → set.contains (cond b (set.insert s.broken (dock_key at n)) (set.remove s.broken (dock_key at n))) (dock_key station m) ≡ cond (eq_by_cmp texts_cmp (dock_key station m) (dock_key at n)) b (is_broken s station m)
+    go : (b : Bool) → set.contains (cond b (set.insert s.broken (dock_key at n)) (set.remove s.broken (dock_key at n))) (dock_key station m)
+        ≡ cond (eq_by_cmp texts_cmp (dock_key station m) (dock_key at n)) b (is_broken s station m)
     go true = set.contains-insert texts_order.total s.broken (dock_key at n) (dock_key station m) ∙ in_or (eq_by_cmp texts_cmp (dock_key station m) (dock_key at n)) (is_broken s station m)
     go false = set.contains-remove texts_order.total s.broken (dock_key at n) (dock_key station m) ∙ in_and (eq_by_cmp texts_cmp (dock_key station m) (dock_key at n)) (is_broken s station m)
 
@@ -90,7 +91,8 @@ module _ (s next : Operator) (at : List ℕ) (n : ℕ) (broken : Bool) (h : HasM
 
     broken_docks : (docks : ℕ) → 1 ≤ n → n ≤ docks → docks_broken next at docks + one (is_broken s at n) ≡ docks_broken s at docks + one broken
     broken_docks docks low high =
-        dock_turned (λ m. is_broken s at m) (λ m. is_broken next at m) n (λ m apart. sym (marked_other at m (λ e f. apart f))) docks low high ∙ ap (λ (b : Bool). docks_broken s at docks + one b) marked_here
+        dock_turned (λ m. is_broken s at m) (λ m. is_broken next at m) n (λ m apart. sym (marked_other at m (λ e f. apart f))) docks low high
+        ∙ ap (λ (b : Bool). docks_broken s at docks + one b) marked_here
 
     -- THE LAW OF A DOCK MARKED
     pub mark_law : MarkLaw s next at n broken

@@ -25,7 +25,8 @@ use Rattle.bike_operator.specs.Operator.{Operator, Station, Kept, text_cmp, text
 use Rattle.bike_operator.specs.Counts.{docked_at}
 use Rattle.bike_operator.specs.Names.{is_own_language, has_named, has_language, further_names}
 use Rattle.bike_operator.specs.View.{view_of, end_at, docked_view, rental_of, rental_view}
-use Rattle.bike_operator.specs.Steps.{tests, effect, key_changed, with_report, place_reported, bike_reported, bike_marked, bike_placed, rental_added, with_fare, after_start, after_end, after_recovery, refunded_by, with_delivery, placed_at_end, after_unload, system_named, own_name_set, further_name_set, further_name_removed, new_station, dock_marked}
+use Rattle.bike_operator.specs.Steps.{tests, effect, key_changed, with_report, place_reported, bike_reported, bike_marked, bike_placed, rental_added, with_fare, after_start, after_end, after_recovery}
+use Rattle.bike_operator.specs.Steps.{refunded_by, with_delivery, placed_at_end, after_unload, system_named, own_name_set, further_name_set, further_name_removed, new_station, dock_marked}
 use Rattle.bike_operator.specs.Sound.{AreNamesSound}
 use Rattle.bike_laws.specs.SingleSteps.Accepted.{AcceptedKeeps}
 use Rattle.bike_laws.proofs.SingleSteps.Moment.{at_moment, reports}
@@ -203,9 +204,11 @@ names_law s now (command.AddStation x) k order good free late =
     kept_names s (effect s now (command.AddStation x)) now k (with_stations s (map.insert s.stations x.station_id new) (known_added text_order s.stations x.station_id new)) order.names
 names_law s now (command.SetStation station installed renting returning) k order good free late =
     let f : Station → Station = λ x. record x { is_installed = installed; is_renting = renting; is_returning = returning; reported = now } in
-    kept_names s (effect s now (command.SetStation station installed renting returning)) now k (with_stations s (key_changed s.stations station f) (known_changed text_order s.stations station f)) order.names
+    kept_names s (effect s now (command.SetStation station installed renting returning)) now k
+    (with_stations s (key_changed s.stations station f) (known_changed text_order s.stations station f)) order.names
 names_law s now (command.MarkDock station dock broken) k order good free late =
-    kept_names s (effect s now (command.MarkDock station dock broken)) now k (reported s now (dock_marked station dock broken s) station (others s (dock_marked station dock broken s) refl refl)) order.names
+    kept_names s (effect s now (command.MarkDock station dock broken)) now k
+    (reported s now (dock_marked station dock broken s) station (others s (dock_marked station dock broken s) refl refl)) order.names
 names_law s now (command.MarkBike bike disabled) k order good free late =
     let n : Operator = bike_marked bike (if disabled then Disabled else Fit) s in
     kept_names s (effect s now (command.MarkBike bike disabled)) now k (bike_reports s now n (map.get s.bikes bike) (others s n refl refl)) order.names

@@ -70,7 +70,8 @@ module _ (s : Operator) (kind : NameKind) (id language name : List ℕ) (free : 
   with_name = record s { more_names = map.insert s.more_names (name_key kind id language) name }
 
   -- one more of what the name is given to, and as many of all else
-  pub length-further_names-added : (other : NameKind) (other_id : List ℕ) → length (further_names with_name other other_id) ≡ length (further_names s other other_id) + one (is_name_of other other_id (name_key kind id language))
+  pub length-further_names-added : (other : NameKind) (other_id : List ℕ)
+      → length (further_names with_name other other_id) ≡ length (further_names s other other_id) + one (is_name_of other other_id (name_key kind id language))
   length-further_names-added other other_id =
       let all = names_counted with_name other other_id in
       let old = names_counted s other other_id in
@@ -78,7 +79,8 @@ module _ (s : Operator) (kind : NameKind) (id language name : List ℕ) (free : 
       omega (arith, all, old, more)
 
   -- where fewer than so many were there, no more are there now
-  pub few_named : (most : ℕ) → length (further_names s kind id) < most → (other : NameKind) (other_id : List ℕ) → length (further_names s other other_id) ≤ most → length (further_names with_name other other_id) ≤ most
+  pub few_named : (most : ℕ) → length (further_names s kind id) < most → (other : NameKind) (other_id : List ℕ) → length (further_names s other other_id) ≤ most
+      → length (further_names with_name other other_id) ≤ most
   few_named most room other other_id few = go (is_name_of other other_id (name_key kind id language)) refl where
     go : (b : Bool) → is_name_of other other_id (name_key kind id language) ≡ b → length (further_names with_name other other_id) ≤ most
     go true is =
@@ -208,7 +210,8 @@ name_added s kind id language name good free room h =
     is_name n keeps key y (Old apart found) = name_stands s n keeps key y (h.names key y found)
 
 -- a further name that is there becomes another
-pub name_changed : (s : Operator) (key : NameKey) (name old : List ℕ) → map.get s.more_names key ≡ Some old → is_name name ≡ true → AreNamesSound s → AreNamesSound (record s { more_names = map.insert s.more_names key name })
+pub name_changed : (s : Operator) (key : NameKey) (name old : List ℕ) → map.get s.more_names key ≡ Some old → is_name name ≡ true → AreNamesSound s
+    → AreNamesSound (record s { more_names = map.insert s.more_names key name })
 name_changed s key name old found good h =
     let n : Operator = record s { more_names = map.insert s.more_names key name } in
     record {

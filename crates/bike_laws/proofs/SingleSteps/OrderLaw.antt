@@ -24,14 +24,16 @@ use Rattle.bike_operator.specs.Operator.{Operator, Station, Kept, texts_cmp, ite
 use Rattle.bike_operator.specs.Counts.{docked_at, is_for_order, truck_load, order_load}
 use Rattle.bike_operator.specs.Names.{is_own_language}
 use Rattle.bike_operator.specs.View.{view_of, truck_view, docked_view, rental_of, rental_view, end_at, has_end}
-use Rattle.bike_operator.specs.Steps.{tests, effect, key_changed, with_report, place_reported, bike_reported, bike_marked, bike_placed, after_start, after_end, after_recovery, refunded_by, placed_at_end, with_delivery, own_name_set, further_name_set, new_station, dock_marked}
+use Rattle.bike_operator.specs.Steps.{tests, effect, key_changed, with_report, place_reported, bike_reported, bike_marked, bike_placed, after_start, after_end, after_recovery, refunded_by}
+use Rattle.bike_operator.specs.Steps.{placed_at_end, with_delivery, own_name_set, further_name_set, new_station, dock_marked}
 use Rattle.bike_operator.specs.Sound.{IsOrderAt, AreOrdersSound}
 use Rattle.bike_laws.specs.SingleSteps.Accepted.{AcceptedKeeps}
 use Rattle.bike_laws.proofs.SingleSteps.Moment.{at_moment, reports}
 use Rattle.bike_laws.proofs.SingleSteps.MapLemmas.{text_order, known_added, known_changed}
 use Rattle.bike_laws.proofs.SingleSteps.TestLemmas.{none_holds, some_of, truck_of, no_truck, on_row, on_view, holds}
 use Rattle.bike_laws.proofs.SingleSteps.UnloadLemmas.{IsUnloaded, unloaded_of}
-use Rattle.bike_laws.proofs.SingleSteps.OrderLemmas.{end_stands, order_parts, same_orders, known_orders, bike_placed_orders, bike_marked_orders, bike_added_orders, bike_loaded_orders, one_less, none_loaded, none_on_truck, truck_added_orders, order_added_orders, order_changed_orders}
+use Rattle.bike_laws.proofs.SingleSteps.OrderLemmas.{end_stands, order_parts, same_orders, known_orders, bike_placed_orders, bike_marked_orders, bike_added_orders, bike_loaded_orders, one_less}
+use Rattle.bike_laws.proofs.SingleSteps.OrderLemmas.{none_loaded, none_on_truck, truck_added_orders, order_added_orders, order_changed_orders}
 
 later_orders : (s : Operator) (now : ℕ) (k : FinMap texts_cmp Kept) → AreOrdersSound s → AreOrdersSound (at_moment s now k)
 later_orders s now k h = same_orders s (at_moment s now k) refl h
@@ -78,9 +80,11 @@ recovered_orders s now k (Some r) h =
     let at : Operator = at_moment s now k in
     let bike = r.rental.bike in
     let placed = bike_placed_orders at bike place.Depot (λ truck. refl) (λ order. refl) h in
-    same_orders (bike_marked bike Disabled (bike_placed bike place.Depot at)) (at_moment (after_recovery now (Some r) s) now k) refl (bike_marked_orders (bike_placed bike place.Depot at) bike Disabled placed)
+    same_orders (bike_marked bike Disabled (bike_placed bike place.Depot at)) (at_moment (after_recovery now (Some r) s) now k) refl
+    (bike_marked_orders (bike_placed bike place.Depot at) bike Disabled placed)
 
-refunded_orders : (s : Operator) (now : ℕ) (k : FinMap texts_cmp Kept) (amount : ℕ) (o : Option RentalView) → AreOrdersSound (at_moment s now k) → AreOrdersSound (at_moment (refunded_by amount now o s) now k)
+refunded_orders : (s : Operator) (now : ℕ) (k : FinMap texts_cmp Kept) (amount : ℕ) (o : Option RentalView) → AreOrdersSound (at_moment s now k)
+    → AreOrdersSound (at_moment (refunded_by amount now o s) now k)
 refunded_orders s now k amount None h = h
 refunded_orders s now k amount (Some r) h = same_orders (at_moment s now k) (at_moment (refunded_by amount now (Some r) s) now k) refl h
 
@@ -93,7 +97,8 @@ delivered_order s number o h filled = record { truck_is = h.truck_is; some = h.s
 closed_order : (s : Operator) (number : ℕ) (o : Order) → IsOrderAt s number o → IsOrderAt s number (record o { is_open = false })
 closed_order s number o h = record { truck_is = h.truck_is; some = h.some; from_is = h.from_is; to_is = h.to_is; ends = h.ends; type_is = h.type_is; filled = h.filled }
 
-placed_at_end_orders : (s : Operator) (now : ℕ) (k : FinMap texts_cmp Kept) (bike : ℕ) (e : OrderEnd) (dock : ℕ) → AreOrdersSound (at_moment s now k) → AreOrdersSound (at_moment (placed_at_end bike e dock now s) now k)
+placed_at_end_orders : (s : Operator) (now : ℕ) (k : FinMap texts_cmp Kept) (bike : ℕ) (e : OrderEnd) (dock : ℕ) → AreOrdersSound (at_moment s now k)
+    → AreOrdersSound (at_moment (placed_at_end bike e dock now s) now k)
 placed_at_end_orders s now k bike end.Depot dock h = bike_placed_orders (at_moment s now k) bike place.Depot (λ truck. refl) (λ order. refl) h
 placed_at_end_orders s now k bike (end.Station station) dock h =
     reported_orders (bike_placed bike (place.Dock station dock) s) now k station (bike_placed_orders (at_moment s now k) bike (place.Dock station dock) (λ truck. refl) (λ order. refl) h)
@@ -114,7 +119,8 @@ brought s now k order bike (end.Station station) dock b found was h =
     order_changed_orders n order (λ o. record o { delivered = o.delivered + 1 })
     (λ o found. delivered_order n order o (placed.orders order o found) (let old : o.delivered + order_load s order ≤ o.count = (h.orders order o found).filled in omega (arith, less, old))) placed
 
-unloaded_orders : (s : Operator) (now : ℕ) (k : FinMap texts_cmp Kept) (truck order bike : ℕ) (side : Side) (dock : ℕ) (x : Order) → IsUnloaded s truck order bike side dock x → AreOrdersSound (at_moment s now k)
+unloaded_orders : (s : Operator) (now : ℕ) (k : FinMap texts_cmp Kept) (truck order bike : ℕ) (side : Side) (dock : ℕ) (x : Order) → IsUnloaded s truck order bike side dock x
+    → AreOrdersSound (at_moment s now k)
     → AreOrdersSound (at_moment (with_delivery order side (placed_at_end bike (end_at side x) dock now s)) now k)
 unloaded_orders s now k truck order bike From dock x can h = placed_at_end_orders s now k bike x.from_end dock h
 unloaded_orders s now k truck order bike To dock x can h =
@@ -159,9 +165,11 @@ pub orders_law : AcceptedKeeps AreOrdersSound
 orders_law s now (command.AddType t) k order good free late =
     known_orders (at_moment s now k) (map.insert s.types t.type_id t) s.stations (known_added text_order s.types t.type_id t) (λ id known. known) (later_orders s now k order.orders)
 orders_law s now (command.SetPlan type_id plan) k order good free late =
-    known_orders (at_moment s now k) (key_changed s.types type_id (λ t. record t { plan_id = plan })) s.stations (known_changed text_order s.types type_id (λ t. record t { plan_id = plan })) (λ id known. known) (later_orders s now k order.orders)
+    known_orders (at_moment s now k) (key_changed s.types type_id (λ t. record t { plan_id = plan })) s.stations (known_changed text_order s.types type_id (λ t. record t { plan_id = plan }))
+    (λ id known. known) (later_orders s now k order.orders)
 orders_law s now (command.AddStation x) k order good free late =
-    known_orders (at_moment s now k) s.types (map.insert s.stations x.station_id (new_station x now)) (λ id known. known) (known_added text_order s.stations x.station_id (new_station x now)) (later_orders s now k order.orders)
+    known_orders (at_moment s now k) s.types (map.insert s.stations x.station_id (new_station x now)) (λ id known. known) (known_added text_order s.stations x.station_id (new_station x now))
+    (later_orders s now k order.orders)
 orders_law s now (command.SetStation station installed renting returning) k order good free late =
     let f : Station → Station = λ x. record x { is_installed = installed; is_renting = renting; is_returning = returning; reported = now } in
     known_orders (at_moment s now k) s.types (key_changed s.stations station f) (λ id known. known) (known_changed text_order s.stations station f) (later_orders s now k order.orders)
@@ -170,13 +178,15 @@ orders_law s now (command.MarkDock station dock broken) k order good free late =
 orders_law s now (command.AddBike bike type_id) k order good free late =
     bike_added_orders (at_moment s now k) bike (record { type_id = type_id; state = Fit; place = place.Depot }) refl (later_orders s now k order.orders)
 orders_law s now (command.MarkBike bike disabled) k order good free late =
-    bike_reported_orders (bike_marked bike (if disabled then Disabled else Fit) s) now k (map.get s.bikes bike) (bike_marked_orders (at_moment s now k) bike (if disabled then Disabled else Fit) (later_orders s now k order.orders))
+    bike_reported_orders (bike_marked bike (if disabled then Disabled else Fit) s) now k (map.get s.bikes bike)
+    (bike_marked_orders (at_moment s now k) bike (if disabled then Disabled else Fit) (later_orders s now k order.orders))
 orders_law s now (command.RetireBike bike) k order good free late = bike_marked_orders (at_moment s now k) bike Retired (later_orders s now k order.orders)
 orders_law s now (command.AddTruck truck capacity) k order good free late =
     let tested = none_holds (tests (view_of s (command.AddTruck truck capacity)) (command.AddTruck truck capacity)) free in
     let absent = no_truck (map.get s.trucks truck) tested.0 in
     let none : truck_load s truck ≡ 0 = none_loaded s truck order.bikes order.orders absent in
-    truck_added_orders (at_moment s now k) truck (record { capacity = capacity }) (record { low = good.0.0; high = good.0.1; some = good.1.0.0; most = good.1.0.1; holds = omega (arith, none) }) absent tested.1.0
+    truck_added_orders (at_moment s now k) truck (record { capacity = capacity })
+    (record { low = good.0.0; high = good.0.1; some = good.1.0.0; most = good.1.0.1; holds = omega (arith, none) }) absent tested.1.0
     (later_orders s now k order.orders)
 orders_law s now (command.Start rider station dock) k order good free late = started_orders s now k rider station (docked_view s (docked_at s station dock)) (later_orders s now k order.orders)
 orders_law s now (command.End bike station dock) k order good free late = ended_orders s now k bike station dock (rental_of s (map.get s.bikes bike)) (later_orders s now k order.orders)
@@ -207,7 +217,8 @@ orders_law s now (command.Load truck order bike) k o good free late =
     bike_reported_orders (bike_placed bike (place.Truck truck order) s) now k (map.get s.bikes bike)
     (bike_loaded_orders (at_moment s now k) bike truck order
     (λ t found. below t.capacity (truck_load s truck) (on_view truck_view (λ (v : TruckView). leb v.capacity (truck_load s truck)) (map.get s.trucks truck) t found tested.1.1.1.1.1.1.1.1.1.0))
-    (λ x found. below x.count (x.delivered + order_load s order) (on_row (λ (o : Order). leb o.count (o.delivered + order_load s order)) (item_numbered order s.orders) x found tested.1.1.1.1.1.1.1.1.0))
+    (λ x found. below x.count (x.delivered + order_load s order) (on_row (λ (o : Order). leb o.count (o.delivered + order_load s order))
+    (item_numbered order s.orders) x found tested.1.1.1.1.1.1.1.1.0))
     (later_orders s now k o.orders))
 orders_law s now (command.Unload truck order bike side dock) k o good free late =
     let x = unloaded_of s truck order bike side dock o.orders free in

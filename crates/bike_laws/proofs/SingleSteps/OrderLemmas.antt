@@ -97,7 +97,8 @@ known_orders s types stations types_known stations_known h =
 
 -- with other bicycles no truck and no order holds too many
 bikes_orders : (s : Operator) (bikes : FinMap nat_cmp Bike) → ((truck : ℕ) (t : Truck) → map.get s.trucks truck ≡ Some t → truck_load (record s { bikes = bikes }) truck ≤ t.capacity)
-    → ((order : ℕ) (o : Order) → item_numbered order s.orders ≡ Some o → o.delivered + order_load (record s { bikes = bikes }) order ≤ o.count) → AreOrdersSound s → AreOrdersSound (record s { bikes = bikes })
+    → ((order : ℕ) (o : Order) → item_numbered order s.orders ≡ Some o → o.delivered + order_load (record s { bikes = bikes }) order ≤ o.count) → AreOrdersSound s
+    → AreOrdersSound (record s { bikes = bikes })
 bikes_orders s bikes holds filled h =
     let n : Operator = record s { bikes = bikes } in
     let stand : OrdersStand s n = record { trucks = λ q t found. found; types = λ id known. known; stations = λ id known. known } in
@@ -109,7 +110,8 @@ bikes_orders s bikes holds filled h =
     }
 
 -- no more bicycles are on trucks
-fewer_orders : (s : Operator) (bikes : FinMap nat_cmp Bike) → ((truck : ℕ) → truck_load (record s { bikes = bikes }) truck ≤ truck_load s truck) → ((order : ℕ) → order_load (record s { bikes = bikes }) order ≤ order_load s order)
+fewer_orders : (s : Operator) (bikes : FinMap nat_cmp Bike) → ((truck : ℕ) → truck_load (record s { bikes = bikes }) truck ≤ truck_load s truck)
+    → ((order : ℕ) → order_load (record s { bikes = bikes }) order ≤ order_load s order)
     → AreOrdersSound s → AreOrdersSound (record s { bikes = bikes })
 fewer_orders s bikes fewer_loaded fewer_on h =
     bikes_orders s bikes (λ q t found. let x = (h.trucks q t found).holds in let f = fewer_loaded q in omega (arith, x, f))
@@ -122,7 +124,8 @@ abbrev marked : BikeState → Bike → Bike
 marked state b = record b { state = state }
 
 -- a bicycle is put in a place that is on no truck
-pub bike_placed_orders : (s : Operator) (bike : ℕ) (p : Place) → ((truck : ℕ) → is_on_truck truck p ≡ false) → ((order : ℕ) → is_for_order order p ≡ false) → AreOrdersSound s → AreOrdersSound (bike_placed bike p s)
+pub bike_placed_orders : (s : Operator) (bike : ℕ) (p : Place) → ((truck : ℕ) → is_on_truck truck p ≡ false) → ((order : ℕ) → is_for_order order p ≡ false) → AreOrdersSound s
+    → AreOrdersSound (bike_placed bike p s)
 bike_placed_orders s bike p off_trucks off_orders h =
     fewer_orders s (key_changed s.bikes bike (placed p))
     (λ truck. let c = count-most number_order (λ (y : Bike). is_on_truck truck y.place) s.bikes bike (placed p) false (λ x. off_trucks truck) in omega (arith, c))
@@ -133,7 +136,8 @@ pub bike_marked_orders : (s : Operator) (bike : ℕ) (state : BikeState) → Are
 bike_marked_orders s bike state h =
     fewer_orders s (key_changed s.bikes bike (marked state)) (λ truck. same (is_on_truck truck) (map.get s.bikes bike) refl) (λ order. same (is_for_order order) (map.get s.bikes bike) refl) h
   where
-    same : (test : Place → Bool) (o : Option Bike) → map.get s.bikes bike ≡ o → count (λ e. test e.1.place) (map.entries (key_changed s.bikes bike (marked state))) ≤ count (λ e. test e.1.place) (map.entries s.bikes)
+    same : (test : Place → Bool) (o : Option Bike) → map.get s.bikes bike ≡ o
+        → count (λ e. test e.1.place) (map.entries (key_changed s.bikes bike (marked state))) ≤ count (λ e. test e.1.place) (map.entries s.bikes)
     same test None e = rw e (omega arith)
     same test (Some b) e = let c = count-changed number_order (λ (y : Bike). test y.place) s.bikes bike (marked state) b e in omega (arith, c)
 
@@ -156,7 +160,8 @@ bike_loaded_orders s bike truck order room wanted h =
     (λ q t found. holds q t found (truck == q) refl (count-most number_order (λ (y : Bike). is_on_truck q y.place) s.bikes bike (placed (place.Truck truck order)) (truck == q) (λ x. refl)))
     (λ q o found. filled q o found (order == q) refl (count-most number_order (λ (y : Bike). is_for_order q y.place) s.bikes bike (placed (place.Truck truck order)) (order == q) (λ x. refl))) h
   where
-    holds : (q : ℕ) (t : Truck) → map.get s.trucks q ≡ Some t → (b : Bool) → (truck == q) ≡ b → truck_load (bike_placed bike (place.Truck truck order) s) q ≤ truck_load s q + one b → truck_load (bike_placed bike (place.Truck truck order) s) q ≤ t.capacity
+    holds : (q : ℕ) (t : Truck) → map.get s.trucks q ≡ Some t → (b : Bool) → (truck == q) ≡ b → truck_load (bike_placed bike (place.Truck truck order) s) q ≤ truck_load s q + one b
+        → truck_load (bike_placed bike (place.Truck truck order) s) q ≤ t.capacity
     holds q t found true is most =
         let same = same_number truck q is in
         let r = room t (subst (λ (z : ℕ). map.get s.trucks z ≡ Some t) (sym same) found) in
@@ -246,7 +251,8 @@ order_added_orders s o good full h = record {
     few e = let b : length s.orders < MOST_ORDERS = grind (arith, nat_tests, full) in omega (arith, e, b)
 
 -- an order is changed to one that keeps its bounds
-pub order_changed_orders : (s : Operator) (number : ℕ) (f : Order → Order) → ((o : Order) → item_numbered number s.orders ≡ Some o → IsOrderAt s number (f o)) → AreOrdersSound s → AreOrdersSound (order_changed number f s)
+pub order_changed_orders : (s : Operator) (number : ℕ) (f : Order → Order) → ((o : Order) → item_numbered number s.orders ≡ Some o → IsOrderAt s number (f o)) → AreOrdersSound s
+    → AreOrdersSound (order_changed number f s)
 order_changed_orders s number f good h = record {
   trucks = λ q t found. let x = h.trucks q t found in record { low = x.low; high = x.high; some = x.some; most = x.most; holds = x.holds };
   orders = λ q x found. is_order q x (number_turned number f s.orders q x found);

@@ -65,7 +65,8 @@ module _ (s : Operator) (at : List ℕ) (broken : Bool) where
   not_there station apart place.Depot h = refl
 
   pub shares_here : (state : BikeState) (p : Place) → IsMarkedAt s at broken p
-      → (record { occupied = one (is_working_dock s at p); available = one (is_fit state && is_working_dock s at p); disabled = one (is_at at p && not (is_fit state && is_working_dock s at p)) }) ≡ place_shares broken state p
+      → (record { occupied = one (is_working_dock s at p); available = one (is_fit state && is_working_dock s at p); disabled = one (is_at at p && not (is_fit state && is_working_dock s at p)) })
+      ≡ place_shares broken state p
   shares_here state (place.Dock there dock) h =
       let same : bytes_eq there at ≡ true = (bytes_eq-Decides there at).1 h.0 in
       let mark : is_broken s at dock ≡ broken = h.1 in

@@ -124,7 +124,8 @@ module _ (t u : ℕ → Bool) (n : ℕ) (same : (m : ℕ) → (m ≡ n → ⊥) 
       let b = count_last t (docks_up_to d) (suc d) in
       go (λ h. dock_turned d low h) a b (eqb_tells n (suc d))
     where
-      go : (n ≤ d → count u (docks_up_to d) + one (t n) ≡ count t (docks_up_to d) + one (u n)) → count u (docks_up_to d ++ suc d ∷ []) ≡ count u (docks_up_to d) + one (u (suc d)) → count t (docks_up_to d ++ suc d ∷ []) ≡ count t (docks_up_to d) + one (t (suc d))
+      go : (n ≤ d → count u (docks_up_to d) + one (t n) ≡ count t (docks_up_to d) + one (u n)) → count u (docks_up_to d ++ suc d ∷ []) ≡ count u (docks_up_to d) + one (u (suc d))
+          → count t (docks_up_to d ++ suc d ∷ []) ≡ count t (docks_up_to d) + one (t (suc d))
           → ((n == suc d) ≡ true) × (n ≡ suc d) ⊎ ((n == suc d) ≡ false) × (n ≡ suc d → ⊥)
           → count u (docks_up_to d ++ suc d ∷ []) + one (t n) ≡ count t (docks_up_to d ++ suc d ∷ []) + one (u n)
       go less a b (inl is) =

@@ -43,7 +43,8 @@ abbrev seen : Operator → ℕ → ℕ → Option Order → View → View
 seen s truck bike o v = record v { truck = truck_at s truck; order = o; bike = map.get s.bikes bike }
 
 module _ (s : Operator) (truck order bike : ℕ) (side : Side) (dock : ℕ) (x : Order) where
-  at_the_end : (e : OrderEnd) → end_at side x ≡ e → has_end s e ≡ true → NoneHolds (tests (seen s truck bike (Some x) (end_view s e dock)) (command.Unload truck order bike side dock)) → IsUnloaded s truck order bike side dock x
+  at_the_end : (e : OrderEnd) → end_at side x ≡ e → has_end s e ≡ true → NoneHolds (tests (seen s truck bike (Some x) (end_view s e dock)) (command.Unload truck order bike side dock))
+      → IsUnloaded s truck order bike side dock x
   at_the_end end.Depot e known tested = record {
     not_closed = holds x.is_open tested.1.1.0;
     truck_is = same_number x.truck truck (holds (x.truck == truck) tested.1.1.1.0);

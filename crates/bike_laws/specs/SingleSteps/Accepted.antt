@@ -10,4 +10,5 @@ use Rattle.bike_operator.specs.Sound.{IsSound}
 -- The fact holds after each command that isn't refused, at a moment not before now, whatever is kept of requests.
 abbrev pub AcceptedKeeps : (Operator → Type 0) → Type 0
 AcceptedKeeps Fact =
-    (s : Operator) (now : ℕ) (c : Command) (kept : FinMap texts_cmp Kept) → IsSound s → IsCommand c → refusal_of s c ≡ None → s.now ≤ now → Fact (record (effect s now c) { now = now; kept = kept })
+    (s : Operator) (now : ℕ) (c : Command) (kept : FinMap texts_cmp Kept) → IsSound s → IsCommand c
+    → refusal_of s c ≡ None → s.now ≤ now → Fact (record (effect s now c) { now = now; kept = kept })

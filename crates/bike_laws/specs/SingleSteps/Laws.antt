@@ -1,5 +1,6 @@
 -- What one bicycle adds to the numbers of a station, and how they change when it is put somewhere or a dock is marked.
-use Rattle.std.specs.Prelude.{◌≡◌, ◌≢◌, ℕ, ◌+◌, ◌≤◌, List, Bool, not, ◌&&◌, if◌then◌else◌, Option, Some, None, is_none, option_map}
+use Rattle.std.specs.Prelude.{◌≡◌, ◌≢◌, ℕ, ◌+◌, ◌≤◌, List, Bool, not, ◌&&◌, if◌then◌else◌, Option, Some, None, is_none}
+use Rattle.std.specs.Prelude.{option_map}
 use Rattle.std.specs.FinMap as map
 use Rattle.std.specs.FinSet as set
 use Rattle.bike_operator.specs.declared.records.BikeState.{BikeState}
@@ -7,7 +8,8 @@ use Rattle.bike_operator.specs.declared.records.Place.{Place}
 use Rattle.bike_operator.specs.declared.records.Place.TheVariants as place
 use Rattle.bike_operator.specs.declared.records.Bike.{Bike}
 use Rattle.bike_operator.specs.Operator.{Operator, Station, dock_key}
-use Rattle.bike_operator.specs.Counts.{is_fit, is_broken, is_working_dock, docked_at, available_of, docks_available, docks_broken}
+use Rattle.bike_operator.specs.Counts.{is_fit, is_broken, is_working_dock, docked_at, available_of, docks_available}
+use Rattle.bike_operator.specs.Counts.{docks_broken}
 use Rattle.bike_laws.specs.SingleSteps.Numbers.{is_available_of, is_disabled_of, disabled_of, occupied_docks}
 
 -- 1 for what passes
@@ -25,7 +27,8 @@ abbrev pub share : (Bike → Bool) → Option Bike → ℕ
 share test None = 0
 share test (Some b) = one (test b)
 
--- to the bicycles of a type that can be rented at a station, to those that can't, and to its working docks that hold one
+-- to the bicycles of a type that can be rented at a station,
+-- to those that can't, and to its working docks that hold one
 abbrev pub available_share : Operator → List ℕ → List ℕ → Option Bike → ℕ
 available_share s station type_id = share (is_available_of s station type_id)
 
@@ -80,8 +83,10 @@ pub record ShareLaw (s : Operator) (at : List ℕ) (broken : Bool) (b : Bike) : 
   pub available : available_share s at b.type_id (Some b) ≡ (place_shares broken b.state b.place).available
   pub disabled : disabled_share s at b.type_id (Some b) ≡ (place_shares broken b.state b.place).disabled
   pub not_occupied : (station : List ℕ) → station ≢ at → occupied_share s station (Some b) ≡ 0
-  pub not_available : (station type_id : List ℕ) → (station ≡ at → type_id ≢ b.type_id) → available_share s station type_id (Some b) ≡ 0
-  pub not_disabled : (station type_id : List ℕ) → (station ≡ at → type_id ≢ b.type_id) → disabled_share s station type_id (Some b) ≡ 0
+  pub not_available : (station type_id : List ℕ) → (station ≡ at → type_id ≢ b.type_id)
+      → available_share s station type_id (Some b) ≡ 0
+  pub not_disabled : (station type_id : List ℕ) → (station ≡ at → type_id ≢ b.type_id)
+      → disabled_share s station type_id (Some b) ≡ 0
 
 -- ---- docks
 
@@ -101,14 +106,16 @@ pub record HasDocks (s : Operator) (station : List ℕ) (docks : ℕ) : Type 0 w
 
 -- ---- a bicycle put
 
--- The next operator has this bicycle under its number, whatever was there. Other bicycles and the broken docks are the same.
+-- The next operator has this bicycle under its number, whatever
+-- was there. Other bicycles and the broken docks are the same.
 pub record HasPut (s next : Operator) (number : ℕ) (b : Bike) : Type 0 where
   pub bikes : next.bikes ≡ map.insert s.bikes number b
   pub broken : next.broken ≡ s.broken
 
 -- A BICYCLE PUT: the numbers fall by what it added, and grow by what it adds now.
 pub record PutLaw (s next : Operator) (number : ℕ) (b : Bike) : Type 0 where
-  pub available : (station type_id : List ℕ) → IsMoved (available_of s station type_id) (available_of next station type_id)
+  pub available : (station type_id : List ℕ)
+      → IsMoved (available_of s station type_id) (available_of next station type_id)
       (available_share s station type_id (map.get s.bikes number)) (available_share s station type_id (Some b))
   pub disabled : (station type_id : List ℕ) → IsMoved (disabled_of s station type_id) (disabled_of next station type_id)
       (disabled_share s station type_id (map.get s.bikes number)) (disabled_share s station type_id (Some b))
@@ -128,20 +135,26 @@ PutDocksLaw s next number b =
 -- In the next operator this dock is broken, or works. The other docks and the bicycles are the same.
 pub record HasMarked (s next : Operator) (station : List ℕ) (dock : ℕ) (broken : Bool) : Type 0 where
   pub bikes : next.bikes ≡ s.bikes
-  pub marks : next.broken ≡ (if broken then set.insert s.broken (dock_key station dock) else set.remove s.broken (dock_key station dock))
+  pub marks : next.broken ≡ (if broken then set.insert s.broken (dock_key station dock)
+      else set.remove s.broken (dock_key station dock))
 
 -- A DOCK MARKED: the numbers fall by what the dock and the bicycle in it added, and grow by what they add now.
 pub record MarkLaw (s next : Operator) (at : List ℕ) (dock : ℕ) (broken : Bool) : Type 0 where
   pub mark : is_broken next at dock ≡ broken
-  pub available : (station type_id : List ℕ) → IsMoved (available_of s station type_id) (available_of next station type_id)
-      (available_share s station type_id (docked_bike s at dock)) (available_share next station type_id (docked_bike s at dock))
+  pub available : (station type_id : List ℕ)
+      → IsMoved (available_of s station type_id) (available_of next station type_id)
+      (available_share s station type_id (docked_bike s at dock))
+      (available_share next station type_id (docked_bike s at dock))
   pub disabled : (station type_id : List ℕ) → IsMoved (disabled_of s station type_id) (disabled_of next station type_id)
-      (disabled_share s station type_id (docked_bike s at dock)) (disabled_share next station type_id (docked_bike s at dock))
+      (disabled_share s station type_id (docked_bike s at dock))
+      (disabled_share next station type_id (docked_bike s at dock))
   pub occupied : (station : List ℕ) → IsMoved (occupied_docks s station) (occupied_docks next station)
       (occupied_share s station (docked_bike s at dock)) (occupied_share next station (docked_bike s at dock))
   pub free_docks : (docks : ℕ) → 1 ≤ dock → dock ≤ docks
-      → IsMoved (docks_available s at docks) (docks_available next at docks) (one (is_free s at dock)) (one (is_free next at dock))
+      → IsMoved (docks_available s at docks) (docks_available next at docks) (one (is_free s at dock))
+      (one (is_free next at dock))
   pub broken_docks : (docks : ℕ) → 1 ≤ dock → dock ≤ docks
       → IsMoved (docks_broken s at docks) (docks_broken next at docks) (one (is_broken s at dock)) (one broken)
   pub other_docks : (station : List ℕ) (docks : ℕ) → station ≢ at
-      → (docks_available next station docks ≡ docks_available s station docks) × (docks_broken next station docks ≡ docks_broken s station docks)
+      → (docks_available next station docks ≡ docks_available s station docks)
+      × (docks_broken next station docks ≡ docks_broken s station docks)

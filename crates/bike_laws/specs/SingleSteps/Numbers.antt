@@ -12,7 +12,8 @@ is_available_of s station type_id b = bytes_eq b.type_id type_id && is_available
 
 -- the bicycle is of this type, in a dock of this station, and can't be rented
 abbrev pub is_disabled_of : Operator → List ℕ → List ℕ → Bike → Bool
-is_disabled_of s station type_id b = bytes_eq b.type_id type_id && (is_at station b.place && not (is_available s station b))
+is_disabled_of s station type_id b =
+    bytes_eq b.type_id type_id && (is_at station b.place && not (is_available s station b))
 
 -- bicycles of a type in the docks of a station that can't be rented
 abbrev pub disabled_of : Operator → List ℕ → List ℕ → ℕ

@@ -6,9 +6,9 @@ use Rattle.std.proofs.lemmas.Bool.{true≢false, both_ways}
 use Rattle.sqlite_schema.specs.declared.schema.Schema.{Schema}
 use Rattle.sqlite.specs.Effect.{Database}
 use Rattle.bike_sql.specs.Found.{IsPlainTable}
-use Rattle.bike_rows.specs.Layout.{table_of}
-use Rattle.bike_rows.specs.Stands.{Stands}
-use Rattle.bike_rows.proofs.KeyLemmas.{IsKeyOf, columns_unique_at}
+use Rattle.bike_sql.specs.Layout.{table_of}
+use Rattle.bike_sql.specs.Stands.{Stands}
+use Rattle.bike_sql.proofs.KeyLemmas.{IsKeyOf, columns_unique_at}
 use Rattle.bike_book.specs.Tables.{TableName, keys_of, is_table, Regions, Stations, MoreNames}
 use Rattle.bike_schema.specs.Layouts.{layout_in, every_table}
 use Rattle.bike_schema.proofs.TableLemmas.{of_every}
@@ -42,11 +42,13 @@ stations_is _ is = absurd (true≢false (sym is))
 other_layout : (e : Earlier) (s : Schema) (t : TableName) → is_table Stations t ≡ false → layout_at e s t ≡ layout_in s t
 other_layout e s t is = rw is refl
 
-pub stations_stand_at : (e : Earlier) (db : Database) (t : TableName) → is_table Stations t ≡ true → (stands : Bool) → (IsTrue stands ↔ Stands db 1 (stations_layout e)) → IsTrue stands ↔ StandsAt e db t
+pub stations_stand_at : (e : Earlier) (db : Database) (t : TableName) → is_table Stations t ≡ true → (stands : Bool) → (IsTrue stands ↔ Stands db 1 (stations_layout e))
+    → IsTrue stands ↔ StandsAt e db t
 stations_stand_at First db t is stands h = subst (λ u. IsTrue stands ↔ StandsAt First db u) (sym (stations_is t is)) ((λ yes. record { stands = λ there. h.0 yes }), λ at. h.1 (at.stands refl))
 stations_stand_at Second db t is stands h = subst (λ u. IsTrue stands ↔ StandsAt Second db u) (sym (stations_is t is)) ((λ yes. record { stands = λ there. h.0 yes }), λ at. h.1 (at.stands refl))
 
-pub other_stands_at : (e : Earlier) (db : Database) (t : TableName) → is_table Stations t ≡ false → has_table e t ≡ true → (stands : Bool) → (IsTrue stands ↔ TableStands t db) → IsTrue stands ↔ StandsAt e db t
+pub other_stands_at : (e : Earlier) (db : Database) (t : TableName) → is_table Stations t ≡ false → has_table e t ≡ true → (stands : Bool) → (IsTrue stands ↔ TableStands t db)
+    → IsTrue stands ↔ StandsAt e db t
 other_stands_at e db t is has stands h =
     let layout = other_layout e db.schema t is in
     ((λ yes. record { stands = λ there. subst (λ l. Stands db (keys_of t) l) (sym layout) (h.0 yes) }), λ at. h.1 (subst (λ l. Stands db (keys_of t) l) layout (at.stands has)))

@@ -9,10 +9,12 @@ use Rattle.bike_recognition.specs.EarlierVersions.Earlier.{stations_layout}
 -- ---- what made it
 
 abbrev first_text : List ℕ
-first_text = codes "CREATE TABLE stations (station_id TEXT PRIMARY KEY NOT NULL, name TEXT NOT NULL, lat INTEGER NOT NULL, lon INTEGER NOT NULL, docks INTEGER NOT NULL, installed INTEGER NOT NULL, renting INTEGER NOT NULL, \"returning\" INTEGER NOT NULL, reported INTEGER NOT NULL, free INTEGER NOT NULL, broken INTEGER NOT NULL) STRICT"
+first_text =
+    codes "CREATE TABLE stations (station_id TEXT PRIMARY KEY NOT NULL, name TEXT NOT NULL, lat INTEGER NOT NULL, lon INTEGER NOT NULL, docks INTEGER NOT NULL, installed INTEGER NOT NULL, renting INTEGER NOT NULL, \"returning\" INTEGER NOT NULL, reported INTEGER NOT NULL, free INTEGER NOT NULL, broken INTEGER NOT NULL) STRICT"
 
 abbrev second_text : List ℕ
-second_text = codes "CREATE TABLE stations_2 (station_id TEXT PRIMARY KEY NOT NULL, name TEXT NOT NULL, lat INTEGER NOT NULL, lon INTEGER NOT NULL, docks INTEGER NOT NULL, installed INTEGER NOT NULL, renting INTEGER NOT NULL, \"returning\" INTEGER NOT NULL, reported INTEGER NOT NULL, free INTEGER NOT NULL, broken INTEGER NOT NULL, region_id TEXT) STRICT"
+second_text =
+    codes "CREATE TABLE stations_2 (station_id TEXT PRIMARY KEY NOT NULL, name TEXT NOT NULL, lat INTEGER NOT NULL, lon INTEGER NOT NULL, docks INTEGER NOT NULL, installed INTEGER NOT NULL, renting INTEGER NOT NULL, \"returning\" INTEGER NOT NULL, reported INTEGER NOT NULL, free INTEGER NOT NULL, broken INTEGER NOT NULL, region_id TEXT) STRICT"
 
 pub first_defined : Defines first_text (stations_layout First)
 unfolding everything

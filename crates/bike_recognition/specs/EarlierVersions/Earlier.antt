@@ -1,12 +1,13 @@
 -- How a database holds the tables at an earlier version of the schema.
-use Rattle.std.specs.Prelude.{◌≡◌, ◌⊎◌, ℕ, Bool, true, false, if◌then◌else◌, List, [], ◌∷◌, ◌++◌, map, take, codes, IsTrue}
+use Rattle.std.specs.Prelude.{◌≡◌, ◌⊎◌, ℕ, Bool, true, false, if◌then◌else◌, List, [], ◌∷◌, ◌++◌, map, take, codes}
+use Rattle.std.specs.Prelude.{IsTrue}
 use Rattle.std.specs.List.{list_all}
 use Rattle.sqlite_value.specs.declared.value.Value.TheVariants.{Null}
 use Rattle.sqlite_value.specs.Order.{Row}
 use Rattle.sqlite_schema.specs.declared.schema.Schema.{Schema}
 use Rattle.sqlite.specs.Effect.{Database}
-use Rattle.bike_rows.specs.Layout.{Layout}
-use Rattle.bike_rows.specs.Stands.{rows_of, Stands}
+use Rattle.bike_sql.specs.Layout.{Layout}
+use Rattle.bike_sql.specs.Stands.{rows_of, Stands}
 use Rattle.bike_book.specs.Tables.{TableName, Tables, is_table, Regions, Stations, MoreNames, keys_of, tables_by}
 use Rattle.bike_schema.specs.Layouts.{layout_of, layout_in, name_of}
 use Rattle.bike_schema.specs.Tables.{is_unused}
@@ -25,7 +26,8 @@ stations_name Second = codes "stations_2"
 
 -- its columns are those of today, at version 1 without the region
 abbrev pub stations_layout : Earlier → Layout
-stations_layout First = record (layout_of Stations) { name = codes "stations"; columns = take 11 (layout_of Stations).columns }
+stations_layout First =
+    record (layout_of Stations) { name = codes "stations"; columns = take 11 (layout_of Stations).columns }
 stations_layout Second = record (layout_of Stations) { name = codes "stations_2" }
 
 -- its row as one of today: in no region at version 1
@@ -67,7 +69,8 @@ HasTablesAt e db = (t : TableName) → StandsAt e db t
 -- whether each of these tables stands, as far as the version has them
 abbrev pub IsWhether : Earlier → Database → List TableName → Bool → Type 0
 IsWhether e db [] stand = stand ≡ true
-IsWhether e db (t ∷ tables) stand = ((¬ StandsAt e db t) × (stand ≡ false)) ⊎ (StandsAt e db t × IsWhether e db tables stand)
+IsWhether e db (t ∷ tables) stand =
+    ((¬ StandsAt e db t) × (stand ≡ false)) ⊎ (StandsAt e db t × IsWhether e db tables stand)
 
 -- ---- the names of later versions
 

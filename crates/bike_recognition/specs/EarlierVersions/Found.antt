@@ -47,7 +47,8 @@ IsByVersion db (Version v) f = IsByNumber db v (nat_cmp v NEWEST) f
 
 -- meta doesn't stand, or its row 1 decides
 abbrev pub IsByMeta : Database → Found → Type 0
-IsByMeta db f = ((¬ TableStands Meta db) × (f ≡ found.Foreign)) ⊎ (TableStands Meta db × IsByVersion db (meta_version db) f)
+IsByMeta db f =
+    ((¬ TableStands Meta db) × (f ≡ found.Foreign)) ⊎ (TableStands Meta db × IsByVersion db (meta_version db) f)
 
 -- WHICH VERSION IT IS OF: none of the product's names is used, or meta decides
 abbrev pub IsFoundAs : Database → Found → Type 0

@@ -17,7 +17,8 @@ use Rattle.bike_recognition.specs.EarlierVersions.Earlier.{number_of, tables_at,
 
 -- the tables of the operator, with the version's number in meta's row
 abbrev pub tables_for_at : Earlier → Operator → Listed → Tables
-tables_for_at e s m = record (tables_for s m) { meta = meta_row (number_of e) s.now (cash_of s.entries) (revenue_of s.entries) ∷ [] }
+tables_for_at e s m =
+    record (tables_for s m) { meta = meta_row (number_of e) s.now (cash_of s.entries) (revenue_of s.entries) ∷ [] }
 
 -- no station has more docks than an earlier version allows
 abbrev pub HasFewDocks : Operator → Type 0

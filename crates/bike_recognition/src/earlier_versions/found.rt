@@ -1,7 +1,7 @@
 //! Which version of the schema a database is of.
 
 ghost use Rattle.std.specs.Prelude.{◌≡◌};
-ghost use Rattle.bike_rows.specs.Calls.{ReadsWhere};
+ghost use Rattle.bike_sql.specs.Calls.{ReadsWhere};
 ghost use Rattle.bike_book.specs.Tables.{Meta};
 ghost use Rattle.bike_recognition.specs.Recognition.{ReadsAny, TableStands, meta_version};
 ghost use Rattle.bike_recognition.specs.declared.version.MetaVersion.TheVariants.{Version};

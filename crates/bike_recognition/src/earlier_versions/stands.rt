@@ -2,8 +2,8 @@
 
 ghost use Rattle.std.specs.Prelude.{◌≡◌, ◌↔◌, IsTrue, IfOk, IfErr, map};
 ghost use Rattle.std.specs.List.{list_all};
-ghost use Rattle.bike_rows.specs.Layout.{table_of};
-ghost use Rattle.bike_rows.specs.Stands.{Stands};
+ghost use Rattle.bike_sql.specs.Layout.{table_of};
+ghost use Rattle.bike_sql.specs.Stands.{Stands};
 ghost use Rattle.bike_schema.specs.Tables.{is_unused};
 ghost use Rattle.bike_schema.specs.declared.fault.StatementFault.TheVariants.{NoMemory};
 ghost use Rattle.bike_recognition.specs.Names.{table_named};

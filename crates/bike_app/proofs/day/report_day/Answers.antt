@@ -12,18 +12,22 @@ returns-in-Ok-Sound-clause-told g c clean =
       conn = c.close.ensures.same;
       operator = it.0;
       was = it.1;
-      reported = λ s stands. c.report_at-end.ensures.told now s (seen_at g.S.Store (matched c.in-Ok-Sound.field-0-is c.in-Ok-Sound.ensures) c.over-desk.ensures c.report_at-end.new.desk c.close.ensures.same clean c.report_at-end.ensures.clean s stands);
+      reported =
+          λ s stands. c.report_at-end.ensures.told now s
+          (seen_at g.S.Store (matched c.in-Ok-Sound.field-0-is c.in-Ok-Sound.ensures) c.over-desk.ensures c.report_at-end.new.desk c.close.ensures.same clean c.report_at-end.ensures.clean s stands);
     }))
 
 pub returns-in-Ok-Sound-clause-kept : goal.returns-in-Ok-Sound-clause-kept
 returns-in-Ok-Sound-clause-kept g c clean s stands live =
     let now = ended_clean g.S.Store c.report_at-end.new.desk c.close.ensures.same clean in
-    looked_kept g.S.Store (matched c.in-Ok-Sound.field-0-is c.in-Ok-Sound.ensures) c.over-desk.ensures c.report_at-end.new.desk c.close.ensures.same clean c.report_at-end.ensures.clean (λ o at. c.report_at-end.ensures.left now o at) s stands live
+    looked_kept g.S.Store (matched c.in-Ok-Sound.field-0-is c.in-Ok-Sound.ensures) c.over-desk.ensures c.report_at-end.new.desk c.close.ensures.same clean c.report_at-end.ensures.clean
+    (λ o at. c.report_at-end.ensures.left now o at) s stands live
 
 pub returns-in-Ok-Sound-clause-stays : goal.returns-in-Ok-Sound-clause-stays
 returns-in-Ok-Sound-clause-stays g c clean =
     let now = ended_clean g.S.Store c.report_at-end.new.desk c.close.ensures.same clean in
-    looked_stays g.S.Store (matched c.in-Ok-Sound.field-0-is c.in-Ok-Sound.ensures) c.over-desk.ensures c.report_at-end.new.desk c.close.ensures.same clean c.report_at-end.ensures.clean (λ o at. c.report_at-end.ensures.left now o at)
+    looked_stays g.S.Store (matched c.in-Ok-Sound.field-0-is c.in-Ok-Sound.ensures) c.over-desk.ensures c.report_at-end.new.desk c.close.ensures.same clean c.report_at-end.ensures.clean
+    (λ o at. c.report_at-end.ensures.left now o at)
 
 pub returns-in-Ok-Empty-clause-told : goal.returns-in-Ok-Empty-clause-told
 returns-in-Ok-Empty-clause-told g c clean =

@@ -1,7 +1,7 @@
 use Rattle.std.proofs.Common.{inl, inr}
 use Rattle.std.proofs.KnownBytes.{Keeps-refl}
 use Rattle.bike_operator.specs.Operator.{no_operator}
-use Rattle.bike_adoption.specs.Adoption.{handed}
+use Rattle.bike_audit.specs.Adoption.{handed}
 use Rattle.bike_app.proofs.ProgramLemmas.{memory_begins, memory_is_clean, not_begun}
 use Rattle.bike_app.proofs.day.report_nobodys.Goals as goal
 

@@ -1,5 +1,5 @@
 use Rattle.std.proofs.Common.{ℕ, List, [], refl, subst, inl}
-use Rattle.bike_imports.specs.Imports.{Imports}
+use Rattle.bike_batch.specs.Imports.{Imports}
 use Rattle.bike_app.proofs.import.import_named.Goals as goal
 
 pub returns-clause-imports : goal.returns-clause-imports

@@ -1,5 +1,5 @@
 use Rattle.std.proofs.Common.{refl, subst}
-use Rattle.bike_rows.proofs.ChainLaws.{reads_as}
+use Rattle.bike_sql.proofs.ChainLaws.{reads_as}
 use Rattle.bike_recognition.specs.Keys.{TellsKeys}
 use Rattle.bike_audit.proofs.AuditLemmas.{two_columns}
 use Rattle.bike_audit.proofs.finding.find_doubled.Goals as goal

@@ -16,6 +16,7 @@ loop-segment-preserved c = record {
       let place = c.loop-segment.invariant.place in
       let below = c.loop-segment-test.true in
       let at : c.loop-segment.seq ≡ length (take index segments) + 1 = simp length-take (omega (arith, place, below)) in
-      segment_more c.args.plan.now (take index segments) (take (index + 1) segments) item c.loop-segment.seq c.args.rows.now.items c.loop-segment.rows.items c.add.new.rows.items _ c.loop-segment.invariant.added
+      segment_more c.args.plan.now (take index segments)
+      (take (index + 1) segments) item c.loop-segment.seq c.args.rows.now.items c.loop-segment.rows.items c.add.new.rows.items _ c.loop-segment.invariant.added
       c.add.ensures.items refl at next;
 }

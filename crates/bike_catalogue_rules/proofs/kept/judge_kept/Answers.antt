@@ -1,5 +1,5 @@
 use Rattle.std.proofs.Common.{sym, ◌∙◌}
-use Rattle.bike_rows.proofs.ChainLaws.{reads_as, reads_both}
+use Rattle.bike_sql.proofs.ChainLaws.{reads_as, reads_both}
 use Rattle.bike_judges.proofs.ReadsLaw.{reads_told}
 use Rattle.bike_catalogue_rules.proofs.Judged.{kept_judged, all_kept_judged}
 use Rattle.bike_catalogue_rules.proofs.kept.judge_kept.Goals as goal

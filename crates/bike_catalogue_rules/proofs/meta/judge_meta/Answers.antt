@@ -1,4 +1,4 @@
-use Rattle.bike_rows.proofs.ChainLaws.{reads_both}
+use Rattle.bike_sql.proofs.ChainLaws.{reads_both}
 use Rattle.bike_judges.proofs.ReadsLaw.{reads_told}
 use Rattle.bike_catalogue_rules.proofs.MetaJudged.{meta_judged}
 use Rattle.bike_catalogue_rules.proofs.meta.judge_meta.Goals as goal

@@ -1,5 +1,5 @@
 use Rattle.std.proofs.Common.{refl}
-use Rattle.bike_rows.proofs.ChainLaws.{reads_as}
+use Rattle.bike_sql.proofs.ChainLaws.{reads_as}
 use Rattle.bike_catalogue_rules.proofs.NamesJudged.{own_is}
 use Rattle.bike_catalogue_rules.proofs.names.find_own.Goals as goal
 

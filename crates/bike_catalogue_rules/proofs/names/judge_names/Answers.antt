@@ -1,6 +1,6 @@
 use Rattle.std.proofs.Common.{rules, ap, ◌∙◌}
 use Rattle.std.specs.Prelude.{option_map}
-use Rattle.bike_rows.proofs.ChainLaws.{reads_as, reads_both, reads_failed}
+use Rattle.bike_sql.proofs.ChainLaws.{reads_as, reads_both, reads_failed}
 use Rattle.bike_judges.specs.Judging.{key_row}
 use Rattle.bike_judges.specs.Least.{least_key}
 use Rattle.bike_judges.proofs.ReadsLaw.{reads_told}
@@ -15,7 +15,8 @@ returns-in_err-by_offer g c = reads_failed (reads_both c.in_ok-own.ensures (read
 
 pub returns : goal.returns
 returns g c = reads_as
-    (reads_told {told = AreFound c.in_ok-own.own c.in_ok-by_order.by_order c.in_ok-by_place.by_place} (reads_both c.in_ok-own.ensures (reads_both c.in_ok-by_order.ensures (reads_both c.in_ok-by_place.ensures c.in_ok-by_offer.ensures)))
+    (reads_told {told = AreFound c.in_ok-own.own c.in_ok-by_order.by_order c.in_ok-by_place.by_place}
+    (reads_both c.in_ok-own.ensures (reads_both c.in_ok-by_order.ensures (reads_both c.in_ok-by_place.ensures c.in_ok-by_offer.ensures)))
     (λ db ours found it. record {
       ours = ours;
       own_is = it.0;

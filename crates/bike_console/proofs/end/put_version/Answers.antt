@@ -6,4 +6,5 @@ use Rattle.bike_console.proofs.end.put_version.Goals as goal
 pub returns : goal.returns
 returns g c =
     let w = g.W.Output.contents in
-    puts_both (w c.args.out.now) (w c.put-going.new.out) (w c.put_number.new.out) (codes " ") (decimal c.args.version) c.args.going c.put-going.result c.put_number.result c.put-going.ensures c.put_number.ensures
+    puts_both (w c.args.out.now) (w c.put-going.new.out) (w c.put_number.new.out) (codes " ")
+    (decimal c.args.version) c.args.going c.put-going.result c.put_number.result c.put-going.ensures c.put_number.ensures

@@ -14,7 +14,8 @@ pub returns-in-Ok-clause-opened : goal.returns-in-Ok-clause-opened
 returns-in-Ok-clause-opened g c = of_same (λ conn. HasCleanDisk (file_state conn) → IsOpened conn) c.in-Ok.conn c.refuse_added.result c.refuse_added.ensures.same c.in-Ok.ensures.opened
 
 pub returns-in-Ok-clause-found : goal.returns-in-Ok-clause-found
-returns-in-Ok-clause-found g c = of_same (λ conn. HasCleanDisk (file_state conn) → FindsIn (image_at g.F.Start) (file_state conn)) c.in-Ok.conn c.refuse_added.result c.refuse_added.ensures.same c.in-Ok.ensures.found
+returns-in-Ok-clause-found g c =
+    of_same (λ conn. HasCleanDisk (file_state conn) → FindsIn (image_at g.F.Start) (file_state conn)) c.in-Ok.conn c.refuse_added.result c.refuse_added.ensures.same c.in-Ok.ensures.found
 
 pub returns-in-Ok-clause-lone : goal.returns-in-Ok-clause-lone
 returns-in-Ok-clause-lone g c =

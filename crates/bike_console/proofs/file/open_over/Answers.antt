@@ -9,7 +9,8 @@ pub returns-in-Ok-clause-found : goal.returns-in-Ok-clause-found
 returns-in-Ok-clause-found g c clean =
     let read = c.in-Ok-Some.ensures in
     let found = c.in-Ok.ensures.found clean in
-    subst (λ i. FindsIn i (file_state c.in-Ok.conn)) (bytes_now (image_of g.D.Disk c.args.files) c.args.files c.find_options.new.files refl read.log read.db) (record { holds = found.holds; reads = found.reads })
+    subst (λ i. FindsIn i (file_state c.in-Ok.conn)) (bytes_now (image_of g.D.Disk c.args.files) c.args.files c.find_options.new.files refl read.log read.db)
+    (record { holds = found.holds; reads = found.reads })
 
 pub returns-in-Ok-None-clause-why : goal.returns-in-Ok-None-clause-why
 returns-in-Ok-None-clause-why g c =

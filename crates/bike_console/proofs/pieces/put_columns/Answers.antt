@@ -14,5 +14,9 @@ loop-at-preserved g c =
     let next = bar at ++ value_text (column row at) in
     let going = c.loop-at.going in
     let result = c.put_column-going.result in
-    let all = puts_both (w c.args.out.now) (w c.loop-at.out) (w c.put_column-going.new.out) before next c.args.going going result c.loop-at.invariant.2 c.put_column-going.ensures in
-    (omega (arith, c.loop-at-test.true), c.loop-at.invariant.1, puts_as (w c.args.out.now) (w c.put_column-going.new.out) (before ++ next) (key_text (take (at + 1) row)) c.args.going result (key_text_more row at within) all)
+    let all = puts_both (w c.args.out.now) (w c.loop-at.out) (w c.put_column-going.new.out) before next c.args.going going result c.loop-at.invariant.2 c.put_column-going.ensures in (
+      omega (arith, c.loop-at-test.true),
+      c.loop-at.invariant.1,
+      puts_as (w c.args.out.now) (w c.put_column-going.new.out) (before ++ next) (key_text (take (at + 1) row)) c.args.going result
+          (key_text_more row at within) all,
+    )

@@ -5,7 +5,8 @@ use Rattle.bike_core.proofs.Orders.{load_decided, load_found}
 use Rattle.bike_core.proofs.decide_orders.decide_load.Goals as goal
 
 pub returns-in-Err-clause-decides : goal.returns-in-Err-clause-decides
-returns-in-Err-clause-decides c = λ s now e. refused_as s c.args.view.now (command.Load c.args.truck c.args.order c.args.bike) (Some c.in-Err.refusal) e (c.in-Err.ensures.tests c.args.order c.args.bike)
+returns-in-Err-clause-decides c =
+    λ s now e. refused_as s c.args.view.now (command.Load c.args.truck c.args.order c.args.bike) (Some c.in-Err.refusal) e (c.in-Err.ensures.tests c.args.order c.args.bike)
 
 pub returns-clause-decides : goal.returns-clause-decides
 returns-clause-decides c = λ s now e. rw (c.moved.ensures, c.put_from-moved.ensures, c.get-3.ensures.value, c.get-2.ensures.value, c.get.ensures.value)

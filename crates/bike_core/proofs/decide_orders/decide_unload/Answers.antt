@@ -7,7 +7,8 @@ use Rattle.bike_core.proofs.decide_orders.decide_unload.Goals.{in-From, in-To}
 use Rattle.bike_core.proofs.decide_orders.decide_unload.Goals as goal
 
 pub returns-in-Err-clause-decides : goal.returns-in-Err-clause-decides
-returns-in-Err-clause-decides c = λ s now e. refused_as s c.args.view.now (command.Unload c.args.truck c.args.order c.args.bike c.args.side c.args.dock) (Some c.in-Err.refusal) e (c.in-Err.ensures.tests c.args.bike)
+returns-in-Err-clause-decides c =
+    λ s now e. refused_as s c.args.view.now (command.Unload c.args.truck c.args.order c.args.bike c.args.side c.args.dock) (Some c.in-Err.refusal) e (c.in-Err.ensures.tests c.args.bike)
 
 pub returns-clause-decides : goal.returns-clause-decides
 returns-clause-decides c = λ s now e.
@@ -17,7 +18,8 @@ returns-clause-decides c = λ s now e.
       | in-To w ↦ rw w.in-To.is (w.delivery-is ∙ ap₂ (λ (n k : ℕ). Some (change.SetOrder n k c.in-Ok.unloading.order.now.is_open)) w.get.ensures.value w.delivered_with.ensures)
     ] in
     unload_decided c.args.view.now now c.args.truck c.args.order c.args.bike c.args.side c.args.dock c.in-Ok.unloading.bike.now c.in-Ok.unloading.order.now _ c.standing_of-was.result c.put_at_end-moved.result c.match-side.delivery
-    (record { type_is = refl; state_is = c.standing_of-was.ensures.state; place_is = c.standing_of-was.ensures.place }) (c.in-Ok.ensures.tests c.args.bike) c.in-Ok.ensures.bike c.in-Ok.ensures.order put delivery s e
+    (record { type_is = refl; state_is = c.standing_of-was.ensures.state; place_is = c.standing_of-was.ensures.place })
+    (c.in-Ok.ensures.tests c.args.bike) c.in-Ok.ensures.bike c.in-Ok.ensures.order put delivery s e
 
 pub returns-clause-found : goal.returns-clause-found
 returns-clause-found c = λ s now sound e.
@@ -27,4 +29,5 @@ returns-clause-found c = λ s now sound e.
       | in-To w ↦ rw w.in-To.is (w.delivery-is ∙ ap₂ (λ (n k : ℕ). Some (change.SetOrder n k c.in-Ok.unloading.order.now.is_open)) w.get.ensures.value w.delivered_with.ensures)
     ] in
     unload_found c.args.view.now now c.args.truck c.args.order c.args.bike c.args.side c.args.dock c.in-Ok.unloading.bike.now c.in-Ok.unloading.order.now _ c.standing_of-was.result c.put_at_end-moved.result c.match-side.delivery
-    (record { type_is = refl; state_is = c.standing_of-was.ensures.state; place_is = c.standing_of-was.ensures.place }) (c.in-Ok.ensures.tests c.args.bike) c.in-Ok.ensures.bike c.in-Ok.ensures.order put delivery s e sound
+    (record { type_is = refl; state_is = c.standing_of-was.ensures.state; place_is = c.standing_of-was.ensures.place })
+    (c.in-Ok.ensures.tests c.args.bike) c.in-Ok.ensures.bike c.in-Ok.ensures.order put delivery s e sound

@@ -101,7 +101,9 @@ pub returns-in-SetRegion-clause-decides : goal.returns-in-SetRegion-clause-decid
 returns-in-SetRegion-clause-decides c = rw (c.in-SetRegion.is, region_named c.as_ref.result c.in-SetRegion.region c.as_ref.ensures.value) (λ s e. c.decide_set_region.ensures.decides s c.args.now e)
 
 pub returns-in-SetRegion-clause-found : goal.returns-in-SetRegion-clause-found
-returns-in-SetRegion-clause-found c = finds_at c.args.view.now c.args.now c.args.command.now c.decide_set_region.result (rw (c.in-SetRegion.is, region_named c.as_ref.result c.in-SetRegion.region c.as_ref.ensures.value) c.decide_set_region.ensures.found)
+returns-in-SetRegion-clause-found c =
+    finds_at c.args.view.now c.args.now c.args.command.now c.decide_set_region.result
+    (rw (c.in-SetRegion.is, region_named c.as_ref.result c.in-SetRegion.region c.as_ref.ensures.value) c.decide_set_region.ensures.found)
 
 pub returns-in-AddName-clause-decides : goal.returns-in-AddName-clause-decides
 returns-in-AddName-clause-decides c = rw c.in-AddName.is (λ s e. c.decide_add_name.ensures.decides s c.args.now e)

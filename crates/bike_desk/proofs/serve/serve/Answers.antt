@@ -29,7 +29,9 @@ returns-in-Some-clause-ok g c clean s keeps remembers =
     let it = step_kept s c.args.moment q (map.get s.kept (key_in q)) c.in-Some.kept c.args.text.now refl same c.requires.text in
     record {
       reply = c.kept_answer.ensures ∙ it.0;
-      keeps = subst (λ o. Keeps (state g.S.Store c.find_kept.new.conn) o) it.1 (still g.S.Store c.args.conn.now c.find_kept.new.conn s keeps clean (c.in_ok-kept.ensures.same clean ours) c.find_kept.ensures.quiet);
+      keeps =
+          subst (λ o. Keeps (state g.S.Store c.find_kept.new.conn) o) it.1 (still g.S.Store c.args.conn.now c.find_kept.new.conn s keeps clean
+          (c.in_ok-kept.ensures.same clean ours) c.find_kept.ensures.quiet);
       figures = subst (AreFigures c.args.remembered.now.figures) it.1 remembers.figures;
     }
 
@@ -42,7 +44,8 @@ returns-in-None-clause-ok g c clean s keeps remembers =
     let seen : HasCleanDisk (state g.S.Store c.find_kept.new.conn) = omega (arith, clean, c.serve_anew.ensures.clean) in
     let found = c.in_ok-kept.ensures.found seen ours s (kept_stores old s keeps) in
     let same : KeepsSame (map.get s.kept (key_in q)) None = subst₂ (λ k o. KeepsSame (map.get s.kept k) o) key c.in-None.is found in
-    c.serve_anew.ensures.ok clean s (still g.S.Store c.args.conn.now c.find_kept.new.conn s keeps seen (c.in_ok-kept.ensures.same seen ours) c.find_kept.ensures.quiet) remembers (none_kept s c.args.moment q (map.get s.kept (key_in q)) refl same)
+    c.serve_anew.ensures.ok clean s (still g.S.Store c.args.conn.now c.find_kept.new.conn s keeps seen (c.in_ok-kept.ensures.same seen ours) c.find_kept.ensures.quiet) remembers
+    (none_kept s c.args.moment q (map.get s.kept (key_in q)) refl same)
 
 pub returns-in-None-clause-failed : goal.returns-in-None-clause-failed
 returns-in-None-clause-failed g c clean s keeps remembers =
@@ -53,7 +56,8 @@ returns-in-None-clause-failed g c clean s keeps remembers =
     let seen : HasCleanDisk (state g.S.Store c.find_kept.new.conn) = omega (arith, clean, c.serve_anew.ensures.clean) in
     let found = c.in_ok-kept.ensures.found seen ours s (kept_stores old s keeps) in
     let same : KeepsSame (map.get s.kept (key_in q)) None = subst₂ (λ k o. KeepsSame (map.get s.kept k) o) key c.in-None.is found in
-    c.serve_anew.ensures.failed clean s (still g.S.Store c.args.conn.now c.find_kept.new.conn s keeps seen (c.in_ok-kept.ensures.same seen ours) c.find_kept.ensures.quiet) remembers (none_kept s c.args.moment q (map.get s.kept (key_in q)) refl same)
+    c.serve_anew.ensures.failed clean s (still g.S.Store c.args.conn.now c.find_kept.new.conn s keeps seen (c.in_ok-kept.ensures.same seen ours) c.find_kept.ensures.quiet) remembers
+    (none_kept s c.args.moment q (map.get s.kept (key_in q)) refl same)
 
 pub returns-in-Some-clause-others : goal.returns-in-Some-clause-others
 returns-in-Some-clause-others g c clean s keeps remembers = others_same _ _ (c.in_ok-kept.ensures.same clean (kept_ours (state g.S.Store c.args.conn.now) s keeps)).0.now_is
@@ -69,7 +73,8 @@ returns-in-None-clause-others g c clean s keeps remembers =
     let found = c.in_ok-kept.ensures.found seen ours s (kept_stores old s keeps) in
     let same : KeepsSame (map.get s.kept (key_in q)) None = subst₂ (λ k o. KeepsSame (map.get s.kept k) o) key c.in-None.is found in
     subst (λ db. OnOk c.serve_anew.result (OthersStay db (state g.S.Store c.serve_anew.new.conn).now)) read.0.now_is
-    (c.serve_anew.ensures.others clean s (still g.S.Store c.args.conn.now c.find_kept.new.conn s keeps seen read c.find_kept.ensures.quiet) remembers (none_kept s c.args.moment q (map.get s.kept (key_in q)) refl same))
+    (c.serve_anew.ensures.others clean s (still g.S.Store c.args.conn.now c.find_kept.new.conn s keeps seen read c.find_kept.ensures.quiet) remembers
+    (none_kept s c.args.moment q (map.get s.kept (key_in q)) refl same))
 
 pub returns-in-Some-clause-rests : goal.returns-in-Some-clause-rests
 returns-in-Some-clause-rests g c clean s keeps remembers rests = (c.in_ok-kept.ensures.same clean (kept_ours (state g.S.Store c.args.conn.now) s keeps)).0.now_is
@@ -85,4 +90,5 @@ returns-in-None-clause-rests g c clean s keeps remembers rests =
     let found = c.in_ok-kept.ensures.found seen ours s (kept_stores old s keeps) in
     let same : KeepsSame (map.get s.kept (key_in q)) None = subst₂ (λ k o. KeepsSame (map.get s.kept k) o) key c.in-None.is found in
     subst (λ db. OnOk c.serve_anew.result ((state g.S.Store c.serve_anew.new.conn).now ≡ db)) read.0.now_is
-    (c.serve_anew.ensures.rests clean s (still g.S.Store c.args.conn.now c.find_kept.new.conn s keeps seen read c.find_kept.ensures.quiet) remembers (none_kept s c.args.moment q (map.get s.kept (key_in q)) refl same) rests)
+    (c.serve_anew.ensures.rests clean s (still g.S.Store c.args.conn.now c.find_kept.new.conn s keeps seen read c.find_kept.ensures.quiet) remembers
+    (none_kept s c.args.moment q (map.get s.kept (key_in q)) refl same) rests)

@@ -30,7 +30,12 @@ returns-in_err-store_accepted-in-Ok-clause-failed g c = rw (sym c.request.view_i
     let sound = (kept_stores (state g.S.Store c.args.conn.now) s keeps).sound in
     let found = c.in-Ok.ensures.found s sound it.view_is in
     let told : AreTexts s c.args.now q (record { caller = c.args.asked.caller; key = c.as_str-key.result; command = c.args.asked.text; reply = c.as_str.result }) =
-    record { caller = rw (sym c.request.view_is) at c.requires.asked.caller; key = c.as_str-key.ensures.text; command = rw (sym c.request.view_is) at c.requires.asked.text; reply = c.as_str.ensures.value ∙ c.text-spelled.ensures ∙ ap reply_text decides.1 } in
+    record {
+      caller = rw (sym c.request.view_is) at c.requires.asked.caller;
+      key = c.as_str-key.ensures.text;
+      command = rw (sym c.request.view_is) at c.requires.asked.text;
+      reply = c.as_str.ensures.value ∙ c.text-spelled.ensures ∙ ap reply_text decides.1;
+    } in
     let after = later_read (state g.S.Store c.args.conn.now).now s t c.args.now q c.args.figures.now c.args.found.now c.in-Ok.accepted c.books_accepted.ensures.sums sound it c.request.invariant decides c.after-after.ensures in
     let accepts = accepts_read (state g.S.Store c.args.conn.now).now s t c.args.now q c.args.figures.now c.args.found.now c.in-Ok.accepted c.after-after.result _ sound it c.request.invariant decides found after told in
     let left = c.store_accepted.ensures.left clean s q keeps it.found_for accepts in
@@ -43,7 +48,12 @@ returns-in_ok-store_accepted-in-Ok-clause-ok g c = rw (sym c.request.view_is) (�
     let sound = (kept_stores (state g.S.Store c.args.conn.now) s keeps).sound in
     let found = c.in-Ok.ensures.found s sound it.view_is in
     let told : AreTexts s c.args.now q (record { caller = c.args.asked.caller; key = c.as_str-key.result; command = c.args.asked.text; reply = c.as_str.result }) =
-    record { caller = rw (sym c.request.view_is) at c.requires.asked.caller; key = c.as_str-key.ensures.text; command = rw (sym c.request.view_is) at c.requires.asked.text; reply = c.as_str.ensures.value ∙ c.text-spelled.ensures ∙ ap reply_text decides.1 } in
+    record {
+      caller = rw (sym c.request.view_is) at c.requires.asked.caller;
+      key = c.as_str-key.ensures.text;
+      command = rw (sym c.request.view_is) at c.requires.asked.text;
+      reply = c.as_str.ensures.value ∙ c.text-spelled.ensures ∙ ap reply_text decides.1;
+    } in
     let after = later_read (state g.S.Store c.args.conn.now).now s t c.args.now q c.args.figures.now c.args.found.now c.in-Ok.accepted c.books_accepted.ensures.sums sound it c.request.invariant decides c.after-after.ensures in
     let accepts = accepts_read (state g.S.Store c.args.conn.now).now s t c.args.now q c.args.figures.now c.args.found.now c.in-Ok.accepted c.after-after.result _ sound it c.request.invariant decides found after told in
     let made = c.in_ok-store_accepted-in-Ok.ensures.made clean s q keeps it.found_for accepts in
@@ -62,7 +72,12 @@ returns-in_ok-store_accepted-in-Ok-clause-others g c = rw (sym c.request.view_is
     let sound = (kept_stores (state g.S.Store c.args.conn.now) s keeps).sound in
     let found = c.in-Ok.ensures.found s sound it.view_is in
     let told : AreTexts s c.args.now q (record { caller = c.args.asked.caller; key = c.as_str-key.result; command = c.args.asked.text; reply = c.as_str.result }) =
-    record { caller = rw (sym c.request.view_is) at c.requires.asked.caller; key = c.as_str-key.ensures.text; command = rw (sym c.request.view_is) at c.requires.asked.text; reply = c.as_str.ensures.value ∙ c.text-spelled.ensures ∙ ap reply_text decides.1 } in
+    record {
+      caller = rw (sym c.request.view_is) at c.requires.asked.caller;
+      key = c.as_str-key.ensures.text;
+      command = rw (sym c.request.view_is) at c.requires.asked.text;
+      reply = c.as_str.ensures.value ∙ c.text-spelled.ensures ∙ ap reply_text decides.1;
+    } in
     let after = later_read (state g.S.Store c.args.conn.now).now s t c.args.now q c.args.figures.now c.args.found.now c.in-Ok.accepted c.books_accepted.ensures.sums sound it c.request.invariant decides c.after-after.ensures in
     let accepts = accepts_read (state g.S.Store c.args.conn.now).now s t c.args.now q c.args.figures.now c.args.found.now c.in-Ok.accepted c.after-after.result _ sound it c.request.invariant decides found after told in
     c.in_ok-store_accepted-in-Ok.ensures.others clean s q keeps it.found_for accepts)

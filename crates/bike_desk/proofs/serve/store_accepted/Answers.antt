@@ -25,7 +25,8 @@ next_is g c seen s q keeps found_for it =
     let told = accepts_stored s h.listed c.args.now q c.args.accepted.now c.args.sums c.args.texts.now c.in_ok-stored.stored h.sound h.listing it (answered.found seen ours s h q.command (found_for h).docks_are) c.in_ok-stored.ensures.sums in
     let books = c.books_accepted.ensures.books s h.listed c.args.now q c.args.accepted.now c.in_ok-stored.stored c.args.texts.now c.rows_of-rows.result.items told c.rows_of-rows.ensures in
     let may = c.books_accepted.ensures.may s h.listed c.args.now q c.args.accepted.now c.in_ok-stored.stored c.args.texts.now c.rows_of-rows.result.items told it.anew c.rows_of-rows.ensures in
-    rw c.as_slice.ensures.value (booked_next old new s c.args.now q h c.rows_of-rows.result.items same.0.now_is (still g.S.Store c.args.conn.now c.find_stored.new.conn s keeps seen same c.find_stored.ensures.stored.quiet) it.sound_after may books)
+    rw c.as_slice.ensures.value (booked_next old new s c.args.now q h c.rows_of-rows.result.items same.0.now_is
+    (still g.S.Store c.args.conn.now c.find_stored.new.conn s keeps seen same c.find_stored.ensures.stored.quiet) it.sound_after may books)
 
 pub returns-clause-made : goal.returns-clause-made
 returns-clause-made g c clean s q keeps found_for it =

@@ -23,7 +23,9 @@ changes-preserved g c =
       made = λ clean live may.
           let before = c.changes.invariant.made (omega (arith, c.in_ok-put.ensures.survives.clean)) live may in
           let now = may_at xs i c.change-item.result (tables_of begin.now) may.1 c.changes-test.true c.change-item.is in
-          rw (take-item xs i c.change-item.result c.changes-test.true c.change-item.is) (put_more (take i xs) _ begin mid last before (c.in_ok-put.ensures.done clean before.continues.mode (makes_ours before.makes, subst (MayWrite (write_of c.change-item.result)) (sym before.makes.tables) now)).0);
+          rw (take-item xs i c.change-item.result c.changes-test.true c.change-item.is)
+          (put_more (take i xs) _ begin mid last before (c.in_ok-put.ensures.done clean before.continues.mode
+          (makes_ours before.makes, subst (MayWrite (write_of c.change-item.result)) (sym before.makes.tables) now)).0);
       calm = survives_then begin mid last _ _ (λ _. ⊥) (λ _ db none. none) (λ _ db none. none) c.changes.invariant.calm c.in_ok-put.ensures.survives;
     }
 
@@ -36,7 +38,8 @@ returns-in-Ok-clause-made g c clean s next it =
     let clean_end : HasCleanDisk (state g.S.Store end) = subst (λ h. HasCleanDisk (state g.S.Store h)) (sym same) clean in
     let put = all_put g.S.Store old last end c.args.changes.now c.changes.change-index (omega (arith, c.changes-test.false)) it.keeps.is_open (kept_ours (state g.S.Store old) s it.keeps, it.may) c.changes.invariant.made c.changes.invariant.calm (omega (arith, clean_end, c.commit.ensures.survives.clean)) in
     let shown = (c.in-Ok.ensures.ok clean_end).1 in
-    subst (λ h. Keeps (state g.S.Store h) next) same (next_kept g.S.Store old end c.args.changes.now s next it g.met.S.Store.settled (state g.S.Store last).now put.makes (record { was_open = it.keeps.is_open; is_open = shown.is_open; now_is = shown.now_is; committed_is = shown.committed_is; mode = shown.mode }))
+    subst (λ h. Keeps (state g.S.Store h) next) same (next_kept g.S.Store old end c.args.changes.now s next it g.met.S.Store.settled (state g.S.Store last).now put.makes
+    (record { was_open = it.keeps.is_open; is_open = shown.is_open; now_is = shown.now_is; committed_is = shown.committed_is; mode = shown.mode }))
 
 pub returns-in-Ok-clause-others : goal.returns-in-Ok-clause-others
 returns-in-Ok-clause-others g c clean s next it =

@@ -19,9 +19,14 @@ returns-in-SystemInformation g c = feed_as g.S.Store c.args.system.now c.args.mo
 
 pub returns : goal.returns
 returns g c = elim c.match-feed.branch [
-  | in-VehicleTypes w ↦ feed_as g.S.Store c.args.system.now c.args.moment VehicleTypes w.in-VehicleTypes.is (listed g.S.Store c.args.system.now c.args.moment Types w.listing-is c.write_listing.ensures)
-  | in-StationInformation w ↦ feed_as g.S.Store c.args.system.now c.args.moment StationInformation w.in-StationInformation.is (listed g.S.Store c.args.system.now c.args.moment Stations w.listing-is c.write_listing.ensures)
-  | in-StationStatus w ↦ feed_as g.S.Store c.args.system.now c.args.moment StationStatus w.in-StationStatus.is (listed g.S.Store c.args.system.now c.args.moment Statuses w.listing-is c.write_listing.ensures)
-  | in-SystemPricingPlans w ↦ feed_as g.S.Store c.args.system.now c.args.moment SystemPricingPlans w.in-SystemPricingPlans.is (listed g.S.Store c.args.system.now c.args.moment Plans w.listing-is c.write_listing.ensures)
-  | in-SystemRegions w ↦ feed_as g.S.Store c.args.system.now c.args.moment SystemRegions w.in-SystemRegions.is (listed g.S.Store c.args.system.now c.args.moment Regions w.listing-is c.write_listing.ensures)
+  | in-VehicleTypes w ↦ feed_as g.S.Store c.args.system.now c.args.moment VehicleTypes w.in-VehicleTypes.is
+      (listed g.S.Store c.args.system.now c.args.moment Types w.listing-is c.write_listing.ensures)
+  | in-StationInformation w ↦ feed_as g.S.Store c.args.system.now c.args.moment StationInformation w.in-StationInformation.is
+      (listed g.S.Store c.args.system.now c.args.moment Stations w.listing-is c.write_listing.ensures)
+  | in-StationStatus w ↦ feed_as g.S.Store c.args.system.now c.args.moment StationStatus w.in-StationStatus.is
+      (listed g.S.Store c.args.system.now c.args.moment Statuses w.listing-is c.write_listing.ensures)
+  | in-SystemPricingPlans w ↦ feed_as g.S.Store c.args.system.now c.args.moment SystemPricingPlans w.in-SystemPricingPlans.is
+      (listed g.S.Store c.args.system.now c.args.moment Plans w.listing-is c.write_listing.ensures)
+  | in-SystemRegions w ↦ feed_as g.S.Store c.args.system.now c.args.moment SystemRegions w.in-SystemRegions.is
+      (listed g.S.Store c.args.system.now c.args.moment Regions w.listing-is c.write_listing.ensures)
 ]

@@ -30,13 +30,15 @@ returns-in_default g c = walk_ends g.S.Store (languages c.args.system.now) tt (r
 pub returns-in_err-write_language-2 : goal.returns-in_err-write_language-2
 returns-in_err-write_language-2 g c =
     write_failed g.S.Store (languages c.args.system.now) _ c.from_residual-in_err-write_language-2.ensures.1 (behind_under g.S.Store (languages c.args.system.now)
-    (walk_writes g.S.Store (languages c.args.system.now) c.in-Some.language (rw c.in-Some.is at c.languages.invariant) (λ clean s at. c.in_err-write_language-2.ensures.wrote) c.in_err-write_language-2.ensures.place))
+    (walk_writes g.S.Store (languages c.args.system.now) c.in-Some.language (rw c.in-Some.is at c.languages.invariant)
+    (λ clean s at. c.in_err-write_language-2.ensures.wrote) c.in_err-write_language-2.ensures.place))
     c.in_err-write_language-2.ensures.outcome
 
 pub returns-in_err-next-2 : goal.returns-in_err-next-2
 returns-in_err-next-2 g c =
     asked_failed g.S.Store (languages c.args.system.now) c.in_err-next-2.field-0.0 _ c.from_residual-in_err-next-2.ensures.1 (behind_under g.S.Store (languages c.args.system.now)
-    (walk_writes g.S.Store (languages c.args.system.now) c.in-Some.language (rw c.in-Some.is at c.languages.invariant) (λ clean s at. c.in_ok-write_language-2.ensures.wrote) c.in_ok-write_language-2.ensures.place))
+    (walk_writes g.S.Store (languages c.args.system.now) c.in-Some.language (rw c.in-Some.is at c.languages.invariant)
+    (λ clean s at. c.in_ok-write_language-2.ensures.wrote) c.in_ok-write_language-2.ensures.place))
     c.in_err-next-2.ensures.query c.in_err-next-2.ensures.takes_none
 
 pub languages-smaller : goal.languages-smaller
@@ -47,7 +49,8 @@ languages-smaller g c =
 pub languages-preserved : goal.languages-preserved
 languages-preserved g c =
     walk_goes g.S.Store (languages c.args.system.now) c.in-Some.language c.in_ok-next-2.next c.in_ok-next-2.next
-    (walk_writes g.S.Store (languages c.args.system.now) c.in-Some.language (rw c.in-Some.is at c.languages.invariant) (λ clean s at. c.in_ok-write_language-2.ensures.wrote) c.in_ok-write_language-2.ensures.place)
+    (walk_writes g.S.Store (languages c.args.system.now) c.in-Some.language (rw c.in-Some.is at c.languages.invariant)
+    (λ clean s at. c.in_ok-write_language-2.ensures.wrote) c.in_ok-write_language-2.ensures.place)
     c.in_ok-next-2.ensures.query refl (λ clean s at. language_next c.args.system.now c.in-Some.language c.in_ok-next-2.next s)
 
 pub returns : goal.returns

@@ -35,7 +35,8 @@ returns-in_default g c =
 pub returns-in_err-names : goal.returns-in_err-names
 returns-in_err-names g c =
     let w = listed g.L.Listed.key g.L.Listed.element g.L.Listed.held c.args.system.now in
-    asked_failed g.S.Store w c.in_err-names.field-0.0 _ c.from_residual-in_err-names.ensures.1 (ahead_under g.S.Store w c.list.invariant.0) c.in_err-names.ensures.query c.in_err-names.ensures.takes_none
+    asked_failed g.S.Store w c.in_err-names.field-0.0 _ c.from_residual-in_err-names.ensures.1
+    (ahead_under g.S.Store w c.list.invariant.0) c.in_err-names.ensures.query c.in_err-names.ensures.takes_none
 
 pub returns-in_err-write : goal.returns-in_err-write
 returns-in_err-write g c =

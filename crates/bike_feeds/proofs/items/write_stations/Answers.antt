@@ -28,11 +28,13 @@ stations-init g c = (
   walk_begins g.S.Store (stations c.args.system.now) c.in_ok-next.next (option_map (λ x. station_of x.info) c.in_ok-next.next)
       (begins_asked g.S.Store (stations c.args.system.now) c.in_ok-translated.translated c.requires.going c.requires.place.0 (λ s. refl) c.in_ok-translated.ensures.query) c.in_ok-next.ensures.query
       (λ clean s at says. next_is (IsNamedStation true s) (λ x. station_of x.info) (λ e x is. is.0) s None _ _
-      (says ((told_begins g.S.Store c.in_ok-translated.translated c.in_ok-translated.ensures.query c.in_ok-next.ensures.query).are clean s at) (none_ahead (IsNamedStation true s) s None _ c.new-page.ensures.items))),
+      (says ((told_begins g.S.Store c.in_ok-translated.translated c.in_ok-translated.ensures.query c.in_ok-next.ensures.query).are clean s at)
+      (none_ahead (IsNamedStation true s) s None _ c.new-page.ensures.items))),
   told_begins g.S.Store c.in_ok-translated.translated c.in_ok-translated.ensures.query c.in_ok-next.ensures.query,
   ahead_asked g.S.Store (IsNamedStation true) c.in_ok-next.next None _ _
       (stays_asked g.S.Store c.in_ok-translated.translated c.requires.going c.in_ok-translated.ensures.query) c.in_ok-next.ensures.query
-      (λ clean s at says. says ((told_begins g.S.Store c.in_ok-translated.translated c.in_ok-translated.ensures.query c.in_ok-next.ensures.query).are clean s at) (none_ahead (IsNamedStation true s) s None _ c.new-page.ensures.items)),
+      (λ clean s at says. says ((told_begins g.S.Store c.in_ok-translated.translated c.in_ok-translated.ensures.query c.in_ok-next.ensures.query).are clean s at)
+      (none_ahead (IsNamedStation true s) s None _ c.new-page.ensures.items)),
 )
 
 pub returns-in_default : goal.returns-in_default
@@ -63,7 +65,8 @@ stations-preserved g c = (
       (λ s e is. c.station_id-station.ensures ∙ is.0.1) (rw c.in-Some.is at c.stations.invariant.2) c.in_ok-next-2.ensures.query clean s at))),
   told_later g.S.Store c.stations.invariant.1 c.in_ok-next-2.ensures.query.clean,
   ahead_asked g.S.Store (IsNamedStation true) c.in_ok-next-2.next (Some c.station_id-station.result.now) _ _ c.stations.invariant.0.stays c.in_ok-next-2.ensures.query
-      (λ clean s at says. says (told_asked g.S.Store c.stations.invariant.1 c.in_ok-next-2.ensures.query clean s at) (still_ahead g.S.Store (IsNamedStation true) c.in-Some.named _ c.station_id-station.result.now
+      (λ clean s at says. says (told_asked g.S.Store c.stations.invariant.1 c.in_ok-next-2.ensures.query clean s at)
+      (still_ahead g.S.Store (IsNamedStation true) c.in-Some.named _ c.station_id-station.result.now
       (λ s e is. c.station_id-station.ensures ∙ is.0.1) (rw c.in-Some.is at c.stations.invariant.2) c.in_ok-next-2.ensures.query clean s at)),
 )
 

@@ -4,7 +4,8 @@ use Rattle.bike_feeds.proofs.list.write_system_information.Goals as goal
 
 pub returns-in_err-open_information : goal.returns-in_err-open_information
 returns-in_err-open_information g c =
-    head_cut g.S.Store (information_parts c.args.system.now c.args.moment) _ c.from_residual.ensures.1 c.requires.start c.open_information.ensures.wrote c.requires.going c.in_err-open_information.ensures.outcome
+    head_cut g.S.Store
+    (information_parts c.args.system.now c.args.moment) _ c.from_residual.ensures.1 c.requires.start c.open_information.ensures.wrote c.requires.going c.in_err-open_information.ensures.outcome
 
 pub returns-in_err-write_languages : goal.returns-in_err-write_languages
 returns-in_err-write_languages g c =
@@ -14,7 +15,8 @@ returns-in_err-write_languages g c =
 pub returns-in_err-names : goal.returns-in_err-names
 returns-in_err-names g c =
     list_failed g.S.Store (information_parts c.args.system.now c.args.moment) _ _ c.from_residual-in_err-names.ensures.1
-    c.requires.start c.open_information.ensures.wrote (items_unasked tt c.in_ok-write_languages.ensures c.requires.going c.in_err-names.field-0.0 c.in_err-names.ensures.query c.in_err-names.ensures.takes_none)
+    c.requires.start c.open_information.ensures.wrote
+    (items_unasked tt c.in_ok-write_languages.ensures c.requires.going c.in_err-names.field-0.0 c.in_err-names.ensures.query c.in_err-names.ensures.takes_none)
     c.in_ok-open_information.ensures.outcome
 
 pub returns-in_err-close_information : goal.returns-in_err-close_information

@@ -9,7 +9,8 @@ use Rattle.bike_fixed.proofs.day.begin_of.Goals as goal
 pub returns-in_err-instant-clause-before : goal.returns-in_err-instant-clause-before
 returns-in_err-instant-clause-before c =
     let zero : time_nanos c.to_datetime-midnight.result.time ≡ 0 = rw c.to_datetime-midnight.ensures.time c.midnight.ensures in
-    absurd (is_instant (plain_zone c.args.zone.now) c.args.date c.to_datetime-midnight.result _ _ c.disambiguate.result c.to_datetime-midnight.ensures.date zero c.to_ambiguous_timestamp.ensures.datetime c.to_ambiguous_timestamp.ensures.offsets c.disambiguate.ensures c.requires
+    absurd (is_instant
+    (plain_zone c.args.zone.now) c.args.date c.to_datetime-midnight.result _ _ c.disambiguate.result c.to_datetime-midnight.ensures.date zero c.to_ambiguous_timestamp.ensures.datetime c.to_ambiguous_timestamp.ensures.offsets c.disambiguate.ensures c.requires
     (sym c.ok.ensures.value ∙ c.in_err-instant.was))
 
 pub returns-then-nanos-lt0-clause-before : goal.returns-then-nanos-lt0-clause-before
@@ -31,4 +32,5 @@ returns-clause-begins c =
     let some = sym c.ok.ensures.value ∙ c.in_ok-instant.was in
     let few : c.unsigned_abs.result / 1_000_000_000 ≤ last_moment = is_moment (plain_zone c.args.zone.now) c.args.date c.to_datetime-midnight.result _ _ c.disambiguate.result c.to_datetime-midnight.ensures.date zero c.to_ambiguous_timestamp.ensures.datetime c.to_ambiguous_timestamp.ensures.offsets c.disambiguate.ensures c.requires c.in_ok-instant.instant c.unsigned_abs.result some nanos in
     let made : c.new.result ≡ Some (c.unsigned_abs.result / 1_000_000_000) = is_made _ c.new.result c.new.ensures few in
-    rw made (begins_second (plain_zone c.args.zone.now) c.args.date c.to_datetime-midnight.result _ _ c.disambiguate.result c.to_datetime-midnight.ensures.date zero c.to_ambiguous_timestamp.ensures.datetime c.to_ambiguous_timestamp.ensures.offsets c.disambiguate.ensures c.in_ok-instant.instant c.unsigned_abs.result some nanos)
+    rw made (begins_second
+    (plain_zone c.args.zone.now) c.args.date c.to_datetime-midnight.result _ _ c.disambiguate.result c.to_datetime-midnight.ensures.date zero c.to_ambiguous_timestamp.ensures.datetime c.to_ambiguous_timestamp.ensures.offsets c.disambiguate.ensures c.in_ok-instant.instant c.unsigned_abs.result some nanos)

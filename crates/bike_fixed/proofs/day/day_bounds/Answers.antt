@@ -33,7 +33,8 @@ returns-clause-bounds c = record {
 }
 
 pub returns-then-not-is_in_years-clause-out_of_range : goal.returns-then-not-is_in_years-clause-out_of_range
-returns-then-not-is_in_years-clause-out_of_range c = λ _. record { date = c.in-Some.date; named = c.in-Some.ensures.some; rule = plain_zone c.in-Ok.zone; read = c.in-Ok.ensures.value; outside = inl (c.is_in_years.ensures.no (search rules)) }
+returns-then-not-is_in_years-clause-out_of_range c =
+    λ _. record { date = c.in-Some.date; named = c.in-Some.ensures.some; rule = plain_zone c.in-Ok.zone; read = c.in-Ok.ensures.value; outside = inl (c.is_in_years.ensures.no (search rules)) }
 
 pub returns-in_default-tomorrow-clause-out_of_range : goal.returns-in_default-tomorrow-clause-out_of_range
 returns-in_default-tomorrow-clause-out_of_range c =
@@ -43,7 +44,15 @@ returns-in_default-tomorrow-clause-out_of_range c =
     absurd (false≢true (c.in_default-tomorrow.ensures.succeeds.1 below))
 
 pub returns-in_default-begin_of-clause-out_of_range : goal.returns-in_default-begin_of-clause-out_of_range
-returns-in_default-begin_of-clause-out_of_range c = λ _. record { date = c.in-Some.date; named = c.in-Some.ensures.some; rule = plain_zone c.in-Ok.zone; read = c.in-Ok.ensures.value; outside = inr (inl (c.in_default-begin_of.ensures.before)) }
+returns-in_default-begin_of-clause-out_of_range c =
+    λ _. record { date = c.in-Some.date; named = c.in-Some.ensures.some; rule = plain_zone c.in-Ok.zone; read = c.in-Ok.ensures.value; outside = inr (inl (c.in_default-begin_of.ensures.before)) }
 
 pub returns-in_default-begin_of-2-clause-out_of_range : goal.returns-in_default-begin_of-2-clause-out_of_range
-returns-in_default-begin_of-2-clause-out_of_range c = λ _. record { date = c.in-Some.date; named = c.in-Some.ensures.some; rule = plain_zone c.in-Ok.zone; read = c.in-Ok.ensures.value; outside = inr (inr (rw c.in-Ok-tomorrow.ensures.value at c.in_default-begin_of-2.ensures.before)) }
+returns-in_default-begin_of-2-clause-out_of_range c =
+    λ _. record {
+      date = c.in-Some.date;
+      named = c.in-Some.ensures.some;
+      rule = plain_zone c.in-Ok.zone;
+      read = c.in-Ok.ensures.value;
+      outside = inr (inr (rw c.in-Ok-tomorrow.ensures.value at c.in_default-begin_of-2.ensures.before));
+    }

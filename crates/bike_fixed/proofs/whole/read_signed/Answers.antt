@@ -18,7 +18,10 @@ returns-then-number-least-clause-value c =
     let same : z ≡ c.in-Ok.number = cc in
     let low = rw same at h.low_le in
     let high = rw same at h.le_high in
-    elim c.then-number-least.branch [ then-number-least-via-then-number-least w ↦ not_below c.in-Ok.number c.args.least fits c.ranges.least w.if-number-least.true low | then-number-least-via-else-number-least+then-number-greatest w ↦ not_below c.args.greatest c.in-Ok.number c.ranges.greatest fits w.if-number-greatest.true high ]))
+    elim c.then-number-least.branch [
+      | then-number-least-via-then-number-least w ↦ not_below c.in-Ok.number c.args.least fits c.ranges.least w.if-number-least.true low
+      | then-number-least-via-else-number-least+then-number-greatest w ↦ not_below c.args.greatest c.in-Ok.number c.ranges.greatest fits w.if-number-greatest.true high
+    ]))
 
 pub returns-then-ne-clause-value : goal.returns-then-ne-clause-value
 returns-then-ne-clause-value c =

@@ -32,4 +32,5 @@ pub returns-clause-value : goal.returns-clause-value
 returns-clause-value c =
     let small : c.args.greatest < 2 ^ 64 = omega (arith, c.ranges.greatest) in
     let text : c.format.result.now ≡ c.args.text.now = search rules in
-    sym (number_full c.args.least c.args.greatest c.args.text.now c.in-Ok.number small (record { low_le = c.if-number-least.false; le_high = c.if-number-greatest.false; spelled = cc (text, c.format.ensures.text) }))
+    sym (number_full c.args.least c.args.greatest c.args.text.now c.in-Ok.number small
+    (record { low_le = c.if-number-least.false; le_high = c.if-number-greatest.false; spelled = cc (text, c.format.ensures.text) }))

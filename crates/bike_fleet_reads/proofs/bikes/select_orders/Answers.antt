@@ -1,5 +1,5 @@
 use Rattle.std.proofs.Common.{rules}
-use Rattle.bike_rows.proofs.ParamLemmas.{bindings}
+use Rattle.bike_sql.proofs.ParamLemmas.{bindings}
 use Rattle.bike_schema.proofs.ListedLemmas.{all_answer, all_refused}
 use Rattle.bike_fleet_reads.proofs.StatementLemmas.{lists_orders}
 use Rattle.bike_fleet_reads.proofs.bikes.select_orders.Goals as goal

@@ -1,4 +1,4 @@
-use Rattle.bike_rows.proofs.ParamLemmas.{bindings}
+use Rattle.bike_sql.proofs.ParamLemmas.{bindings}
 use Rattle.bike_schema.proofs.AnswerLemmas.{row_answers}
 use Rattle.bike_fleet_reads.proofs.StatementLemmas.{finds_order}
 use Rattle.bike_fleet_reads.proofs.orders.select_order.Goals as goal

@@ -1,9 +1,10 @@
 use Rattle.std.specs.FinMap as map
 use Rattle.std.proofs.Common.{◌∙◌}
-use Rattle.bike_rows.proofs.ChainLaws.{reads_as}
+use Rattle.bike_sql.proofs.ChainLaws.{reads_as}
 use Rattle.bike_schema.proofs.AnswerLemmas.{has_row}
 use Rattle.bike_book.proofs.FoundKeys.{found_by_key}
 use Rattle.bike_fleet_reads.proofs.stations.has_station.Goals as goal
 
 pub returns : goal.returns
-returns g c = reads_as c.in_ok-row.ensures (λ db is s h. c.is_some.ensures ∙ has_row _ (map.get s.stations c.args.station.now) (is s h ∙ (found_by_key s h.listed h.sound h.listing).stations c.args.station.now))
+returns g c =
+    reads_as c.in_ok-row.ensures (λ db is s h. c.is_some.ensures ∙ has_row _ (map.get s.stations c.args.station.now) (is s h ∙ (found_by_key s h.listed h.sound h.listing).stations c.args.station.now))

@@ -1,6 +1,6 @@
 use Rattle.std.proofs.Common.{◌≡◌, None, refl, sym, ap₂, subst, rules, ◌∙◌}
 use Rattle.std.specs.Prelude.{option_map, option_and_then}
-use Rattle.bike_rows.proofs.ChainLaws.{reads_both, reads_failed}
+use Rattle.bike_sql.proofs.ChainLaws.{reads_both, reads_failed}
 use Rattle.bike_book.specs.Tables.{Bikes}
 use Rattle.bike_schema.specs.Tables.{tables_of}
 use Rattle.bike_readings.proofs.RulesLaws.{stored_in_order}

@@ -12,7 +12,8 @@ returns-in-Ok-clause-sent g c clean s at =
     let early : HasCleanDisk (desk_state g.S.Store c.now.new.self) = omega (arith, clean, c.publish_at.ensures.clean) in
     let told = c.in-Ok.ensures.query.ok early s at in
     let moment : c.later.result ≡ max c.args.moment s.now = c.later.ensures.value ∙ ap (max c.args.moment) told.0 in
-    subst (λ (t : ℕ). Publishes g.S.Store c.publish_at.new.desk s t c.args.feed (g.W.Write.contents c.args.writer.now) (g.W.Write.contents c.publish_at.new.writer) c.publish_at.result) moment (c.publish_at.ensures.sent clean s told.1)
+    subst (λ (t : ℕ). Publishes g.S.Store c.publish_at.new.desk s t c.args.feed (g.W.Write.contents c.args.writer.now) (g.W.Write.contents c.publish_at.new.writer) c.publish_at.result) moment
+    (c.publish_at.ensures.sent clean s told.1)
 
 pub returns-in-Err-clause-sent : goal.returns-in-Err-clause-sent
 returns-in-Err-clause-sent g c clean s at =

@@ -71,12 +71,14 @@ returns-in-Reject-clause-refuses g c stopped =
 pub returns-in-Apply-clause-refuses : goal.returns-in-Apply-clause-refuses
 returns-in-Apply-clause-refuses g c stopped =
     subst (λ (a : Action). Sends (g.W.Write.contents c.args.writer.now) (g.W.Write.contents c.write_answer-in-Apply.new.out) (refusal_of a) c.write_answer-in-Apply.result) (sym c.in-Apply.is)
-    (subst (λ (a : Answer). Sends (g.W.Write.contents c.args.writer.now) (g.W.Write.contents c.write_answer-in-Apply.new.out) a c.write_answer-in-Apply.result) (c.act-answer.ensures.refuses stopped) c.write_answer-in-Apply.ensures)
+    (subst (λ (a : Answer). Sends (g.W.Write.contents c.args.writer.now) (g.W.Write.contents c.write_answer-in-Apply.new.out) a c.write_answer-in-Apply.result)
+    (c.act-answer.ensures.refuses stopped) c.write_answer-in-Apply.ensures)
 
 pub returns-in-Show-clause-refuses : goal.returns-in-Show-clause-refuses
 returns-in-Show-clause-refuses g c stopped =
     subst (λ (a : Action). Sends (g.W.Write.contents c.args.writer.now) (g.W.Write.contents c.write_answer-in-Show.new.out) (refusal_of a) c.write_answer-in-Show.result) (sym c.in-Show.is)
-    (subst (λ (a : Answer). Sends (g.W.Write.contents c.args.writer.now) (g.W.Write.contents c.write_answer-in-Show.new.out) a c.write_answer-in-Show.result) (c.show-answer.ensures.refuses stopped) c.write_answer-in-Show.ensures)
+    (subst (λ (a : Answer). Sends (g.W.Write.contents c.args.writer.now) (g.W.Write.contents c.write_answer-in-Show.new.out) a c.write_answer-in-Show.result)
+    (c.show-answer.ensures.refuses stopped) c.write_answer-in-Show.ensures)
 
 pub returns-in-Publish-clause-refuses : goal.returns-in-Publish-clause-refuses
 returns-in-Publish-clause-refuses g c stopped =

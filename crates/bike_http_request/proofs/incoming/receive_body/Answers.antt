@@ -27,7 +27,8 @@ pub returns-clause-asks : goal.returns-clause-asks
 returns-clause-asks g c =
     let whole : c.in_ok-receive_until.field-0 ≡ true = search in
     whole_asked _ _ _ _ c.args.head c.in-Of.size _ _ _ _ c.requires c.in-Of.is (rw whole at c.in_ok-receive_until.ensures.fills)
-    (rw c.as_slice-bytes.ensures.value at c.of-method.ensures) (c.in-Ok.ensures.cases.0 ∙ (rw c.as_slice-bytes.ensures.value at c.of.ensures)) (ap (λ (l : List ℕ). slice_range l c.args.head.length (c.args.head.length + c.in-Of.size)) c.as_slice-bytes.ensures.value) c.in_ok-ask.ensures.asked
+    (rw c.as_slice-bytes.ensures.value at c.of-method.ensures) (c.in-Ok.ensures.cases.0 ∙ (rw c.as_slice-bytes.ensures.value at c.of.ensures))
+    (ap (λ (l : List ℕ). slice_range l c.args.head.length (c.args.head.length + c.in-Of.size)) c.as_slice-bytes.ensures.value) c.in_ok-ask.ensures.asked
 
 pub returns-in_err-ask-clause-memory : goal.returns-in_err-ask-clause-memory
 returns-in_err-ask-clause-memory g c is =

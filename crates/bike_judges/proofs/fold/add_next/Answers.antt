@@ -20,4 +20,5 @@ returns-in-None-clause-steps g c total =
     let old = c.args.rows.now.conn.now in
     let new = c.advance.new.self.conn.now in
     let moved = c.in_ok-advance.ensures in
-    steps_on g.S.Store says old new c.args.lines.now c.args.lines.now End None (λ clean. rw (← c.in-None.ensures) at (moved.ok clean)) moved.same moved.mode moved.survives (none_next g.S.Store says old new c.args.lines.now)
+    steps_on g.S.Store says old new c.args.lines.now c.args.lines.now End None (λ clean. rw (← c.in-None.ensures) at (moved.ok clean)) moved.same moved.mode moved.survives
+    (none_next g.S.Store says old new c.args.lines.now)

@@ -1,6 +1,6 @@
 use Rattle.std.proofs.Common.{◌≡◌, rules, Ok, true, false, Some, ap, subst, ◌∙◌}
 use Rattle.std.specs.List.{list_all}
-use Rattle.bike_rows.specs.Calls.{ReadsWhere}
+use Rattle.bike_sql.specs.Calls.{ReadsWhere}
 use Rattle.bike_schema.specs.Tables.{IsOurs, tables_of}
 use Rattle.bike_schema.specs.declared.fault.StatementFault.{StatementFault}
 use Rattle.bike_judges.proofs.AnyOrderLaws.{next_tested, goes_on, is_failed, is_passed}

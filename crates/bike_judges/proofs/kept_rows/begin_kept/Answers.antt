@@ -1,4 +1,4 @@
-use Rattle.bike_rows.proofs.ParamLemmas.{bindings}
+use Rattle.bike_sql.proofs.ParamLemmas.{bindings}
 use Rattle.bike_judges.proofs.BeginLaws.{kept_begins}
 use Rattle.bike_judges.proofs.KeptText.{kept_rows}
 use Rattle.bike_judges.proofs.kept_rows.begin_kept.Goals as goal

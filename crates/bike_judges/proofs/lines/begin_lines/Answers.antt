@@ -1,5 +1,5 @@
-use Rattle.bike_rows.proofs.CallLaws.{walk_returns}
-use Rattle.bike_rows.proofs.ParamLemmas.{bindings}
+use Rattle.bike_sql.proofs.CallLaws.{walk_returns}
+use Rattle.bike_sql.proofs.ParamLemmas.{bindings}
 use Rattle.bike_judges.proofs.lines.begin_lines.Goals as goal
 
 pub returns : goal.returns

@@ -1,5 +1,5 @@
 use Rattle.std.proofs.Common.{rules, Ok, Some, subst}
-use Rattle.bike_rows.specs.Calls.{ReadsWhere}
+use Rattle.bike_sql.specs.Calls.{ReadsWhere}
 use Rattle.bike_schema.specs.Tables.{IsOurs}
 use Rattle.bike_judges.proofs.ShowLemmas.{Finds, goes_on, ends_at, ends}
 use Rattle.bike_judges.proofs.lines.judge_lines.Goals as goal
@@ -19,5 +19,7 @@ returns-in-End g c =
 pub lines-preserved : goal.lines-preserved
 lines-preserved g c = record {
   same = search rules;
-  under_way = goes_on g.S.Store g.J.Judge.says c.args.query c.args.conn.now c.lines.rows.conn.now c.show_next.new.rows.conn.now c.args.judge c.lines.judge c.show_next.new.judge c.lines.invariant.under_way (rw c.in-Shown.is at c.in_ok-show_next.ensures.steps);
+  under_way =
+      goes_on g.S.Store g.J.Judge.says c.args.query c.args.conn.now c.lines.rows.conn.now c.show_next.new.rows.conn.now c.args.judge c.lines.judge c.show_next.new.judge c.lines.invariant.under_way
+      (rw c.in-Shown.is at c.in_ok-show_next.ensures.steps);
 }

@@ -1,5 +1,5 @@
 use Rattle.std.proofs.Common.{arith}
-use Rattle.bike_rows.proofs.ChainLaws.{reads_both, reads_failed, reads_refused}
+use Rattle.bike_sql.proofs.ChainLaws.{reads_both, reads_failed, reads_refused}
 use Rattle.bike_book.specs.Tables.{Meta}
 use Rattle.bike_ledger_rules.proofs.EntryVerdict.{entries_judged}
 use Rattle.bike_ledger_rules.proofs.ReadLaws.{reads_ours}

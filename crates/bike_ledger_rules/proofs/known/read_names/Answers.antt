@@ -1,4 +1,4 @@
-use Rattle.bike_rows.proofs.ChainLaws.{reads_both, reads_failed}
+use Rattle.bike_sql.proofs.ChainLaws.{reads_both, reads_failed}
 use Rattle.bike_ledger_rules.proofs.ReadLaws.{reads_ours_as}
 use Rattle.bike_ledger_rules.proofs.known.read_names.Goals as goal
 

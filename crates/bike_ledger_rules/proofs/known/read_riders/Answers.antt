@@ -1,7 +1,7 @@
 use Rattle.std.proofs.Common.{◌∙◌, ap}
 use Rattle.std.specs.List.{fold}
 use Rattle.bike_schema.specs.Tables.{tables_of}
-use Rattle.bike_rows.proofs.ChainLaws.{reads_as}
+use Rattle.bike_sql.proofs.ChainLaws.{reads_as}
 use Rattle.bike_readings.proofs.RulesLaws.{stored_in_order}
 use Rattle.bike_ledger_rules.specs.declared.known.RiderSet.{RiderSet}
 use Rattle.bike_ledger_rules.specs.Known.{is_listed, with_rider}

@@ -1,5 +1,5 @@
-use Rattle.bike_rows.proofs.CallLaws.{read_returns}
-use Rattle.bike_rows.proofs.ParamLemmas.{bindings}
+use Rattle.bike_sql.proofs.CallLaws.{read_returns}
+use Rattle.bike_sql.proofs.ParamLemmas.{bindings}
 use Rattle.bike_schema.specs.Tables.{IsOurs}
 use Rattle.bike_ledger_rules.proofs.MetaRow.{finds_meta}
 use Rattle.bike_ledger_rules.proofs.moment.find_meta_row.Goals as goal

@@ -1,5 +1,5 @@
 use Rattle.std.proofs.Common.{sym, subst}
-use Rattle.bike_rows.proofs.ChainLaws.{reads_both, reads_refused}
+use Rattle.bike_sql.proofs.ChainLaws.{reads_both, reads_refused}
 use Rattle.bike_schema.specs.Tables.{tables_of}
 use Rattle.bike_ledger_rules.specs.Rentals.{AreSums}
 use Rattle.bike_ledger_rules.proofs.ReadLaws.{reads_ours}

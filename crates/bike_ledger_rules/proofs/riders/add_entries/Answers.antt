@@ -1,7 +1,7 @@
 use Rattle.std.proofs.Common.{◌∙◌, List, ℤ, ap, refl, sym}
 use Rattle.std.specs.List.{fold}
 use Rattle.sqlite_value.specs.Order.{Row}
-use Rattle.bike_rows.proofs.ChainLaws.{reads_as}
+use Rattle.bike_sql.proofs.ChainLaws.{reads_as}
 use Rattle.bike_schema.specs.Tables.{tables_of}
 use Rattle.bike_readings.specs.Readings.{entry_read}
 use Rattle.bike_ledger_rules.specs.declared.riders.Balances.{Balances}

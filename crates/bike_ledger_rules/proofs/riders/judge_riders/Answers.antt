@@ -2,7 +2,7 @@ use Rattle.std.proofs.Common.{◌∙◌, ap}
 use Rattle.std.specs.List.{fold}
 use Rattle.bike_schema.specs.Tables.{tables_of}
 use Rattle.bike_readings.specs.ReadOff.{operator_of}
-use Rattle.bike_rows.proofs.ChainLaws.{reads_both}
+use Rattle.bike_sql.proofs.ChainLaws.{reads_both}
 use Rattle.bike_ledger_rules.specs.Riders.{with_credit, with_ride}
 use Rattle.bike_ledger_rules.proofs.ReadLaws.{reads_ours}
 use Rattle.bike_ledger_rules.proofs.RiderRules.{riders_judged}

@@ -1,5 +1,5 @@
 use Rattle.std.proofs.Common.{sym, subst}
-use Rattle.bike_rows.proofs.ChainLaws.{reads_as}
+use Rattle.bike_sql.proofs.ChainLaws.{reads_as}
 use Rattle.bike_schema.specs.Tables.{tables_of}
 use Rattle.bike_ledger_rules.specs.declared.riders.RiderNumbers.{RiderNumbers}
 use Rattle.bike_ledger_rules.specs.Riders.{ArePast}

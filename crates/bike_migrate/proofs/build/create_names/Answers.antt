@@ -1,4 +1,4 @@
-use Rattle.bike_rows.proofs.ParamLemmas.{bindings}
+use Rattle.bike_sql.proofs.ParamLemmas.{bindings}
 use Rattle.bike_book.specs.Tables.{MoreNames}
 use Rattle.bike_migrate.proofs.StepLemmas.{runs_does}
 use Rattle.bike_migrate.proofs.TextLemmas.{create_writes, creates}

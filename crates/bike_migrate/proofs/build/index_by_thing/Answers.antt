@@ -1,4 +1,4 @@
-use Rattle.bike_rows.proofs.ParamLemmas.{bindings}
+use Rattle.bike_sql.proofs.ParamLemmas.{bindings}
 use Rattle.bike_migrate.proofs.StepLemmas.{runs_does}
 use Rattle.bike_migrate.proofs.TextLemmas.{thing_text, thing_only, index_writes, makes_thing}
 use Rattle.bike_migrate.proofs.build.index_by_thing.Goals as goal

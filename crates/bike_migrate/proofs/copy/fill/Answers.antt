@@ -14,7 +14,9 @@ loop-row-preserved g c = does_then c.loop-row.invariant (λ a b ours only. makes
     (λ a b d x ours first second. more_only c.args.rows.now c.loop-row.row-index c.row-item.result c.loop-row-test.true c.row-item.is a b d first second)
 
 pub returns : goal.returns
-returns g c = does_weaker c.loop-row.invariant (λ a b x ours makes. subst (λ rows. WritesOnly (version_write ∷ station_writes rows) a b) (take_all c.loop-row.row-index c.args.rows.now (let past = c.loop-row-test.false in omega (arith, past))) makes)
+returns g c =
+    does_weaker c.loop-row.invariant (λ a b x ours makes. subst (λ rows. WritesOnly (version_write ∷ station_writes rows) a b)
+    (take_all c.loop-row.row-index c.args.rows.now (let past = c.loop-row-test.false in omega (arith, past))) makes)
 
 pub returns-in_err-copy_station : goal.returns-in_err-copy_station
 returns-in_err-copy_station g c = does_failed (does_both c.loop-row.invariant (λ a b ours only. makes_ours only.makes) c.in_err-copy_station.ensures) (search rules)

@@ -7,4 +7,5 @@ use Rattle.bike_migrate.proofs.copy.fill.Given as goal
 
 -- so many stations were added, after the version was set
 abbrev pub invariant-loop-row : goal.invariant-loop-row
-invariant-loop-row g l = DoesInside g.S.Store IsOurs l.fn.conn l.conn {X = Unit {0}} {E = StatementFault} (Ok tt) (λ old new _. WritesOnly (version_write ∷ station_writes (take l.row-index l.rows)) old new)
+invariant-loop-row g l =
+    DoesInside g.S.Store IsOurs l.fn.conn l.conn {X = Unit {0}} {E = StatementFault} (Ok tt) (λ old new _. WritesOnly (version_write ∷ station_writes (take l.row-index l.rows)) old new)

@@ -1,5 +1,5 @@
 use Rattle.std.proofs.Common.{rules, subst, sym}
-use Rattle.bike_rows.proofs.ChainLaws.{reads_as, reads_refused}
+use Rattle.bike_sql.proofs.ChainLaws.{reads_as, reads_refused}
 use Rattle.bike_readings.proofs.RulesLaws.{stored_in_order}
 use Rattle.bike_schema.specs.Tables.{tables_of}
 use Rattle.bike_migrate.specs.Verdicts.{IsVerdictBefore}
@@ -10,4 +10,6 @@ pub returns-in_err-over : goal.returns-in_err-over
 returns-in_err-over g c = reads_refused c.in_ok-found.ensures.verdict (search rules)
 
 pub returns : goal.returns
-returns g c = reads_as c.in_ok-found.ensures.verdict (λ db verdict copies. subst (IsVerdictBefore (tables_of db)) (sym c.first_of.ensures) (judged (tables_of db) (stored_in_order db) c.args.rows.now copies _ verdict _ c.in_ok-over.ensures))
+returns g c =
+    reads_as c.in_ok-found.ensures.verdict (λ db verdict copies. subst (IsVerdictBefore (tables_of db)) (sym c.first_of.ensures)
+    (judged (tables_of db) (stored_in_order db) c.args.rows.now copies _ verdict _ c.in_ok-over.ensures))

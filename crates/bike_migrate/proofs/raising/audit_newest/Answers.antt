@@ -1,6 +1,6 @@
 use Rattle.std.proofs.Common.{refl, subst}
-use Rattle.bike_rows.proofs.ChainLaws.{reads_as, reads_refused}
-use Rattle.bike_adoption.specs.Audit.{IsAudited}
+use Rattle.bike_sql.proofs.ChainLaws.{reads_as, reads_refused}
+use Rattle.bike_audit.specs.Audit.{IsAudited}
 use Rattle.bike_migrate.proofs.raising.audit_newest.Goals as goal
 
 pub returns-in-Sound : goal.returns-in-Sound

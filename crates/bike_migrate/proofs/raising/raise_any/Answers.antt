@@ -15,4 +15,5 @@ returns-in_err-raise_earlier-in-Of g c =
 pub returns-in_ok-raise_earlier-in-Of : goal.returns-in_ok-raise_earlier-in-Of
 returns-in_ok-raise_earlier-in-Of g c =
     let read = rw c.in-Of.is at c.in_ok-find_version_of.ensures in
-    rw c.cause_of-in-Of.ensures (comes_raised g.S.Store c.args.conn.now c.find_version_of.new.conn c.in-Of.earlier read c.raise_earlier.new.conn c.in_ok-raise_earlier-in-Of.ensures.in_place c.in_ok-raise_earlier-in-Of.ensures.ended _ refl)
+    rw c.cause_of-in-Of.ensures
+    (comes_raised g.S.Store c.args.conn.now c.find_version_of.new.conn c.in-Of.earlier read c.raise_earlier.new.conn c.in_ok-raise_earlier-in-Of.ensures.in_place c.in_ok-raise_earlier-in-Of.ensures.ended _ refl)

@@ -1,6 +1,6 @@
 use Rattle.std.proofs.Common.{rules, subst}
 use Rattle.std.specs.Prelude.{option_map}
-use Rattle.bike_adoption.specs.Audit.{row_name}
+use Rattle.bike_audit.specs.Audit.{row_name}
 use Rattle.bike_migrate.specs.Raised.{tables_raised}
 use Rattle.bike_migrate.specs.Verdicts.{IsVerdictBefore}
 use Rattle.bike_migrate.proofs.StepLemmas.{does_under, does_both, does_as, does_failed}
@@ -20,11 +20,13 @@ returns-in-Some g c = does_as (judged_does c.args.earlier c.args.rows.now c.in_o
 
 pub returns-in_err-drop_stations-in-None : goal.returns-in_err-drop_stations-in-None
 returns-in_err-drop_stations-in-None g c =
-    does_failed (does_both (judged_does c.args.earlier c.args.rows.now c.in_ok-build.ensures c.in_ok-bad.ensures) (λ a b has it. (it.0.raised.sound, old_stays c.args.earlier a b has.0 it.0)) c.in_err-drop_stations-in-None.ensures) (search rules)
+    does_failed (does_both (judged_does c.args.earlier c.args.rows.now c.in_ok-build.ensures c.in_ok-bad.ensures)
+    (λ a b has it. (it.0.raised.sound, old_stays c.args.earlier a b has.0 it.0)) c.in_err-drop_stations-in-None.ensures) (search rules)
 
 pub returns-in_ok-drop_stations-in-None : goal.returns-in_ok-drop_stations-in-None
 returns-in_ok-drop_stations-in-None g c =
-    does_as (does_both (judged_does c.args.earlier c.args.rows.now c.in_ok-build.ensures c.in_ok-bad.ensures) (λ a b has it. (it.0.raised.sound, old_stays c.args.earlier a b has.0 it.0)) c.in_ok-drop_stations-in-None.ensures)
+    does_as (does_both (judged_does c.args.earlier c.args.rows.now c.in_ok-build.ensures c.in_ok-bad.ensures)
+    (λ a b has it. (it.0.raised.sound, old_stays c.args.earlier a b has.0 it.0)) c.in_ok-drop_stations-in-None.ensures)
     (λ a d has it. record {
       verdict = subst (λ o. IsVerdictBefore (tables_raised c.args.earlier a) (option_map row_name o)) c.in-None.is it.1.1;
       becomes = raises c.args.earlier a it.0 d it.1.0 it.2;

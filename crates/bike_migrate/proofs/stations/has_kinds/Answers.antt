@@ -10,4 +10,5 @@ use Rattle.bike_migrate.proofs.stations.has_kinds.Goals as goal
 pub returns : goal.returns
 returns c =
     all_from_yields_List (λ (x : ℕ × Kind). may_hold x.1 (column c.args.row.now x.0)) c.all.new.self _ c.all.result c.all.ensures.ran
-    (YieldsList-from_zip (YieldsList-from_range 0 (length c.args.kinds.now) (length c.args.kinds.now) (search rules) (search rules)) (YieldsList-from_slice c.args.kinds.now (search rules))) (λ x b q k. search (rules, tests))
+    (YieldsList-from_zip (YieldsList-from_range 0 (length c.args.kinds.now) (length c.args.kinds.now) (search rules) (search rules)) (YieldsList-from_slice c.args.kinds.now (search rules)))
+    (λ x b q k. search (rules, tests))

@@ -28,7 +28,8 @@ rows-preserved g c =
     record {
       same = search rules;
       read = subst (ReadSoFar g.S.Store reads begun new) (sym pushed)
-          (goes_on g.S.Store reads begun mid new c.rows.all.items c.rows.invariant.read c.in_ok-value.field-0 (next_read g.S.Store reads mid new (Ok c.in_ok-value.field-0) it.next it.same it.failed it.mode it.survives) c.in-Some.value c.in-Some.is);
+          (goes_on g.S.Store reads begun mid new c.rows.all.items c.rows.invariant.read c.in_ok-value.field-0
+          (next_read g.S.Store reads mid new (Ok c.in_ok-value.field-0) it.next it.same it.failed it.mode it.survives) c.in-Some.value c.in-Some.is);
     }
 
 pub returns-in_err-value-clause-read : goal.returns-in_err-value-clause-read

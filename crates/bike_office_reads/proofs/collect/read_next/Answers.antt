@@ -1,5 +1,5 @@
 use Rattle.std.proofs.Common.{Some, None}
-use Rattle.bike_rows.proofs.WalkLaw.{walk_goes}
+use Rattle.bike_sql.proofs.WalkLaw.{walk_goes}
 use Rattle.bike_office_reads.proofs.CollectLaws.{one_read}
 use Rattle.bike_office_reads.proofs.collect.read_next.Goals as goal
 

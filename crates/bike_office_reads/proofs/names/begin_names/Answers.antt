@@ -1,5 +1,5 @@
-use Rattle.bike_rows.proofs.CallLaws.{named_walk_returns}
-use Rattle.bike_rows.proofs.ParamLemmas.{bindings}
+use Rattle.bike_sql.proofs.CallLaws.{named_walk_returns}
+use Rattle.bike_sql.proofs.ParamLemmas.{bindings}
 use Rattle.bike_office_reads.proofs.NameLemmas.{lists_names}
 use Rattle.bike_office_reads.proofs.names.begin_names.Goals as goal
 

@@ -16,4 +16,6 @@ returns g c =
     let id = c.args.id.now in
     let among = λ (s : Operator) (a b : List ℕ). map owned_name (filter (is_name_within kind a b) (map stored_name (fin.entries s.more_names))) in
     answers_then _ _ c.in_ok-rows.ensures (λ s m sound listing is. IfOk-weaker c.read_names.result _ _ (λ x read.
-    names_read (filter (λ e. is_name_of kind id e.0) (fin.entries s.more_names)) x.items (subst (λ rows. AllZip IsOwnedName rows x.items) (c.as_slice.ensures.value ∙ is ∙ ap₂ (among s) c.as_str.ensures.text c.as_str-2.ensures.text ∙ ap (map owned_name) (its_rows kind id (fin.entries s.more_names))) read)) c.read_names.ensures.read)
+    names_read (filter (λ e. is_name_of kind id e.0) (fin.entries s.more_names)) x.items
+    (subst (λ rows. AllZip IsOwnedName rows x.items) (c.as_slice.ensures.value ∙ is ∙ ap₂ (among s) c.as_str.ensures.text c.as_str-2.ensures.text
+    ∙ ap (map owned_name) (its_rows kind id (fin.entries s.more_names))) read)) c.read_names.ensures.read)

@@ -1,5 +1,5 @@
 use Rattle.std.proofs.Common.{◌∙◌}
-use Rattle.bike_rows.proofs.ParamLemmas.{bindings}
+use Rattle.bike_sql.proofs.ParamLemmas.{bindings}
 use Rattle.bike_schema.proofs.AnswerLemmas.{row_answers, reads_weaker}
 use Rattle.bike_office_reads.proofs.NewestRows.{finds_newest, newest_found}
 use Rattle.bike_office_reads.proofs.newest.find_newest_row.Goals as goal

@@ -1,5 +1,5 @@
 use Rattle.std.proofs.Common.{sym, subst, ◌∙◌}
-use Rattle.bike_rows.proofs.ChainLaws.{reads_as, reads_both}
+use Rattle.bike_sql.proofs.ChainLaws.{reads_as, reads_both}
 use Rattle.bike_schema.proofs.AnswerLemmas.{reads_weaker, answers_next}
 use Rattle.bike_office_reads.proofs.NewestLemmas.{AreNewestTo, GoesOn, none_to_zero, goes_on_from, comes_to_end, is_newest, is_older}
 use Rattle.bike_office_reads.proofs.newest.newest_tells.Goals as goal

@@ -1,6 +1,6 @@
 use Rattle.std.proofs.Common.{[], refl, rules, ◌∙◌}
 use Rattle.std.specs.FinMap as fin
-use Rattle.bike_rows.proofs.ParamLemmas.{bindings}
+use Rattle.bike_sql.proofs.ParamLemmas.{bindings}
 use Rattle.bike_book.specs.Stored.{stored_plan}
 use Rattle.bike_schema.proofs.AnswerLemmas.{reads_weaker}
 use Rattle.bike_schema.proofs.ListedLemmas.{all_answer, all_refused}

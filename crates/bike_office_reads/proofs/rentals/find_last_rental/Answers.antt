@@ -1,4 +1,4 @@
-use Rattle.bike_rows.proofs.ParamLemmas.{bindings}
+use Rattle.bike_sql.proofs.ParamLemmas.{bindings}
 use Rattle.bike_schema.proofs.AnswerLemmas.{row_answers}
 use Rattle.bike_office_reads.proofs.TextLemmas.{finds_last_rental}
 use Rattle.bike_office_reads.proofs.rentals.find_last_rental.Goals as goal

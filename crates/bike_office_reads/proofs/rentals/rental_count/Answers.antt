@@ -7,4 +7,5 @@ use Rattle.bike_office_reads.proofs.rentals.rental_count.Goals as goal
 
 pub returns : goal.returns
 returns g c =
-    answers_then _ _ c.in_ok-row.ensures (λ s m sound listing is. IfOk-weaker c.last_number.result _ _ (λ x reads. reads (length s.rentals) (subst (IsLast (length s.rentals)) (sym is) (found_numbers s m sound listing).last_rental)) c.last_number.ensures)
+    answers_then _ _ c.in_ok-row.ensures (λ s m sound listing is. IfOk-weaker c.last_number.result _ _
+    (λ x reads. reads (length s.rentals) (subst (IsLast (length s.rentals)) (sym is) (found_numbers s m sound listing).last_rental)) c.last_number.ensures)

@@ -1,5 +1,5 @@
 use Rattle.std.specs.FinMap as map
-use Rattle.bike_rows.proofs.ChainLaws.{reads_as}
+use Rattle.bike_sql.proofs.ChainLaws.{reads_as}
 use Rattle.bike_office_reads.proofs.RowLemmas.{balance_read}
 use Rattle.bike_office_reads.proofs.riders.find_rider_balance.Goals as goal
 

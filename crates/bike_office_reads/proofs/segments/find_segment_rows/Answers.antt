@@ -1,5 +1,5 @@
 use Rattle.std.proofs.Common.{rules}
-use Rattle.bike_rows.proofs.ParamLemmas.{bindings}
+use Rattle.bike_sql.proofs.ParamLemmas.{bindings}
 use Rattle.bike_office_reads.proofs.SegmentLemmas.{lists_segments}
 use Rattle.bike_schema.proofs.ListedLemmas.{all_answer, all_refused}
 use Rattle.bike_office_reads.proofs.segments.find_segment_rows.Goals as goal

@@ -1,5 +1,5 @@
-use Rattle.bike_rows.proofs.CallLaws.{named_walk_returns}
-use Rattle.bike_rows.proofs.ParamLemmas.{bindings}
+use Rattle.bike_sql.proofs.CallLaws.{named_walk_returns}
+use Rattle.bike_sql.proofs.ParamLemmas.{bindings}
 use Rattle.bike_queries.proofs.PageTexts.{lists_counts_within}
 use Rattle.bike_queries.proofs.counts.begin_counts.Goals as goal
 

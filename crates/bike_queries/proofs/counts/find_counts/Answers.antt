@@ -18,5 +18,6 @@ returns g c =
     let among = λ (s : Operator) (m : Listed) (a b : List ℕ). rows_within (Text a) (Text b) (rows_of s m Counts) in
     answers_then _ _ c.in_ok-rows.ensures (λ s m sound listing are.
     IfOk-weaker c.count_types.result _ _ (λ x tells.
-    tells s station (subst (AreCountRows s station) (sym (c.as_slice.ensures.value ∙ are ∙ ap₂ (among s m) c.as_str.ensures.text c.as_str-2.ensures.text ∙ rows_at (Text station) (rows_of s m Counts))) (counts_listed s m sound listing station)))
+    tells s station (subst (AreCountRows s station) (sym (c.as_slice.ensures.value ∙ are ∙ ap₂ (among s m) c.as_str.ensures.text c.as_str-2.ensures.text ∙ rows_at (Text station) (rows_of s m Counts)))
+    (counts_listed s m sound listing station)))
     c.count_types.ensures)

@@ -1,5 +1,5 @@
 use Rattle.std.proofs.Common.{◌∙◌}
-use Rattle.bike_rows.proofs.ParamLemmas.{bindings}
+use Rattle.bike_sql.proofs.ParamLemmas.{bindings}
 use Rattle.bike_schema.proofs.AnswerLemmas.{row_answers, reads_weaker}
 use Rattle.bike_queries.proofs.SpanLaw.{finds_ended_after}
 use Rattle.bike_queries.proofs.SpanLemmas.{ended_found}

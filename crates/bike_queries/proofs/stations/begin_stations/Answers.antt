@@ -1,5 +1,5 @@
-use Rattle.bike_rows.proofs.CallLaws.{named_walk_returns}
-use Rattle.bike_rows.proofs.ParamLemmas.{bindings}
+use Rattle.bike_sql.proofs.CallLaws.{named_walk_returns}
+use Rattle.bike_sql.proofs.ParamLemmas.{bindings}
 use Rattle.bike_queries.proofs.PageTexts.{lists_stations_from}
 use Rattle.bike_queries.proofs.stations.begin_stations.Goals as goal
 

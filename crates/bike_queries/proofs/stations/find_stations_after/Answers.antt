@@ -21,7 +21,8 @@ returns-then-not-translated g c =
     answers_then _ _ c.in_ok-stations.ensures (λ s m sound listing are.
     IfOk-weaker c.read_page.result _ _ (λ page read.
     subst (λ t. AreNamedStations t s (page_after after s.stations) page.items) (sym c.if-not-translated.true)
-    (unnamed_read s m sound listing after (start_after after) refl stations c.in-Some.last.now are (subst (λ xs. EndsWith xs (Some c.in-Some.last.now)) c.as_slice.ensures.value c.in-Some.ensures) page.items read)) (c.read_page.ensures (page_apart s after stations are)))
+    (unnamed_read s m sound listing after (start_after after) refl stations c.in-Some.last.now are
+    (subst (λ xs. EndsWith xs (Some c.in-Some.last.now)) c.as_slice.ensures.value c.in-Some.ensures) page.items read)) (c.read_page.ensures (page_apart s after stations are)))
 
 pub returns : goal.returns
 returns g c =
@@ -30,5 +31,6 @@ returns g c =
     answers_then _ _ (answers_both _ _ c.in_ok-stations.ensures c.in_ok-names.ensures) (λ s m sound listing both.
     IfOk-weaker c.read_page-2.result _ _ (λ page read.
     subst (λ t. AreNamedStations t s (page_after after s.stations) page.items) (sym c.if-not-translated.false)
-    (named_read s m sound listing after c.as_str.result.now (c.as_str.ensures.value ∙ c.start_of-start.ensures) stations c.in-Some.last.now both.0 (subst (λ xs. EndsWith xs (Some c.in-Some.last.now)) c.as_slice.ensures.value c.in-Some.ensures)
+    (named_read s m sound listing after c.as_str.result.now (c.as_str.ensures.value ∙ c.start_of-start.ensures) stations c.in-Some.last.now both.0
+    (subst (λ xs. EndsWith xs (Some c.in-Some.last.now)) c.as_slice.ensures.value c.in-Some.ensures)
     (map (λ row. row) c.as_slice-2.result.now) page.items (map-id c.as_slice-2.result.now ∙ c.as_slice-2.ensures.value ∙ both.1) read)) (c.read_page-2.ensures (page_apart s after stations both.0)))

@@ -19,5 +19,7 @@ returns g c =
     let stations = c.in_ok-stations.stations.items in
     answers_then _ _ (answers_both _ _ c.in_ok-stations.ensures c.in_ok-counts.ensures) (λ s m sound listing both.
     IfOk-weaker c.read_page.result _ _ (λ page read.
-    statuses_read s m sound listing after c.as_str.result.now (c.as_str.ensures.value ∙ c.start_of-start.ensures) stations c.in-Some.last.now both.0 (subst (λ xs. EndsWith xs (Some c.in-Some.last.now)) c.as_slice.ensures.value c.in-Some.ensures)
-    (map (λ row. row) c.as_slice-2.result.now) c.args.type_ids.now page.items (map-id c.as_slice-2.result.now ∙ c.as_slice-2.ensures.value ∙ both.1) read) (c.read_page.ensures (page_apart s after stations both.0)))
+    statuses_read s m sound listing after c.as_str.result.now (c.as_str.ensures.value ∙ c.start_of-start.ensures) stations c.in-Some.last.now both.0
+    (subst (λ xs. EndsWith xs (Some c.in-Some.last.now)) c.as_slice.ensures.value c.in-Some.ensures)
+    (map (λ row. row) c.as_slice-2.result.now) c.args.type_ids.now page.items (map-id c.as_slice-2.result.now ∙ c.as_slice-2.ensures.value ∙ both.1) read)
+    (c.read_page.ensures (page_apart s after stations both.0)))

@@ -1,4 +1,4 @@
-use Rattle.bike_rows.proofs.ParamLemmas.{bindings}
+use Rattle.bike_sql.proofs.ParamLemmas.{bindings}
 use Rattle.bike_recognition.proofs.KeyPassLemmas.{walk_begins}
 use Rattle.bike_recognition.proofs.keys.begin_keys.Goals as goal
 

@@ -1,5 +1,5 @@
 use Rattle.std.proofs.Common.{◌≡◌, Ok}
-use Rattle.bike_rows.specs.Calls.{ReadsWhere}
+use Rattle.bike_sql.specs.Calls.{ReadsWhere}
 use Rattle.bike_schema.specs.declared.fault.StatementFault.{StatementFault}
 use Rattle.bike_recognition.specs.Keys.{KeptLies, AreClimbing}
 use Rattle.bike_recognition.proofs.keys.doubled_key.Given as goal

@@ -1,5 +1,5 @@
 use Rattle.std.proofs.Common.{rules, true, Ok, IsTrue, subst}
-use Rattle.bike_rows.specs.Calls.{ReadsWhere}
+use Rattle.bike_sql.specs.Calls.{ReadsWhere}
 use Rattle.bike_recognition.specs.Rowids.{AsksRowids, AreApart}
 use Rattle.bike_recognition.proofs.PassLemmas.{passes_on, pass_ends}
 use Rattle.bike_recognition.proofs.rowids.are_apart.Goals as goal
@@ -13,5 +13,7 @@ returns-in-End g c =
 pub rows-preserved : goal.rows-preserved
 rows-preserved g c = record {
   same = search rules;
-  passing = passes_on g.S.Store c.args.sql.now c.args.conn.now c.rows.rows.conn.now c.next_rowid.new.rows.conn.now c.rows.last c.rows.invariant.passing c.in-Number.id (rw c.in-Number.is at c.in_ok-id.ensures.steps) (search rules);
+  passing =
+      passes_on g.S.Store c.args.sql.now c.args.conn.now c.rows.rows.conn.now c.next_rowid.new.rows.conn.now c.rows.last c.rows.invariant.passing c.in-Number.id
+      (rw c.in-Number.is at c.in_ok-id.ensures.steps) (search rules);
 }

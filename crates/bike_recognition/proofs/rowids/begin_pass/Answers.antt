@@ -1,4 +1,4 @@
-use Rattle.bike_rows.proofs.ParamLemmas.{bindings}
+use Rattle.bike_sql.proofs.ParamLemmas.{bindings}
 use Rattle.bike_recognition.proofs.PassLemmas.{pass_begins}
 use Rattle.bike_recognition.proofs.rowids.begin_pass.Goals as goal
 

@@ -1,5 +1,5 @@
 use Rattle.std.proofs.Common.{rules, sym, ap, ◌∙◌}
-use Rattle.bike_rows.proofs.ChainLaws.{reads_as, reads_failed}
+use Rattle.bike_sql.proofs.ChainLaws.{reads_as, reads_failed}
 use Rattle.bike_book.specs.Tables.{Kept}
 use Rattle.bike_schema.specs.Layouts.{has_primary, name_of}
 use Rattle.bike_recognition.specs.Names.{table_named}
@@ -25,11 +25,13 @@ pub returns-in_err-doubled_key : goal.returns-in_err-doubled_key
 returns-in_err-doubled_key g c =
     let t = table_named c.args.table in
     let keyed = c.is_kept_keyed-keyed.result in
-    reads_failed (reads_once c.in_ok-table_lies.ensures (λ db lies. kept_lies db t keyed (sym c.is_key_kept.ensures ∙ c.if-is_key_kept.false) (lies.0 c.if-not-branch.false)) c.in_err-doubled_key.ensures) (search rules)
+    reads_failed (reads_once c.in_ok-table_lies.ensures (λ db lies. kept_lies db t keyed (sym c.is_key_kept.ensures ∙ c.if-is_key_kept.false)
+    (lies.0 c.if-not-branch.false)) c.in_err-doubled_key.ensures) (search rules)
 
 pub returns : goal.returns
 returns g c =
     let t = table_named c.args.table in
     let keyed = c.is_kept_keyed-keyed.result in
     let plain = sym c.is_key_kept.ensures ∙ c.if-is_key_kept.false in
-    reads_as (reads_once c.in_ok-table_lies.ensures (λ db lies. kept_lies db t keyed plain (lies.0 c.if-not-branch.false)) c.in_ok-doubled_key.ensures) (λ db both. kept_stands_if db t c.in_ok-doubled_key.field-0 c.is_none.result (is_kept t keyed plain).0 c.is_none.ensures both)
+    reads_as (reads_once c.in_ok-table_lies.ensures (λ db lies. kept_lies db t keyed plain (lies.0 c.if-not-branch.false)) c.in_ok-doubled_key.ensures)
+    (λ db both. kept_stands_if db t c.in_ok-doubled_key.field-0 c.is_none.result (is_kept t keyed plain).0 c.is_none.ensures both)

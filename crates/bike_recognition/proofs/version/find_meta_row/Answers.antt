@@ -1,5 +1,5 @@
-use Rattle.bike_rows.proofs.CallLaws.{read_returns}
-use Rattle.bike_rows.proofs.ParamLemmas.{bindings}
+use Rattle.bike_sql.proofs.CallLaws.{read_returns}
+use Rattle.bike_sql.proofs.ParamLemmas.{bindings}
 use Rattle.bike_recognition.proofs.MetaTexts.{finds_meta}
 use Rattle.bike_recognition.proofs.version.find_meta_row.Goals as goal
 

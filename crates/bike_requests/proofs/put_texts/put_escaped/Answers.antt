@@ -19,4 +19,5 @@ loop-c-preserved c =
 pub returns : goal.returns
 returns c =
     let t = YieldsList-end (YieldsList-from_chars c.args.text.now c.utf8.text cc) c.loop-c.yielded _ c.loop-c.yielded_by _ _ c.in-None.is c.next.ensures.steps in
-    escaped_whole c.args.text.now c.loop-c.yielded (string_bytes c.args.out.now) (string_bytes c.push.new.self) (string_bytes c.loop-c.out) c.utf8.text t.0 c.in_ok-push.ensures.bytes c.loop-c.invariant
+    escaped_whole c.args.text.now c.loop-c.yielded (string_bytes c.args.out.now) (string_bytes c.push.new.self)
+    (string_bytes c.loop-c.out) c.utf8.text t.0 c.in_ok-push.ensures.bytes c.loop-c.invariant

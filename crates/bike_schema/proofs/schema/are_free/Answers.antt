@@ -8,5 +8,6 @@ use Rattle.bike_schema.proofs.schema.are_free.Goals as goal
 
 pub returns : goal.returns
 returns c =
-    all_from_yields_List (λ (name : Bor (List ℕ)). is_free c.args.schema.now name.now) _ _ c.all.result c.all.ensures.ran (YieldsList-from_slice _ c.iter.ensures.rest) (λ x b q k. search (rules, tests))
+    all_from_yields_List (λ (name : Bor (List ℕ)). is_free c.args.schema.now name.now) _ _ c.all.result c.all.ensures.ran (YieldsList-from_slice _ c.iter.ensures.rest)
+    (λ x b q k. search (rules, tests))
     ∙ sym (list_all-map (is_free c.args.schema.now) (λ (name : Bor (List ℕ)). name.now) c.args.names.now)

@@ -16,7 +16,8 @@ loop-turn-init g c = record {
 
 pub serve_arrival-requires : goal.serve_arrival-requires
 serve_arrival-requires g c =
-    opens g.A.Arrivals.may_fail g.A.Arrivals.connected g.A.Reader.Read.remaining g.A.Writer.Write.contents (g.A.Arrivals.known c.loop-turn.arrivals) (g.A.Arrivals.known c.accept.new.self) c.in-Ok-Some.arrival
+    opens g.A.Arrivals.may_fail g.A.Arrivals.connected g.A.Reader.Read.remaining g.A.Writer.Write.contents (g.A.Arrivals.known c.loop-turn.arrivals)
+    (g.A.Arrivals.known c.accept.new.self) c.in-Ok-Some.arrival
     (rw c.in-Ok-Some.field-0-is at c.in-Ok-Some.ensures)
 
 pub returns-in-Ok-None-clause-clean : goal.returns-in-Ok-None-clause-clean

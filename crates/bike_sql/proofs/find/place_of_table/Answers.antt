@@ -5,7 +5,8 @@ use Rattle.sqlite_schema.specs.Names.{table_named}
 use Rattle.bike_sql.specs.Found.{StandsAt}
 use Rattle.bike_sql.proofs.FindLemmas.{some_is, Looks, stands_of, sees_of}
 use Rattle.bike_sql.proofs.find.place_of_table.Goals as goal
-use Rattle.bike_sql.proofs.find.place_of_table.Goals.{else-table-lt-COMPUTED-via-then-table-lt-COMPUTED+then-is_wanted+else-is_wanted-2, else-table-lt-COMPUTED-via-then-table-lt-COMPUTED+else-is_wanted, else-table-lt-COMPUTED-via-else-table-lt-COMPUTED}
+use Rattle.bike_sql.proofs.find.place_of_table.Goals.{else-table-lt-COMPUTED-via-then-table-lt-COMPUTED+then-is_wanted+else-is_wanted-2}
+use Rattle.bike_sql.proofs.find.place_of_table.Goals.{else-table-lt-COMPUTED-via-then-table-lt-COMPUTED+else-is_wanted, else-table-lt-COMPUTED-via-else-table-lt-COMPUTED}
 
 pub returns-then-is_wanted-2 : goal.returns-then-is_wanted-2
 returns-then-is_wanted-2 c =

@@ -1,4 +1,4 @@
-use Rattle.bike_rows.proofs.ChainLaws.{reads_as, reads_both}
+use Rattle.bike_sql.proofs.ChainLaws.{reads_as, reads_both}
 use Rattle.bike_judges.proofs.ReadsLaw.{reads_told}
 use Rattle.bike_station_rules.proofs.CountsJudged.{AreFound, counts_judged}
 use Rattle.bike_station_rules.proofs.count_judge.judge_counts.Goals as goal

@@ -1,5 +1,5 @@
-use Rattle.bike_rows.proofs.CallLaws.{read_returns}
-use Rattle.bike_rows.proofs.ParamLemmas.{bindings}
+use Rattle.bike_sql.proofs.CallLaws.{read_returns}
+use Rattle.bike_sql.proofs.ParamLemmas.{bindings}
 use Rattle.bike_station_rules.proofs.MetaText.{finds_meta}
 use Rattle.bike_station_rules.proofs.judge.find_meta.Goals as goal
 

@@ -5,4 +5,6 @@ use Rattle.bike_station_rules.proofs.Judged.{rows_judged}
 use Rattle.bike_station_rules.proofs.judge.judge_rows.Goals as goal
 
 pub returns : goal.returns
-returns g c = reads_told c.judge_lines.ensures (λ db ours found told. rows_judged db ours c.args.now c.new.result.test.now (ap (λ (t : StationTest). t.now) c.new.ensures.test) found c.new.result.before c.new.ensures.before told)
+returns g c =
+    reads_told c.judge_lines.ensures (λ db ours found told. rows_judged db ours c.args.now c.new.result.test.now
+    (ap (λ (t : StationTest). t.now) c.new.ensures.test) found c.new.result.before c.new.ensures.before told)

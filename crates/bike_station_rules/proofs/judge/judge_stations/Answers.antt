@@ -1,5 +1,5 @@
 use Rattle.std.proofs.Common.{rules}
-use Rattle.bike_rows.proofs.ChainLaws.{reads_as, reads_both, reads_failed}
+use Rattle.bike_sql.proofs.ChainLaws.{reads_as, reads_both, reads_failed}
 use Rattle.bike_judges.proofs.ReadsLaw.{reads_told}
 use Rattle.bike_station_rules.proofs.Judged.{AreFound, stations_judged}
 use Rattle.bike_station_rules.proofs.judge.judge_stations.Goals as goal

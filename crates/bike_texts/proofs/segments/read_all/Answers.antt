@@ -7,7 +7,8 @@ use Rattle.bike_texts.proofs.segments.read_all.Goals as goal
 
 pub returns-in_err-segment : goal.returns-in_err-segment
 returns-in_err-segment c =
-    rw c.from_residual.ensures (ap (at_most 8) (fails_here c.loop-text.segments.items c.in-Some.text.now c.loop-text.parts c.part.new.self (all_of c.args.parts) c.in-Some.ensures (sym c.in_err-segment.ensures) c.loop-text.invariant.0))
+    rw c.from_residual.ensures (ap (at_most 8) (fails_here c.loop-text.segments.items c.in-Some.text.now c.loop-text.parts c.part.new.self (all_of c.args.parts) c.in-Some.ensures
+    (sym c.in_err-segment.ensures) c.loop-text.invariant.0))
 
 pub returns-then-is_full : goal.returns-then-is_full
 returns-then-is_full c =

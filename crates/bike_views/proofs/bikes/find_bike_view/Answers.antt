@@ -1,6 +1,6 @@
 use Rattle.std.proofs.Common.{rules, ap, ◌∙◌}
 use Rattle.bike_operator.specs.View.{is_in_broken_dock}
-use Rattle.bike_rows.proofs.ChainLaws.{reads_as, reads_failed}
+use Rattle.bike_sql.proofs.ChainLaws.{reads_as, reads_failed}
 use Rattle.bike_views.specs.declared.bikes.BikeDock.{BikeDock}
 use Rattle.bike_views.specs.ViewAndDocks.{bike_docks}
 use Rattle.bike_views.proofs.OpenLaws.{open_both}

@@ -1,5 +1,5 @@
 use Rattle.std.proofs.Common.{rules}
-use Rattle.bike_rows.proofs.ChainLaws.{reads_as, reads_failed, reads_refused}
+use Rattle.bike_sql.proofs.ChainLaws.{reads_as, reads_failed, reads_refused}
 use Rattle.bike_views.proofs.OpenLaws.{open_both}
 use Rattle.bike_views.proofs.PartLemmas.{docks_read}
 use Rattle.bike_views.proofs.bikes.find_dock.Goals as goal

@@ -1,4 +1,4 @@
-use Rattle.bike_rows.proofs.ChainLaws.{reads_as}
+use Rattle.bike_sql.proofs.ChainLaws.{reads_as}
 use Rattle.bike_views.proofs.bikes.view_to_retire_bike.Goals as goal
 
 pub returns : goal.returns

@@ -1,4 +1,4 @@
-use Rattle.bike_rows.proofs.ChainLaws.{reads_as, reads_both}
+use Rattle.bike_sql.proofs.ChainLaws.{reads_as, reads_both}
 use Rattle.bike_views.proofs.catalogue.find_type_view.Goals as goal
 
 pub returns : goal.returns

@@ -1,6 +1,6 @@
 use Rattle.std.proofs.Common.{◌∙◌}
 use Rattle.bike_operator.specs.View.{type_view}
-use Rattle.bike_rows.proofs.ChainLaws.{reads_as, reads_both}
+use Rattle.bike_sql.proofs.ChainLaws.{reads_as, reads_both}
 use Rattle.bike_views.proofs.catalogue.view_to_add_type.Goals as goal
 
 pub returns : goal.returns

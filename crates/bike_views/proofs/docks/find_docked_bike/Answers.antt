@@ -1,6 +1,6 @@
 use Rattle.std.proofs.Common.{sym, ap, ◌∙◌}
 use Rattle.std.specs.Prelude.{option_map}
-use Rattle.bike_rows.proofs.ChainLaws.{reads_as, reads_both}
+use Rattle.bike_sql.proofs.ChainLaws.{reads_as, reads_both}
 use Rattle.bike_operator.specs.View.{docked_view}
 use Rattle.bike_fleet_reads.specs.Fleet.{numbered_pair}
 use Rattle.bike_schema.proofs.AnswerLemmas.{reads_weaker}

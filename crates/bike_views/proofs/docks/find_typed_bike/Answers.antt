@@ -1,5 +1,5 @@
 use Rattle.std.specs.FinMap as map
-use Rattle.bike_rows.proofs.ChainLaws.{reads_as}
+use Rattle.bike_sql.proofs.ChainLaws.{reads_as}
 use Rattle.bike_fleet_reads.specs.Fleet.{numbered_pair}
 use Rattle.bike_views.proofs.PartLemmas.{typed_none, typed_some}
 use Rattle.bike_views.proofs.docks.find_typed_bike.Goals as goal

@@ -1,5 +1,5 @@
 use Rattle.std.proofs.Common.{◌≡◌, ℕ, Some, rules, ap, ◌∙◌}
-use Rattle.bike_rows.proofs.ChainLaws.{reads_as, reads_both, reads_refused}
+use Rattle.bike_sql.proofs.ChainLaws.{reads_as, reads_both, reads_refused}
 use Rattle.bike_operator.specs.declared.view.View.{View}
 use Rattle.bike_operator.specs.View.{dock_view}
 use Rattle.bike_views.specs.ViewAndDocks.{listed_docks}

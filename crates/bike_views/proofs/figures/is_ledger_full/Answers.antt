@@ -1,5 +1,5 @@
 use Rattle.std.proofs.Common.{◌+◌, ◌<◌, arith, nat_le, length, sym, subst, ◌∙◌}
-use Rattle.bike_rows.proofs.ChainLaws.{reads_as}
+use Rattle.bike_sql.proofs.ChainLaws.{reads_as}
 use Rattle.bike_operator.specs.declared.limits.TheConstants.{MOST_BIKES, MOST_ENTRIES}
 use Rattle.bike_views.proofs.OpenLaws.{open_of, open_sound}
 use Rattle.bike_views.proofs.figures.is_ledger_full.Goals as goal

@@ -1,6 +1,6 @@
 use Rattle.std.proofs.Common.{rules, length, nat_le, Bool, ◌||◌, ap, ◌∙◌}
 use Rattle.std.specs.Prelude.{is_some}
-use Rattle.bike_rows.proofs.ChainLaws.{reads_as, reads_both, reads_failed}
+use Rattle.bike_sql.proofs.ChainLaws.{reads_as, reads_both, reads_failed}
 use Rattle.bike_operator.specs.declared.limits.TheConstants.{MOST_FURTHER_NAMES}
 use Rattle.bike_operator.specs.Names.{is_own_language}
 use Rattle.bike_views.specs.Parts.{is_among}

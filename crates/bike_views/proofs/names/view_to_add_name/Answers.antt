@@ -1,5 +1,5 @@
 use Rattle.std.proofs.Common.{false}
-use Rattle.bike_rows.proofs.ChainLaws.{reads_as}
+use Rattle.bike_sql.proofs.ChainLaws.{reads_as}
 use Rattle.bike_views.proofs.names.view_to_add_name.Goals as goal
 
 pub returns : goal.returns

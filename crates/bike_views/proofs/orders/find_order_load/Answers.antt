@@ -1,5 +1,5 @@
 use Rattle.std.proofs.Common.{refl, sym, ◌∙◌}
-use Rattle.bike_rows.proofs.ChainLaws.{reads_as}
+use Rattle.bike_sql.proofs.ChainLaws.{reads_as}
 use Rattle.bike_views.proofs.LoadLemmas.{no_load}
 use Rattle.bike_views.proofs.OpenLaws.{open_of, open_sound}
 use Rattle.bike_views.proofs.orders.find_order_load.Goals as goal

@@ -1,5 +1,5 @@
 use Rattle.std.proofs.Common.{rules}
-use Rattle.bike_rows.proofs.ChainLaws.{reads_as, reads_both, reads_failed}
+use Rattle.bike_sql.proofs.ChainLaws.{reads_as, reads_both, reads_failed}
 use Rattle.bike_views.proofs.OpenLaws.{open_both}
 use Rattle.bike_views.proofs.orders.view_to_load.Goals as goal
 
@@ -10,7 +10,8 @@ pub returns-in_err-truck : goal.returns-in_err-truck
 returns-in_err-truck g c = reads_failed (reads_both (open_both (reads_both c.in_ok-load.ensures c.in_ok-row.ensures) c.in_ok-on_truck.ensures) c.in_err-truck.ensures) (search rules)
 
 pub returns-in_err-found : goal.returns-in_err-found
-returns-in_err-found g c = reads_failed (reads_both (reads_both (open_both (reads_both c.in_ok-load.ensures c.in_ok-row.ensures) c.in_ok-on_truck.ensures) c.in_ok-truck.ensures) c.in_err-found.ensures) (search rules)
+returns-in_err-found g c =
+    reads_failed (reads_both (reads_both (open_both (reads_both c.in_ok-load.ensures c.in_ok-row.ensures) c.in_ok-on_truck.ensures) c.in_ok-truck.ensures) c.in_err-found.ensures) (search rules)
 
 pub returns : goal.returns
 returns g c = reads_as (reads_both (reads_both (open_both (reads_both c.in_ok-load.ensures c.in_ok-row.ensures) c.in_ok-on_truck.ensures) c.in_ok-truck.ensures) c.in_ok-found.ensures) (λ db it s h.

@@ -1,6 +1,6 @@
 use Rattle.std.proofs.Common.{rules, sym, ap, ◌∙◌}
 use Rattle.std.specs.FinMap as map
-use Rattle.bike_rows.proofs.ChainLaws.{reads_as, reads_both, reads_failed}
+use Rattle.bike_sql.proofs.ChainLaws.{reads_as, reads_both, reads_failed}
 use Rattle.bike_operator.specs.View.{planned_rental}
 use Rattle.bike_views.proofs.PartLemmas.{planned_some}
 use Rattle.bike_views.proofs.rentals.find_planned_rental.Goals as goal

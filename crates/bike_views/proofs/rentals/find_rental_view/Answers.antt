@@ -1,5 +1,5 @@
 use Rattle.std.proofs.Common.{sym, ap, ◌∙◌}
-use Rattle.bike_rows.proofs.ChainLaws.{reads_as, reads_both}
+use Rattle.bike_sql.proofs.ChainLaws.{reads_as, reads_both}
 use Rattle.bike_operator.specs.Operator.{item_numbered}
 use Rattle.bike_operator.specs.View.{rental_view}
 use Rattle.bike_schema.proofs.AnswerLemmas.{reads_weaker}

@@ -1,5 +1,5 @@
 use Rattle.std.proofs.Common.{rules, ap, ◌∙◌}
-use Rattle.bike_rows.proofs.ChainLaws.{reads_as, reads_both, reads_failed}
+use Rattle.bike_sql.proofs.ChainLaws.{reads_as, reads_both, reads_failed}
 use Rattle.bike_operator.specs.View.{dock_view, rental_of}
 use Rattle.bike_views.proofs.OpenLaws.{open_both}
 use Rattle.bike_views.proofs.rentals.view_to_end.Goals as goal

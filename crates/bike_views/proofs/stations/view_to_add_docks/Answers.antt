@@ -1,5 +1,5 @@
 use Rattle.std.proofs.Common.{rules}
-use Rattle.bike_rows.proofs.ChainLaws.{reads_as, reads_refused}
+use Rattle.bike_sql.proofs.ChainLaws.{reads_as, reads_refused}
 use Rattle.bike_views.proofs.PartLemmas.{docks_read}
 use Rattle.bike_views.proofs.stations.view_to_add_docks.Goals as goal
 

@@ -1,5 +1,5 @@
 use Rattle.std.proofs.Common.{ap, ◌∙◌}
-use Rattle.bike_rows.proofs.ChainLaws.{reads_as, reads_both}
+use Rattle.bike_sql.proofs.ChainLaws.{reads_as, reads_both}
 use Rattle.bike_operator.specs.View.{station_at}
 use Rattle.bike_views.proofs.stations.view_to_add_station.Goals as goal
 

@@ -1,4 +1,4 @@
-use Rattle.bike_rows.proofs.ChainLaws.{reads_as}
+use Rattle.bike_sql.proofs.ChainLaws.{reads_as}
 use Rattle.bike_views.proofs.OpenLaws.{open_both}
 use Rattle.bike_views.proofs.stations.view_to_set_region.Goals as goal
 

@@ -1,4 +1,4 @@
-use Rattle.bike_rows.proofs.ChainLaws.{reads_as}
+use Rattle.bike_sql.proofs.ChainLaws.{reads_as}
 use Rattle.bike_views.proofs.StoredLemmas.{counts_stored}
 use Rattle.bike_views.proofs.stored.find_counts_at.Goals as goal
 

@@ -1,5 +1,5 @@
 use Rattle.std.proofs.Common.{◌∙◌}
-use Rattle.bike_rows.proofs.ChainLaws.{reads_as}
+use Rattle.bike_sql.proofs.ChainLaws.{reads_as}
 use Rattle.bike_views.proofs.OpenLaws.{open_of}
 use Rattle.bike_views.proofs.stored.find_listing.Goals as goal
 

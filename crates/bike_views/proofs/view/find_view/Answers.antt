@@ -7,30 +7,32 @@ use Rattle.bike_operator.specs.declared.view.View.{View}
 use Rattle.bike_operator.specs.Operator.{Operator}
 use Rattle.bike_operator.specs.View.{view_of}
 use Rattle.bike_book.specs.Stored.{Listed}
-use Rattle.bike_rows.proofs.ChainLaws.{reads_as, reads_failed}
+use Rattle.bike_sql.proofs.ChainLaws.{reads_as, reads_failed}
 use Rattle.bike_schema.specs.declared.fault.StatementFault.{StatementFault}
 use Rattle.bike_schema.specs.Answers.{Answers}
 use Rattle.bike_schema.proofs.AnswerLemmas.{reads_weaker}
 use Rattle.bike_booking.specs.declared.figures.Figures.{Figures}
 use Rattle.bike_booking.specs.Figures.{figures_of}
-use Rattle.bike_views.specs.declared.figures.Known.{Known}
+use Rattle.bike_views.specs.declared.figures.KnownFigures.{KnownFigures}
 use Rattle.bike_views.specs.declared.view_and_docks.ViewAndDocks.{ViewAndDocks}
 use Rattle.bike_views.specs.Known.{IsKnown}
 use Rattle.bike_views.specs.ViewAndDocks.{IsFoundFor, IsPlain, docks_for}
 use Rattle.bike_views.proofs.view.find_view.Goals as goal
 
 -- the view for a command is that for the command matched, whatever is known
-view_for : {S E : Type 0} {g : Ghosts S} {old new : Held S} {result : Result View E} {c d : Command} {k : Known} → Answers g old new result (λ s m view. view ≡ view_of s d) → c ≡ d
+view_for : {S E : Type 0} {g : Ghosts S} {old new : Held S} {result : Result View E} {c d : Command} {k : KnownFigures} → Answers g old new result (λ s m view. view ≡ view_of s d) → c ≡ d
     → Answers g old new result (λ s m view. IsKnown s k → view ≡ view_of s c)
 view_for it is = reads_weaker it (λ db view each s h known. each s h ∙ ap (view_of s) (sym is))
 
 -- and where it takes a figure
-view_with : {S E : Type 0} {g : Ghosts S} {old new : Held S} {result : Result View E} {c d : Command} {k : Known} (told : Figures → ℕ) → Answers g old new result (λ s m view. told k.figures ≡ told (figures_of s) → view ≡ view_of s d) → c ≡ d
+view_with : {S E : Type 0} {g : Ghosts S} {old new : Held S} {result : Result View E} {c d : Command} {k : KnownFigures} (told : Figures → ℕ)
+    → Answers g old new result (λ s m view. told k.figures ≡ told (figures_of s) → view ≡ view_of s d) → c ≡ d
     → Answers g old new result (λ s m view. IsKnown s k → view ≡ view_of s c)
 view_with told it is = reads_weaker it (λ db view each s h known. each s h (ap told known.figures) ∙ ap (view_of s) (sym is))
 
 -- a view for which no docks are read
-seen_plain : {S : Type 0} {g : Ghosts S} {old new : Held S} {found : Result View StatementFault} {result : Result ViewAndDocks StatementFault} {c d : Command} {k : Known} → Answers g old new found (λ s m view. IsKnown s k → view ≡ view_of s c) → IsPlain found result → c ≡ d
+seen_plain : {S : Type 0} {g : Ghosts S} {old new : Held S} {found : Result View StatementFault} {result : Result ViewAndDocks StatementFault} {c d : Command} {k : KnownFigures}
+    → Answers g old new found (λ s m view. IsKnown s k → view ≡ view_of s c) → IsPlain found result → c ≡ d
     → ((s : Operator) (m : Listed) → docks_for s m d ≡ None) → Answers g old new result (λ s m x. IsKnown s k → IsFoundFor s m c x)
 seen_plain {found = Ok v} {result = Ok x} it plain is none = reads_as it (λ db each s h known. record {
   view_is = ap (λ (y : ViewAndDocks). y.view) plain ∙ each s h known;
@@ -82,10 +84,12 @@ pub returns-in-AddRider : goal.returns-in-AddRider
 returns-in-AddRider g c = seen_plain (view_for c.view_to_add_rider.ensures c.in-AddRider.is) c.without_docks-in-AddRider.ensures c.in-AddRider.is (λ s m. refl)
 
 pub returns-in-SetRider : goal.returns-in-SetRider
-returns-in-SetRider g c = seen_plain (view_for (reads_weaker c.view_to_set_rider.ensures (λ db x it s h. it s h false)) c.in-SetRider.is) c.without_docks-in-SetRider.ensures c.in-SetRider.is (λ s m. refl)
+returns-in-SetRider g c =
+    seen_plain (view_for (reads_weaker c.view_to_set_rider.ensures (λ db x it s h. it s h false)) c.in-SetRider.is) c.without_docks-in-SetRider.ensures c.in-SetRider.is (λ s m. refl)
 
 pub returns-in-TopUp : goal.returns-in-TopUp
-returns-in-TopUp g c = seen_plain (view_with (λ f. f.entries) (reads_weaker c.view_to_top_up.ensures (λ db x it s h are. it s h are 0)) c.in-TopUp.is) c.without_docks-in-TopUp.ensures c.in-TopUp.is (λ s m. refl)
+returns-in-TopUp g c =
+    seen_plain (view_with (λ f. f.entries) (reads_weaker c.view_to_top_up.ensures (λ db x it s h are. it s h are 0)) c.in-TopUp.is) c.without_docks-in-TopUp.ensures c.in-TopUp.is (λ s m. refl)
 
 pub returns-in-Start : goal.returns-in-Start
 returns-in-Start g c = reads_weaker c.view_to_start.ensures (λ db x it s h known. found_for (it s h known) c.in-Start.is)
@@ -97,10 +101,13 @@ pub returns-in-Recover : goal.returns-in-Recover
 returns-in-Recover g c = seen_plain (view_with (λ f. f.entries) c.view_to_recover.ensures c.in-Recover.is) c.without_docks-in-Recover.ensures c.in-Recover.is (λ s m. refl)
 
 pub returns-in-Refund : goal.returns-in-Refund
-returns-in-Refund g c = seen_plain (view_with (λ f. f.entries) (reads_weaker c.view_to_refund.ensures (λ db x it s h are. it s h are 0)) c.in-Refund.is) c.without_docks-in-Refund.ensures c.in-Refund.is (λ s m. refl)
+returns-in-Refund g c =
+    seen_plain (view_with (λ f. f.entries) (reads_weaker c.view_to_refund.ensures (λ db x it s h are. it s h are 0)) c.in-Refund.is) c.without_docks-in-Refund.ensures c.in-Refund.is (λ s m. refl)
 
 pub returns-in-OpenOrder : goal.returns-in-OpenOrder
-returns-in-OpenOrder g c = seen_plain (view_with (λ f. f.orders) (reads_weaker c.view_to_open_order.ensures (λ db x it s h are. it s h are 0)) c.in-OpenOrder.is) c.without_docks-in-OpenOrder.ensures c.in-OpenOrder.is (λ s m. refl)
+returns-in-OpenOrder g c =
+    seen_plain (view_with (λ f. f.orders) (reads_weaker c.view_to_open_order.ensures (λ db x it s h are. it s h are 0)) c.in-OpenOrder.is) c.without_docks-in-OpenOrder.ensures c.in-OpenOrder.is
+    (λ s m. refl)
 
 pub returns-in-Load : goal.returns-in-Load
 returns-in-Load g c = reads_weaker c.view_to_load.ensures (λ db x it s h known. found_for (it s h) c.in-Load.is)

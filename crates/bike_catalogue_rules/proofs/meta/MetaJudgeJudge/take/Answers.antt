@@ -22,4 +22,5 @@ returns c = λ left verdict is.
     let fails = c.if-is_meta.false in
     let bad : is_meta c.args.self.now.sums c.args.line.now ≡ false = cc in
     found_least (λ (j : MetaJudge) lines found. first_meta (is_meta j.sums) j.seen lines ≡ found) c.args.self.now left verdict c.least.result _ one_key c.least.ensures
-    (bad_first (is_meta c.args.self.now.sums) c.args.self.now.seen c.args.line.now left verdict is c.if-self.false bad ∙ ap (λ key. least_key (Some key) (Some one_key)) (sym c.in_ok-number_key-2.ensures))
+    (bad_first (is_meta c.args.self.now.sums) c.args.self.now.seen c.args.line.now left verdict is c.if-self.false bad
+    ∙ ap (λ key. least_key (Some key) (Some one_key)) (sym c.in_ok-number_key-2.ensures))

@@ -7,7 +7,8 @@ use Rattle.bike_catalogue_rules.proofs.names.NameJudgeJudge.take.Goals as goal
 
 pub returns-in_default : goal.returns-in_default
 returns-in_default c = λ left verdict is.
-    no_name c.args.self.now.own (option_and_then name_read c.args.self.now.last) c.args.self.now.run c.args.line.now left verdict is (sym c.next_run.ensures ∙ c.in_default.is) ∙ ap Some (sym c.in_ok-columns_key.ensures)
+    no_name c.args.self.now.own (option_and_then name_read c.args.self.now.last) c.args.self.now.run c.args.line.now left verdict is (sym c.next_run.ensures ∙ c.in_default.is)
+    ∙ ap Some (sym c.in_ok-columns_key.ensures)
 
 pub returns : goal.returns
 returns c = λ left verdict is.

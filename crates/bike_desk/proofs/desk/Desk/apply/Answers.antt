@@ -22,7 +22,9 @@ returns-in-Ok-serve-clause-ok g c clean s at =
     let done = c.in-Ok-serve.ensures.ok clean s (c.in-Ok-know_newest.ensures.keeps seen s was) remembers in (
       done.reply,
       record {
-        goes_on = still_going c.self.inside.stopped c.self.inside.conn.in_transaction c.serve.new.conn.in_transaction (ap (λ (d : DeskValue g.row.S.Denot). d.is_stopped) c.self.view_is ∙ at.goes_on) c.in-Ok-serve.ensures.ended;
+        goes_on =
+            still_going c.self.inside.stopped c.self.inside.conn.in_transaction c.serve.new.conn.in_transaction
+            (ap (λ (d : DeskValue g.row.S.Denot). d.is_stopped) c.self.view_is ∙ at.goes_on) c.in-Ok-serve.ensures.ended;
         keeps = done.keeps;
         remembers = record { newest = λ told. step_tells s c.args.moment c.args.request.now (newest told); figures = done.figures };
       },
@@ -50,7 +52,8 @@ returns-in-Ok-serve-clause-others g c clean s at =
     let remembers : IsRemembered s (record { newest_tells = c.tells.result; figures = c.self.inside.figures }) = record { newest = λ told. newest (sym c.tells.ensures ∙ told); figures = figures } in
     let same = c.in-Ok-know_newest.ensures.same seen s was in
     let stay = c.in-Ok-serve.ensures.others clean s (c.in-Ok-know_newest.ensures.keeps seen s was) remembers in
-    subst (λ (d : DeskValue g.row.S.Denot). OthersStay (state g.S.Store d.conn).now (state g.S.Store c.serve.new.conn).now) c.self.view_is (subst (λ db. OthersStay db (state g.S.Store c.serve.new.conn).now) same stay)
+    subst (λ (d : DeskValue g.row.S.Denot). OthersStay (state g.S.Store d.conn).now (state g.S.Store c.serve.new.conn).now) c.self.view_is
+    (subst (λ db. OthersStay db (state g.S.Store c.serve.new.conn).now) same stay)
 
 pub returns-in-Ok-serve-clause-rests : goal.returns-in-Ok-serve-clause-rests
 returns-in-Ok-serve-clause-rests g c clean s at rests =

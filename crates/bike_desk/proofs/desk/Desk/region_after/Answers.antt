@@ -10,4 +10,5 @@ pub returns-clause-query : goal.returns-clause-query
 returns-clause-query g c =
     let going = ap (λ (d : DeskValue g.row.S.Denot). d.is_stopped) c.self.view_is ∙ c.in_ok-check_serving.ensures in
     let told = queries g.S.Store c.self.inside.conn c.find_region_after-read.new.conn c.self.inside.stopped c.self.inside.newest c.self.inside.figures (λ s x. IsNext (λ r. r.region_id) (first_after (option_map (λ id. id.now) c.args.after) s.regions) x) going c.find_region_after-read.result c.answer.new.self c.answer.result c.find_region_after-read.ensures c.answer.ensures in
-    subst (λ (d : DeskValue g.row.S.Denot). Queries g.S.Store d c.answer.new.self c.answer.result (λ s x. IsNext (λ r. r.region_id) (first_after (option_map (λ id. id.now) c.args.after) s.regions) x)) c.self.view_is told
+    subst (λ (d : DeskValue g.row.S.Denot). Queries g.S.Store d c.answer.new.self c.answer.result
+    (λ s x. IsNext (λ r. r.region_id) (first_after (option_map (λ id. id.now) c.args.after) s.regions) x)) c.self.view_is told

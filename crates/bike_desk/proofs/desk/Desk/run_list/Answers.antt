@@ -22,7 +22,8 @@ calls-preserved g c =
       so_far = λ clean s at.
           let was = before.so_far (omega (arith, c.apply.ensures.clean)) s at in
           let now = c.in-Ok-apply.ensures.ok clean _ was.1 in (
-            c.note.ensures.items ∙ ap (λ told. told ++ c.in-Ok-apply.reply ∷ []) was.0 ∙ ap (λ r. replies s (take i xs) ++ r ∷ []) now.0 ∙ sym (replies-next s xs i item c.calls-test.true c.calls-item.is),
+            c.note.ensures.items ∙ ap (λ told. told ++ c.in-Ok-apply.reply ∷ []) was.0 ∙ ap (λ r. replies s (take i xs) ++ r ∷ []) now.0
+                ∙ sym (replies-next s xs i item c.calls-test.true c.calls-item.is),
             subst (IsAt g.S.Store c.apply.new.self) (sym (after-next s xs i item c.calls-test.true c.calls-item.is)) now.1,
           );
       others = λ clean s at.
@@ -70,7 +71,8 @@ pub returns-in-Err-apply-clause-others : goal.returns-in-Err-apply-clause-others
 returns-in-Err-apply-clause-others g c clean s at other =
     let before = c.calls.invariant in
     let it = c.in-Err-apply.ensures in
-    others_after g.S.Store c.args.self.now c.calls.self c.apply.new.self c.in-Err-apply.fault (before.others (omega (arith, c.apply.ensures.clean)) s at) other (λ e. it.no_memory (ap Err e)) (λ e. (it.stays (it.stopped (ap Err e))).1)
+    others_after g.S.Store c.args.self.now c.calls.self c.apply.new.self c.in-Err-apply.fault (before.others (omega (arith, c.apply.ensures.clean)) s at) other (λ e. it.no_memory (ap Err e))
+    (λ e. (it.stays (it.stopped (ap Err e))).1)
 
 pub returns-clause-others : goal.returns-clause-others
 returns-clause-others g c clean s at other = c.calls.invariant.others clean s at

@@ -14,7 +14,8 @@ pub returns : goal.returns
 returns c =
     let next : c.if-is_shared.self.found ≡ cond c.is_shared.result (lesser_number c.args.self.now.found c.in-Some.bike) c.args.self.now.found =
     elim c.if-is_shared.branch [
-      | then-is_shared w ↦ ap (λ (j : DockJudge). j.found) w.self-is ∙ w.lesser_number.ensures ∙ sym (ap (λ (b : Bool). cond b (lesser_number c.args.self.now.found c.in-Some.bike) c.args.self.now.found) w.if-is_shared.true)
+      | then-is_shared w ↦ ap (λ (j : DockJudge). j.found) w.self-is ∙ w.lesser_number.ensures
+          ∙ sym (ap (λ (b : Bool). cond b (lesser_number c.args.self.now.found c.in-Some.bike) c.args.self.now.found) w.if-is_shared.true)
       | else-is_shared w ↦ ap (λ (j : DockJudge). j.found) w.self-is ∙ sym (ap (λ (b : Bool). cond b (lesser_number c.args.self.now.found c.in-Some.bike) c.args.self.now.found) w.if-is_shared.false)
     ] in
     λ left verdict comes.

@@ -1,5 +1,5 @@
 use Rattle.std.proofs.Common.{refl}
-use Rattle.bike_rows.proofs.ChainLaws.{reads_as}
+use Rattle.bike_sql.proofs.ChainLaws.{reads_as}
 use Rattle.bike_recognition.proofs.EarlierVersions.FoundLemmas.{whole_if}
 use Rattle.bike_recognition.proofs.earlier_versions.found.find_newest.Goals as goal
 

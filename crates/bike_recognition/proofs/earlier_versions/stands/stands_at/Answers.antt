@@ -5,8 +5,10 @@ use Rattle.bike_recognition.proofs.EarlierVersions.StandsLemmas.{stations_stand_
 use Rattle.bike_recognition.proofs.earlier_versions.stands.stands_at.Goals as goal
 
 pub returns-then-is_stations : goal.returns-then-is_stations
-returns-then-is_stations g c = reads_weaker c.stations_stand.ensures (λ db stands is. stations_stand_at c.args.earlier db (table_named c.args.table) (sym c.is_stations.ensures ∙ c.if-is_stations.true) stands is)
+returns-then-is_stations g c =
+    reads_weaker c.stations_stand.ensures (λ db stands is. stations_stand_at c.args.earlier db (table_named c.args.table) (sym c.is_stations.ensures ∙ c.if-is_stations.true) stands is)
 
 pub returns-else-is_stations : goal.returns-else-is_stations
 returns-else-is_stations g c =
-    reads_weaker c.table_stands.ensures (λ db stands is. other_stands_at c.args.earlier db (table_named c.args.table) (sym c.is_stations.ensures ∙ c.if-is_stations.false) (sym c.has_table.ensures ∙ c.if-not-has_table.false) stands is)
+    reads_weaker c.table_stands.ensures (λ db stands is. other_stands_at c.args.earlier db (table_named c.args.table) (sym c.is_stations.ensures ∙ c.if-is_stations.false)
+    (sym c.has_table.ensures ∙ c.if-not-has_table.false) stands is)

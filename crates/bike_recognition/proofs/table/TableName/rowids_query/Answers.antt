@@ -1,4 +1,5 @@
-use Rattle.bike_recognition.proofs.RowidTexts.{meta_rowids, system_rowids, plans_rowids, segments_rowids, types_rowids, regions_rowids, stations_rowids, docks_rowids, bikes_rowids, trucks_rowids, riders_rowids, rentals_rowids, orders_rowids, entries_rowids, kept_rowids, counts_rowids, more_names_rowids}
+use Rattle.bike_recognition.proofs.RowidTexts.{meta_rowids, system_rowids, plans_rowids, segments_rowids, types_rowids, regions_rowids, stations_rowids, docks_rowids, bikes_rowids, trucks_rowids}
+use Rattle.bike_recognition.proofs.RowidTexts.{riders_rowids, rentals_rowids, orders_rowids, entries_rowids, kept_rowids, counts_rowids, more_names_rowids}
 use Rattle.bike_recognition.proofs.table.TableName.rowids_query.Goals as goal
 
 pub returns-in-Meta : goal.returns-in-Meta

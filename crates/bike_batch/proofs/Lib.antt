@@ -1,0 +1,12 @@
+pub mod LineLemmas
+pub mod RunLemmas
+pub mod Columns
+pub mod Keys
+pub mod Reading
+pub mod ImportServingLemmas
+pub mod Importing
+pub mod Lists
+pub mod DeskLemmas
+pub mod WalkLemmas
+pub mod Sources
+pub mod DayLemmas

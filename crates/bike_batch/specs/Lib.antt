@@ -1,0 +1,13 @@
+pub mod Faults
+pub mod Answers
+pub mod LineServing
+pub mod Runs
+pub mod Rows
+pub mod Texts
+pub mod StationTables
+pub mod ImportServing
+pub mod Imports
+pub mod DayLines
+pub mod Days
+pub mod Ends
+pub mod Walking

@@ -1,0 +1,86 @@
+//! The tables of a span of time, each row read from the desk as it is written.
+
+ghost use Rattle.std.specs.Prelude.{◌≡◌, Some};
+ghost use Rattle.bike_day_texts.specs.Ended.{info_row};
+ghost use Rattle.bike_day_texts.specs.Rows.{ended_line};
+ghost use Rattle.bike_day_texts.specs.Writing.{WritesLine};
+ghost use Rattle.bike_day_texts.specs.declared.table.DayTable.TheVariants.{Entries, Rentals};
+ghost use Rattle.bike_operator.specs.declared.rental_info.ClosingInfo.{ClosingInfo};
+ghost use Rattle.bike_batch.specs.Days.{span_text};
+ghost use Rattle.bike_batch.specs.Walking.{WritesTable};
+
+use crate::day_fault::DayTableFault;
+use bike_day_texts::{DayTable, LineFault, write_ended, write_entry, write_header};
+use bike_desk::Desk;
+use bike_fields::RentalNumber;
+use bike_fixed::Moment;
+use bike_operator::RentalInfo;
+use sqlite::Alter;
+use std::alloc::Global;
+use std::io::Write;
+
+/// Writes the table of the entries of a span.
+pub(crate) fn write_entries<S: Alter, W: Write>(
+    alloc: Global,
+    desk: &mut Desk<S>,
+    begin: Moment,
+    until: Moment,
+    out: &mut W,
+) -> Result<(), DayTableFault>
+    ensures { WritesTable S.Store desk.old desk.new (W.contents out.old) (W.contents out.new) result
+        (λ s. span_text s Entries begin until) }
+{
+    let mut next = desk.entry_after(0, begin, until)?;
+    write_header(alloc, DayTable::Entries, out)?;
+    'entries: for written in 0..usize::MAX {
+        let Some(entry) = next else {
+            return Ok(());
+        };
+        write_entry(alloc, &entry, out)?;
+        next = desk.entry_after(u64::from(entry.number().get()), begin, until)?;
+    }
+    // No table is that long.
+    Err(DayTableFault::Write)
+}
+
+/// Writes the row of a rental that ended, which has this number.
+fn write_rental<W: Write>(
+    alloc: Global,
+    ended: &(RentalNumber, RentalInfo),
+    out: &mut W,
+) -> Result<(), LineFault>
+    ensures { (closing : ClosingInfo) → ended.now.1.closing ≡ Some closing
+        → WritesLine (W.contents out.old) (W.contents out.new)
+        (ended_line (info_row ended.now.0 ended.now.1 closing)) result }
+{
+    let (number, rental) = ended;
+    let Some(closing) = &rental.closing else {
+        // A rental that ended is closed.
+        return Err(LineFault::Write);
+    };
+    write_ended(alloc, *number, rental, closing, out)
+}
+
+/// Writes the table of the rentals that ended in a span.
+pub(crate) fn write_rentals<S: Alter, W: Write>(
+    alloc: Global,
+    desk: &mut Desk<S>,
+    begin: Moment,
+    until: Moment,
+    out: &mut W,
+) -> Result<(), DayTableFault>
+    ensures { WritesTable S.Store desk.old desk.new (W.contents out.old) (W.contents out.new) result
+        (λ s. span_text s Rentals begin until) }
+{
+    let mut next = desk.ended_after(alloc, 0, begin, until)?;
+    write_header(alloc, DayTable::Rentals, out)?;
+    'rentals: for written in 0..usize::MAX {
+        let Some(ended) = next else {
+            return Ok(());
+        };
+        write_rental(alloc, &ended, out)?;
+        next = desk.ended_after(alloc, u64::from(ended.0.get()), begin, until)?;
+    }
+    // No table is that long.
+    Err(DayTableFault::Write)
+}

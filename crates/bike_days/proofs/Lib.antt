@@ -1,5 +1,0 @@
-pub mod Lists
-pub mod DeskLemmas
-pub mod WalkLemmas
-pub mod Sources
-pub mod DayLemmas

@@ -1,7 +1,0 @@
-use Rattle.bike_days.proofs.WalkLemmas.{Walks}
-use Rattle.bike_days.proofs.Sources.{rentals}
-use Rattle.bike_days.proofs.tables.write_rentals.Given as goal
-
-abbrev pub invariant-rentals : goal.invariant-rentals
-invariant-rentals g l = Walks g.S.Store (rentals l.fn.begin l.fn.until) l.next l.written l.fn.desk l.desk
-    (g.W.Write.contents l.fn.out) (g.W.Write.contents l.out)

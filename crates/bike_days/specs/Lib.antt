@@ -1,4 +1,0 @@
-pub mod Lines
-pub mod Days
-pub mod Ends
-pub mod Walking

@@ -1,4 +1,0 @@
-pub mod Faults
-pub mod Answers
-pub mod Serving
-pub mod Runs
