@@ -429,7 +429,8 @@ def test_page_and_completion(program):
     assert {it.rstrip("?") for it in alert} <= set(re.findall(r"\w+", files["system_alerts.json"]))
     text = PAGE.read_text(encoding="utf-8").split(".SH EXAMPLES\n.nf\n")[1].replace("\\-", "-")
     about, closed, systems = text.split("\n\n")[:3]
-    closed = re.sub('"20[0-9-]{8}', f'"{moment_in(0)[:10]}', closed)
+    # Tomorrow: an alert that is over is doubtful.
+    closed = re.sub('"20[0-9-]{8}', f'"{moment_in(86_400)[:10]}', closed)
     office = given(Path(program.folder, "office"), system_information=about, system_alerts=closed, manifest=systems)
     assert told("portal", office) == (0, []), told("portal", office)
     script = f'. "{COMPLETION}"; COMP_WORDS=("$@"); COMP_CWORD=$(($# - 1)); _bikeshare_portal'
