@@ -9,9 +9,9 @@ use Rattle.bike_catalogue.specs.Rows.{StationRow}
 use Rattle.bike_commands.specs.declared.refusal.Refusal.{Refusal}
 use Rattle.bike_commands.specs.declared.reply.Reply.TheVariants.{Refused}
 use Rattle.bike_commands.specs.declared.request.Request.{Request}
-use Rattle.bike_operator.specs.Operator.{Operator, Kept}
+use Rattle.bike_operator.specs.Operator.{Operator, AcceptedRequest, key_in, kept_under}
 use Rattle.bike_operator.specs.Steps.{refusal_of}
-use Rattle.bike_operator.specs.Runs.{Call, step, outcome_with_kept, outcome, key_in}
+use Rattle.bike_operator.specs.Runs.{Call, step, outcome_with_kept, outcome}
 use Rattle.bike_schema.specs.Stands.{AllLeft}
 use Rattle.bike_desk.specs.Desk.{DeskValue, desk_state, IsAt, KeepsDatabase, TreesStandForEither}
 use Rattle.bike_desk.specs.declared.fault.DeskFault.{DeskFault}
@@ -40,14 +40,14 @@ decided_stays : (s : Operator) (now : ℕ) (name : List ℕ) (number : ℕ) (sta
 decided_stays s now name number station None r is = absurd cc
 decided_stays s now name number station (Some why) r is = refl
 
-answered_stays : (s : Operator) (t : ℕ) (name : List ℕ) (number : ℕ) (station : StationRow) (kept : Option Kept) (r : Refusal)
+answered_stays : (s : Operator) (t : ℕ) (name : List ℕ) (number : ℕ) (station : StationRow) (kept : Option AcceptedRequest) (r : Refusal)
     → (outcome_with_kept s t (request_of name number station) kept).0 ≡ Refused r → (outcome_with_kept s t (request_of name number station) kept).1 ≡ s
 answered_stays s t name number station None r is = decided_stays s (max t s.now) name number station (refusal_of s (request_of name number station).command) r is
 answered_stays s t name number station (Some k) r is = refl
 
 pub refused_stays : (s : Operator) (t : ℕ) (name : List ℕ) (number : ℕ) (station : StationRow) (r : Refusal)
     → (step s t (request_of name number station)).0 ≡ Refused r → (step s t (request_of name number station)).1 ≡ s
-refused_stays s t name number station r is = answered_stays s t name number station (map.get s.kept (key_in (request_of name number station))) r is
+refused_stays s t name number station r is = answered_stays s t name number station (kept_under (key_in (request_of name number station)) s.history) r is
 
 -- ---- the desk
 

@@ -14,6 +14,7 @@ use Rattle.bike_operator.specs.declared.records.Closing.{Closing}
 use Rattle.bike_operator.specs.Counts.{count, is_open}
 use Rattle.bike_book.specs.Rows.{number_value}
 use Rattle.bike_book.specs.Stored.{numbers_from, with_numbers, stored_plan, stored_type, stored_region, stored_station, stored_bike, stored_truck, stored_rider, stored_rental, stored_order}
+use Rattle.bike_book.specs.KeptRequests.{kept_of}
 use Rattle.bike_book.specs.Stored.{stored_entry, stored_kept}
 use Rattle.bike_book.specs.Found.{WhereListed, FoundNumbers, IsLast, rows_open}
 
@@ -77,6 +78,6 @@ found_numbers s m sound listing = record {
   rentals = numbered_length (stored_rental s.entries) 1 s.rentals;
   orders = numbered_length stored_order 1 s.orders;
   entries = numbered_length stored_entry 1 s.entries;
-  kept = same_len stored_kept s.kept;
+  kept = same_len stored_kept (kept_of s.history);
   open_rentals_are = open_length s.entries 1 s.rentals;
 }

@@ -8,6 +8,7 @@ pub mod FleetBooks
 pub mod RentalBooks
 pub mod PlanBooks
 pub mod LedgerRows
+pub mod KeptLemmas
 pub mod CloseBooks
 pub mod SoundNumbers
 pub mod FoundKeys

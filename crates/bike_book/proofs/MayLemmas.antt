@@ -1,12 +1,10 @@
 -- Writes that may be made one after another: those to tables other than `kept`, and a row of `kept` whose key is free.
-use Rattle.std.proofs.Common.{◌≡◌, ℕ, List, [], ◌∷◌, ◌++◌, true, false, Some, None, refl, sym, ap, subst, ◌∙◌}
+use Rattle.std.proofs.Common.{◌≡◌, ℕ, List, [], ◌∷◌, ◌++◌, false, None, refl, sym, ap, subst, ◌∙◌}
 use Rattle.std.specs.Prelude.{option_map}
 use Rattle.std.specs.List.{AllByRecursion}
-use Rattle.std.specs.FinMap as fin
 use Rattle.std.proofs.lemmas.Bool.{true≢false}
-use Rattle.sqlite_value.specs.Order.{Row}
 use Rattle.bike_sql.specs.View.{IsFree}
-use Rattle.bike_operator.specs.Operator.{Operator, key_of}
+use Rattle.bike_operator.specs.Operator.{Operator, key_of, kept_under}
 use Rattle.bike_operator.specs.Sound.{IsSound}
 use Rattle.bike_book.specs.Tables.{Tables, is_table, keys_of, Kept}
 use Rattle.bike_book.specs.Rows.{kept_row}
@@ -38,7 +36,7 @@ all_may [] vs t other rest = rest t refl
 all_may (w ∷ ws) vs t other rest = (elsewhere_may w t other.0, all_may ws vs (tables_after w t) other.1 (λ u same. rest u (same ∙ kept_stays w t other.0)))
 
 -- where a key isn't kept, a row of `kept` may be written under it
-pub may_keep : (s : Operator) (m : Listed) (sound : IsSound s) (listing : IsListing s m) (caller key command reply : List ℕ) → fin.get s.kept (key_of caller key) ≡ None → (t : Tables)
+pub may_keep : (s : Operator) (m : Listed) (sound : IsSound s) (listing : IsListing s m) (caller key command reply : List ℕ) → kept_under (key_of caller key) s.history ≡ None → (t : Tables)
     → t.kept ≡ (tables_for s m).kept → MayWrite (Add Kept (kept_row caller key command reply)) t
 may_keep s m sound listing caller key command reply anew t same =
     λ _. subst (IsFree (keys_of Kept) (kept_row caller key command reply)) (sym same) ((found_by_key s m sound listing).kept caller key ∙ ap (option_map _) anew)

@@ -1,7 +1,6 @@
 -- The row changes that book the close of a request: its entry, the operator's moment and sums, and what is kept.
-use Rattle.std.specs.Prelude.{◌≡◌, ◌+◌, ◌+ℤ◌, ℕ, ℤ, pos, length, List, [], ◌∷◌, Some}
+use Rattle.std.specs.Prelude.{◌≡◌, ◌+◌, ◌+ℤ◌, ℕ, ℤ, pos, length, List, [], ◌∷◌, ◌++◌, Some}
 use Rattle.std.specs.Borrow.{Bor}
-use Rattle.std.specs.FinMap as fin
 use Rattle.bike_operator.specs.Caller.{caller_text}
 use Rattle.bike_ledger.specs.Entries.{Entry}
 use Rattle.bike_ledger.specs.Ledger.{credit, cash_in, revenue_in, given_back, balance_of, cash_of, revenue_of}
@@ -10,22 +9,17 @@ use Rattle.bike_operator.specs.Reply.{Reply}
 use Rattle.bike_operator.specs.Request.{Request}
 use Rattle.bike_operator.specs.Commands.{text_of}
 use Rattle.bike_operator.specs.Replies.{reply_text}
-use Rattle.bike_operator.specs.Operator.{Operator, Kept, Key}
+use Rattle.bike_operator.specs.Operator.{Operator}
 use Rattle.bike_operator.specs.Changes.{entry_added}
-use Rattle.bike_operator.specs.Runs.{key_in}
-use Rattle.bike_operator.specs.Sound.{IsKept}
 use Rattle.bike_book.specs.declared.row_change.RowChange.TheVariants as row
+use Rattle.bike_book.specs.KeptRequests.{AreKept}
 use Rattle.bike_book.specs.Stored.{Listed, IsListing}
 use Rattle.bike_book.specs.Between.{Books}
 
--- an operator at the moment of a request, with what is kept of it
+-- an operator at the moment of a request, which stands at the end of its history
 abbrev pub after_close : ℕ → Request → Reply → Operator → Operator
 after_close now q reply s =
-    record s { now = now; kept = fin.insert s.kept (key_in q) (record { command = q.command; reply = reply }) }
-
--- What is kept stands under a caller and a key.
-abbrev pub AreKept : Operator → Type 0
-AreKept s = (key : Key) (k : Kept) → fin.get s.kept key ≡ Some k → IsKept key k
+    record s { now = now; history = s.history ++ record { moment = now; request = q; reply = reply } ∷ [] }
 
 -- the texts are those of the request and of its reply
 pub record AreTextsOf (q : Request) (r : Reply) (caller key command reply : List ℕ) : Type 0 where

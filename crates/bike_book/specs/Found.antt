@@ -15,7 +15,7 @@ use Rattle.bike_operator.specs.Commands.{text_of}
 use Rattle.bike_operator.specs.Replies.{reply_text}
 use Rattle.bike_ledger.specs.Ledger.{balance_of, cash_of, revenue_of, refunded_of}
 use Rattle.bike_operator.specs.declared.records.Rental.{Rental}
-use Rattle.bike_operator.specs.Operator.{Operator, item_numbered, key_of, name_key, dock_key}
+use Rattle.bike_operator.specs.Operator.{Operator, item_numbered, key_of, name_key, dock_key, kept_under}
 use Rattle.bike_operator.specs.Counts.{count, is_on_truck, is_for_order, docked_at, is_broken, is_open, is_riding}
 use Rattle.bike_operator.specs.Counts.{open_rentals, available_of, docks_available, docks_broken}
 use Rattle.bike_operator.specs.Names.{further_names}
@@ -27,6 +27,7 @@ use Rattle.bike_book.specs.Tables.{Docks, Bikes, Trucks, Riders, Rentals, Orders
 use Rattle.bike_book.specs.Rows.{number_value, meta_row, system_row, plan_row, type_row, region_row, station_row}
 use Rattle.bike_book.specs.Rows.{dock_row, bike_row, truck_row, rider_row, rental_row, order_row, entry_row, kept_row}
 use Rattle.bike_book.specs.Rows.{count_row, name_row}
+use Rattle.bike_book.specs.KeptRequests.{kept_of}
 use Rattle.bike_book.specs.Stored.{Listed, IsListing, with_numbers, segment_rows, stored_bike, stored_rental}
 use Rattle.bike_book.specs.Stored.{tables_for}
 
@@ -68,8 +69,8 @@ pub record FoundByKey (s : Operator) (m : Listed) : Type 0 where
   pub entries : (entry : ℕ) → row_under s m Entries (number_value entry ∷ [])
       ≡ option_map (entry_row entry) (item_numbered entry s.entries)
   pub kept : (caller key : List ℕ) → row_under s m Kept (Text caller ∷ Text key ∷ [])
-      ≡ option_map (λ k. kept_row caller key (text_of k.command) (reply_text k.reply))
-      (fin.get s.kept (key_of caller key))
+      ≡ option_map (λ a. kept_row caller key (text_of a.request.command) (reply_text a.reply))
+      (kept_under (key_of caller key) s.history)
   pub more_names : (kind : NameKind) (id language : List ℕ)
       → row_under s m MoreNames (Text (kind_text kind) ∷ Text id ∷ Text language ∷ [])
       ≡ option_map (name_row (name_key kind id language)) (fin.get s.more_names (name_key kind id language))
@@ -164,5 +165,5 @@ pub record FoundNumbers (s : Operator) (m : Listed) : Type 0 where
   pub rentals : row_count s m Rentals ≡ length s.rentals
   pub orders : row_count s m Orders ≡ length s.orders
   pub entries : row_count s m Entries ≡ length s.entries
-  pub kept : row_count s m Kept ≡ fin.len s.kept
+  pub kept : row_count s m Kept ≡ fin.len (kept_of s.history)
   pub open_rentals_are : length (rows_open (rows_of s m Rentals)) ≡ open_rentals s

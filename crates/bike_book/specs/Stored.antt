@@ -14,13 +14,14 @@ use Rattle.bike_ledger.specs.Ledger.{balance_of, cash_of, revenue_of, refunded_o
 use Rattle.bike_operator.specs.declared.records.Bike.{Bike}
 use Rattle.bike_operator.specs.declared.records.Rental.{Rental}
 use Rattle.bike_operator.specs.declared.records.Order.{Order}
-use Rattle.bike_operator.specs.Operator.{Operator, Station, Truck, Rider, Kept, Key, NameKey, DockKey, texts_cmp}
+use Rattle.bike_operator.specs.Operator.{Operator, Station, Truck, Rider, Key, NameKey, DockKey, texts_cmp}
 use Rattle.bike_operator.specs.Operator.{key_of, dock_key}
 use Rattle.bike_operator.specs.Counts.{available_of, docks_available, docks_broken}
 use Rattle.bike_operator.specs.Sound.{HasDock}
 use Rattle.bike_book.specs.declared.version.TheConstants.{NEWEST}
 use Rattle.bike_accepted.specs.Numbers.{disabled_of}
 use Rattle.bike_book.specs.Tables.{Tables}
+use Rattle.bike_book.specs.KeptRequests.{Kept, kept_of}
 use Rattle.bike_book.specs.Rows.{meta_row, system_row, plan_row, segment_row, type_row, region_row, station_row}
 use Rattle.bike_book.specs.Rows.{dock_row, bike_row, truck_row, rider_row, rental_row, order_row, entry_row, kept_row}
 use Rattle.bike_book.specs.Rows.{count_row, name_row, first_text, second_text, second_number}
@@ -128,7 +129,7 @@ tables_for s m = record {
   rentals = map (stored_rental s.entries) (with_numbers s.rentals);
   orders = map stored_order (with_numbers s.orders);
   entries = map stored_entry (with_numbers s.entries);
-  kept = map stored_kept (fin.entries s.kept);
+  kept = map stored_kept (fin.entries (kept_of s.history));
   counts = map (stored_count s) (fin.entries m.counts);
   more_names = map stored_name (fin.entries s.more_names);
 }

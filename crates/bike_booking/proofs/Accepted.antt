@@ -18,10 +18,10 @@ use Rattle.bike_operator.specs.declared.records.Rental.{Rental}
 use Rattle.bike_catalogue.specs.Rows.{more_docks}
 use Rattle.bike_fields.specs.declared.name_kind.NameKind.{NameKind}
 use Rattle.bike_fields.specs.declared.name_kind.NameKind.TheVariants as named
-use Rattle.bike_operator.specs.Operator.{Operator, Station, Rider, Kept, texts_cmp}
+use Rattle.bike_operator.specs.Operator.{Operator, Station, Rider, AcceptedRequest, texts_cmp}
 use Rattle.bike_operator.specs.Changes.{entry_added}
 use Rattle.bike_operator.specs.Steps.{key_changed, own_name_set, with_report, dock_marked}
-use Rattle.bike_operator.specs.Runs.{key_in, after_acceptance}
+use Rattle.bike_operator.specs.Runs.{after_acceptance}
 use Rattle.bike_operator.specs.Sound.{IsSound}
 use Rattle.bike_laws.proofs.SingleSteps.ItemLemmas.{length-number_changed}
 use Rattle.bike_laws.proofs.SingleSteps.MapLemmas.{text_order, known_changed}
@@ -34,7 +34,9 @@ use Rattle.bike_book.specs.Writes.{RowWrite, Add, write_of, writes_of}
 use Rattle.bike_book.specs.Between.{Leads}
 use Rattle.bike_book.specs.Tables.{Entries}
 use Rattle.bike_book.specs.Rows.{entry_row}
-use Rattle.bike_book.specs.CloseLaws.{after_close, AreKept, AreTextsOf, AreNumbersWith}
+use Rattle.bike_book.specs.KeptRequests.{kept_of, AreKept}
+use Rattle.bike_book.proofs.KeptLemmas.{are_kept}
+use Rattle.bike_book.specs.CloseLaws.{after_close, AreTextsOf, AreNumbersWith}
 use Rattle.bike_book.proofs.CloseBooks.{close_quiet, close_entry, close_refund}
 use Rattle.bike_book.proofs.SoundNumbers.{no_refunds, no_balance}
 use Rattle.bike_booking.proofs.Ends.{sound_ends}
@@ -63,7 +65,7 @@ use Rattle.bike_booking.proofs.ChangedBooks.{IsReady, books_change}
 -- the ledger, what is kept, riders, rentals and names
 pub record Leaves (s n : Operator) : Type 0 where
   pub entries : n.entries ≡ s.entries
-  pub kept : n.kept ≡ s.kept
+  pub history : n.history ≡ s.history
   pub riders : n.riders ≡ s.riders
   pub rentals : n.rentals ≡ s.rentals
   pub orders : n.orders ≡ s.orders
@@ -71,18 +73,18 @@ pub record Leaves (s n : Operator) : Type 0 where
   pub named : KeepsNamed s n
 
 none_left : (s : Operator) → Leaves s s
-none_left s = record { entries = refl; kept = refl; riders = refl; rentals = refl; orders = refl; more_names = refl; named = same_named s s refl }
+none_left s = record { entries = refl; history = refl; riders = refl; rentals = refl; orders = refl; more_names = refl; named = same_named s s refl }
 
 bike_left : (s : Operator) (bikes : FinMap nat_cmp Bike) → Leaves s (record s { bikes = bikes })
-bike_left s bikes = record { entries = refl; kept = refl; riders = refl; rentals = refl; orders = refl; more_names = refl; named = same_named s (record s { bikes = bikes }) refl }
+bike_left s bikes = record { entries = refl; history = refl; riders = refl; rentals = refl; orders = refl; more_names = refl; named = same_named s (record s { bikes = bikes }) refl }
 
 mark_left : (s : Operator) (broken : FinSet texts_cmp) → Leaves s (record s { broken = broken })
-mark_left s broken = record { entries = refl; kept = refl; riders = refl; rentals = refl; orders = refl; more_names = refl; named = same_named s (record s { broken = broken }) refl }
+mark_left s broken = record { entries = refl; history = refl; riders = refl; rentals = refl; orders = refl; more_names = refl; named = same_named s (record s { broken = broken }) refl }
 
 station_left : (s : Operator) (station : List ℕ) (f : Station → Station) → Leaves s (record s { stations = key_changed s.stations station f })
 station_left s station f = record {
   entries = refl;
-  kept = refl;
+  history = refl;
   riders = refl;
   rentals = refl;
   orders = refl;
@@ -93,7 +95,7 @@ station_left s station f = record {
 reported : (now : ℕ) (station : List ℕ) (s n : Operator) → Leaves s n → Leaves s (with_report station now n)
 reported now station s n h = record {
   entries = h.entries;
-  kept = h.kept;
+  history = h.history;
   riders = h.riders;
   rentals = h.rentals;
   orders = h.orders;
@@ -126,24 +128,24 @@ ready s n sound h = record {
 -- a name in the system's language leaves the ledger, what is kept, rentals and orders
 record LeavesLedger (s n : Operator) : Type 0 where
   entries : n.entries ≡ s.entries
-  kept : n.kept ≡ s.kept
+  history : n.history ≡ s.history
   rentals : n.rentals ≡ s.rentals
   orders : n.orders ≡ s.orders
 
 own_name_left : (kind : NameKind) (id name : List ℕ) (s : Operator) → LeavesLedger s (own_name_set kind id name s)
-own_name_left named.System id name s = record { entries = refl; kept = refl; rentals = refl; orders = refl }
-own_name_left named.Station id name s = record { entries = refl; kept = refl; rentals = refl; orders = refl }
-own_name_left named.«Type» id name s = record { entries = refl; kept = refl; rentals = refl; orders = refl }
-own_name_left named.Plan id name s = record { entries = refl; kept = refl; rentals = refl; orders = refl }
-own_name_left named.Description id name s = record { entries = refl; kept = refl; rentals = refl; orders = refl }
-own_name_left named.Region id name s = record { entries = refl; kept = refl; rentals = refl; orders = refl }
+own_name_left named.System id name s = record { entries = refl; history = refl; rentals = refl; orders = refl }
+own_name_left named.Station id name s = record { entries = refl; history = refl; rentals = refl; orders = refl }
+own_name_left named.«Type» id name s = record { entries = refl; history = refl; rentals = refl; orders = refl }
+own_name_left named.Plan id name s = record { entries = refl; history = refl; rentals = refl; orders = refl }
+own_name_left named.Description id name s = record { entries = refl; history = refl; rentals = refl; orders = refl }
+own_name_left named.Region id name s = record { entries = refl; history = refl; rentals = refl; orders = refl }
 
 -- a record leaves the ledger and what is kept
-change_left : (c : Change) (s : Operator) → ((after_change c s).entries ≡ s.entries) × ((after_change c s).kept ≡ s.kept)
-change_left (change.SetOwnName kind id name) s = let left = own_name_left kind id.now name.now s in (left.entries, left.kept)
+change_left : (c : Change) (s : Operator) → ((after_change c s).entries ≡ s.entries) × ((after_change c s).history ≡ s.history)
+change_left (change.SetOwnName kind id name) s = let left = own_name_left kind id.now name.now s in (left.entries, left.history)
 change_left c s = (refl, refl)
 
-changed_left : (co : Option Change) (s : Operator) → ((where_changed co s).entries ≡ s.entries) × ((where_changed co s).kept ≡ s.kept)
+changed_left : (co : Option Change) (s : Operator) → ((where_changed co s).entries ≡ s.entries) × ((where_changed co s).history ≡ s.history)
 changed_left None s = (refl, refl)
 changed_left (Some c) s = change_left c s
 
@@ -159,13 +161,13 @@ leads_changed s m is_ready listing None found = leads_none s m listing
 leads_changed s m is_ready listing (Some c) found = books_change s m listing is_ready c found
 
 -- the operator after an accepted request is what was decided of the one before, closed
-accepted_closed : (s : Operator) (now : ℕ) (q : Request) (a : Accepted) → Decides s now q.command (Ok a) → (changed_by now a s).kept ≡ s.kept
+accepted_closed : (s : Operator) (now : ℕ) (q : Request) (a : Accepted) → Decides s now q.command (Ok a) → (changed_by now a s).history ≡ s.history
     → after_acceptance s now q ≡ after_close now q a.reply (effect_of now a s)
 accepted_closed s now q a decides stays =
-    let kept : (effect_of now a s).kept ≡ s.kept = go (entry_of a.entry) in
-    λ i. record (sym decides.2 i) { now = now; kept = fin.insert (sym kept i) (key_in q) (record { command = q.command; reply = sym decides.1 i }) }
+    let history : (effect_of now a s).history ≡ s.history = go (entry_of a.entry) in
+    λ i. record (sym decides.2 i) { now = now; history = sym history i ++ record { moment = now; request = q; reply = sym decides.1 i } ∷ [] }
   where
-    go : (e : Option Entry) → (entry_added e (changed_by now a s)).kept ≡ s.kept
+    go : (e : Option Entry) → (entry_added e (changed_by now a s)).history ≡ s.history
     go None = stays
     go (Some e) = stays
 
@@ -182,11 +184,11 @@ module _ (s : Operator) (m : Listed) (now : ℕ) (q : Request) (a : Accepted) (n
   entries : next.entries ≡ s.entries
   entries = (changed_left a.change moved_next).0 ∙ left.entries
 
-  kept : next.kept ≡ s.kept
-  kept = (changed_left a.change moved_next).1 ∙ left.kept
+  history : next.history ≡ s.history
+  history = (changed_left a.change moved_next).1 ∙ left.history
 
-  are_kept : AreKept next
-  are_kept key k found = h.sound.kept key k (ap (λ (m : FinMap texts_cmp Kept). fin.get m key) (sym kept) ∙ found)
+  kept : AreKept next
+  kept key k found = are_kept s h.sound key k (ap (λ (l : List AcceptedRequest). fin.get (kept_of l) key) (sym history) ∙ found)
 
   texts_are : AreTextsOf q a.reply texts.caller.now texts.key.now texts.command.now texts.reply.now
   texts_are = record { caller_is = h.texts_are.caller; key_is = h.texts_are.key; command_is = h.texts_are.command; reply_is = h.texts_are.reply ∙ ap reply_text (sym h.decides.1) }
@@ -205,7 +207,7 @@ module _ (s : Operator) (m : Listed) (now : ℕ) (q : Request) (a : Accepted) (n
 
   closes : (w : Listed) → IsListing next w → (o : Option BookedEntry) → IfSome o (IsBookedFound s) → n.sums ≡ sums_after (sums_of s) o → Closes w o
   closes w listing None found sums =
-      close_quiet next w now q a.reply texts.caller texts.key texts.command texts.reply listing are_kept texts_are n.sums.cash n.sums.revenue
+      close_quiet next w now q a.reply texts.caller texts.key texts.command texts.reply listing kept texts_are n.sums.cash n.sums.revenue
       (ap (λ (x : Sums). x.cash) sums ∙ ap cash_of (sym entries)) (ap (λ (x : Sums). x.revenue) sums ∙ ap revenue_of (sym entries))
   closes w listing (Some b) found sums = go b.refunded found.refunded_is where
     go : (o : Option ℤ) → IsRefundFound s b.entry o
@@ -213,10 +215,10 @@ module _ (s : Operator) (m : Listed) (now : ℕ) (q : Request) (a : Accepted) (n
         ++ writes_of (close_rows now n.sums texts)) next w (after_close now q a.reply (entry_added (Some b.entry) next)) w
     go None none =
         let e : Bor Entry = record { ref_ptr = (0, 0); now = b.entry } in
-        close_entry next w now q a.reply texts.caller texts.key texts.command texts.reply listing are_kept texts_are e b.balance n.sums.cash n.sums.revenue (numbers b found sums) none
+        close_entry next w now q a.reply texts.caller texts.key texts.command texts.reply listing kept texts_are e b.balance n.sums.cash n.sums.revenue (numbers b found sums) none
     go (Some refunded) is =
         let e : Bor Entry = record { ref_ptr = (0, 0); now = b.entry } in
-        close_refund next w now q a.reply texts.caller texts.key texts.command texts.reply listing are_kept texts_are e b.balance refunded n.sums.cash n.sums.revenue (numbers b found sums)
+        close_refund next w now q a.reply texts.caller texts.key texts.command texts.reply listing kept texts_are e b.balance refunded n.sums.cash n.sums.revenue (numbers b found sums)
         (is ∙ ap (λ (es : List Entry). refunded_of b.entry.rental es +ℤ given_back b.entry.kind b.entry.amount) (sym entries))
 
   pub leads_accepted : (w : Listed) × Leads (writes_of_accepted now n texts a) s m (after_acceptance s now q) w
@@ -232,7 +234,7 @@ module _ (s : Operator) (m : Listed) (now : ℕ) (q : Request) (a : Accepted) (n
       let end = after_close now q a.reply (effect_of now a s) in
       let both = leads_then ms cs s moved_next next m w w one.1 two in
       let all : Leads ((ms ++ cs) ++ (es ++ ks)) s m end w = leads_then (ms ++ cs) (es ++ ks) s next end m w w both three in
-      (w, subst₂ (λ (ws : List RowWrite) (o : Operator). Leads ws s m o w) (sym (append_assoc (ms ++ cs) es ks)) (sym (accepted_closed s now q a h.decides kept)) all)
+      (w, subst₂ (λ (ws : List RowWrite) (o : Operator). Leads ws s m o w) (sym (append_assoc (ms ++ cs) es ks)) (sym (accepted_closed s now q a h.decides history)) all)
 
 -- ---- the law
 
@@ -245,10 +247,10 @@ books_accepted s m now q a n texts rows h are =
     }
 
 -- what an accepted request leaves of the ledger before its entry
-changed_by_left : (now : ℕ) (a : Accepted) (s : Operator) → ((changed_by now a s).entries ≡ s.entries) × ((changed_by now a s).kept ≡ s.kept)
+changed_by_left : (now : ℕ) (a : Accepted) (s : Operator) → ((changed_by now a s).entries ≡ s.entries) × ((changed_by now a s).history ≡ s.history)
 changed_by_left now a s =
     let before = moved_left now a.moved s in
-    let after = changed_left a.change (where_moved now a.moved s) in (after.0 ∙ before.entries, after.1 ∙ before.kept)
+    let after = changed_left a.change (where_moved now a.moved s) in (after.0 ∙ before.entries, after.1 ∙ before.history)
 
 pub sums_take_one_more : SumsTakeOneMore
 sums_take_one_more s now q a sound decides sound_after = go a.entry refl where

@@ -8,7 +8,6 @@ use Rattle.bike_operator.specs.Steps.{dock_marked}
 use Rattle.bike_operator.specs.Sound.{AreBikesSound}
 use Rattle.bike_laws.specs.SingleSteps.Laws.{one, IsMoved, dock_shares, MarkLaw, is_free}
 use Rattle.bike_laws.proofs.SingleSteps.MarkLaw.{mark_law}
-use Rattle.bike_book.specs.declared.row_change.RowChange.TheVariants as row
 use Rattle.bike_booking.specs.Facts.{DockTotals, BikeTotals, HasDockTotals, HasBikeTotals}
 use Rattle.bike_booking.specs.Put.{IsDockAt, moved_by, Adds, adds_marked, bikes_by, docks_marked_empty, docks_marked_held}
 use Rattle.bike_booking.specs.PutLaws.{AtEachMoment, MarkedEmptyLaw, MarkedHeldLaw}

@@ -1,10 +1,9 @@
 -- The row changes of an acceptance may be written, where its key is not kept.
 use Rattle.std.proofs.Common.{◌≡◌, ℕ, suc, List, [], ◌∷◌, ◌++◌, Bool, true, false, Option, Some, None, refl, sym, ap, subst, ◌∙◌}
 use Rattle.std.specs.Borrow.{Bor}
-use Rattle.std.specs.FinMap as fin
 use Rattle.bike_fields.specs.declared.name_kind.NameKind.{NameKind}
 use Rattle.bike_fields.specs.declared.name_kind.NameKind.TheVariants as named
-use Rattle.bike_operator.specs.Operator.{key_of}
+use Rattle.bike_operator.specs.Operator.{key_of, kept_under, Key}
 use Rattle.bike_fields.specs.Values.{SegmentRow}
 use Rattle.bike_book.specs.Stored.{tables_for}
 use Rattle.bike_book.specs.Writes.{write_of, writes_of, own_name_write, tables_after, MayWriteAll}
@@ -91,7 +90,7 @@ booked_elsewhere (Some b) = (refl, (refl, by b.refunded))
 pub may_be_written : MayBeWritten
 may_be_written s m now q a n texts rows h anew are =
     let told = h.texts_are in
-    let free : fin.get s.kept (key_of texts.caller.now texts.key.now) ≡ None = ap (fin.get s.kept) (λ i. key_of (told.caller i) (told.key i)) ∙ anew in
+    let free : kept_under (key_of texts.caller.now texts.key.now) s.history ≡ None = ap (λ (k : Key). kept_under k s.history) (λ i. key_of (told.caller i) (told.key i)) ∙ anew in
     let ms = where_moved_writes now n a.moved in
     let cs = where_changed_writes a.change in
     let es = where_booked_writes a.entry in

@@ -1,13 +1,12 @@
 -- The law of an accepted request: its row changes lead to the tables of the operator after it.
 use Rattle.std.specs.Prelude.{◌≡◌, ℕ, List, Ok, None, IfSome}
-use Rattle.std.specs.FinMap as fin
 use Rattle.bike_fields.specs.Caller.{caller_text}
 use Rattle.bike_commands.specs.declared.request.Request.{Request}
 use Rattle.bike_commands.specs.Commands.{text_of}
 use Rattle.bike_commands.specs.Replies.{reply_text}
-use Rattle.bike_operator.specs.Operator.{Operator}
+use Rattle.bike_operator.specs.Operator.{Operator, key_in, kept_under}
 use Rattle.bike_operator.specs.Steps.{reply_of}
-use Rattle.bike_operator.specs.Runs.{key_in, after_acceptance}
+use Rattle.bike_operator.specs.Runs.{after_acceptance}
 use Rattle.bike_operator.specs.Sound.{IsSound}
 use Rattle.bike_book.specs.declared.row_change.RowChange.{RowChange}
 use Rattle.bike_book.specs.Stored.{Listed, IsListing, tables_for}
@@ -56,7 +55,7 @@ abbrev pub MayBeWritten : Type 0
 MayBeWritten =
     (s : Operator) (m : Listed) (now : ℕ) (q : Request) (a : Accepted) (n : Stored) (texts : KeptTexts)
     (rows : List RowChange)
-    → IsAccepted s m now q a n texts → fin.get s.kept (key_in q) ≡ None
+    → IsAccepted s m now q a n texts → kept_under (key_in q) s.history ≡ None
     → writes_of rows ≡ writes_of_accepted now n texts a
     → MayWriteAll (writes_of rows) (tables_for s m)
 

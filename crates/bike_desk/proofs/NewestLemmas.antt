@@ -14,11 +14,11 @@ use Rattle.bike_operator.specs.declared.records.Rental.{Rental}
 use Rattle.bike_operator.specs.declared.records.Closing.{Closing}
 use Rattle.bike_operator.specs.declared.view.DockedBike.{DockedBike}
 use Rattle.bike_operator.specs.declared.view.RentalView.{RentalView}
-use Rattle.bike_operator.specs.Operator.{Operator, Kept, item_at, item_numbered, number_changed}
+use Rattle.bike_operator.specs.Operator.{Operator, AcceptedRequest, item_at, item_numbered, number_changed, key_in, kept_under}
 use Rattle.bike_operator.specs.Counts.{is_open, is_riding, docked_at}
 use Rattle.bike_operator.specs.View.{view_of, docked_view, rental_view, rental_of}
 use Rattle.bike_operator.specs.Steps.{tests, refusal_of, after_start, after_end, after_recovery, refunded_by, effect}
-use Rattle.bike_operator.specs.Runs.{key_in, step, outcome, outcome_with_kept}
+use Rattle.bike_operator.specs.Runs.{step, outcome, outcome_with_kept}
 use Rattle.bike_laws.proofs.SingleSteps.ItemLemmas.{number_or_last, number_within, IsTurned, Here, Elsewhere, number_turned}
 use Rattle.bike_laws.proofs.SingleSteps.TestLemmas.{none_holds}
 use Rattle.bike_laws.proofs.FoundLemmas.{closing_now, closed_by}
@@ -115,10 +115,10 @@ decided : (s : Operator) (now : ℕ) (q : Request) (o : Option Refusal) → refu
 decided s now q (Some r) is tells = tells
 decided s now q None is tells = effect_tells s now q.command is tells
 
-answered : (s : Operator) (t : ℕ) (q : Request) (o : Option Kept) → NewestTells s → NewestTells (outcome_with_kept s t q o).1
+answered : (s : Operator) (t : ℕ) (q : Request) (o : Option AcceptedRequest) → NewestTells s → NewestTells (outcome_with_kept s t q o).1
 answered s t q (Some k) tells = tells
 answered s t q None tells = decided s (max t s.now) q (refusal_of s q.command) refl tells
 
 -- A request leaves each open rental its rider's newest.
 pub step_tells : (s : Operator) (t : ℕ) (q : Request) → NewestTells s → NewestTells (step s t q).1
-step_tells s t q tells = answered s t q (map.get s.kept (key_in q)) tells
+step_tells s t q tells = answered s t q (kept_under (key_in q) s.history) tells

@@ -8,8 +8,7 @@ use Rattle.sqlite.specs.Held.{Held, state}
 use Rattle.bike_fixed.specs.Whole.{last_moment}
 use Rattle.bike_commands.specs.declared.command.Command.{Command}
 use Rattle.bike_commands.specs.declared.request.Request.{Request}
-use Rattle.bike_operator.specs.Operator.{Operator}
-use Rattle.bike_operator.specs.Runs.{key_in}
+use Rattle.bike_operator.specs.Operator.{Operator, key_in, kept_under}
 use Rattle.bike_book.specs.Stored.{Listed}
 use Rattle.bike_booking.specs.declared.figures.Figures.{Figures}
 use Rattle.bike_booking.specs.Figures.{figures_of}
@@ -38,7 +37,7 @@ module _ {S : Type 0} (g : Ghosts S) (old mid new : Held S) (s : Operator) (mome
   pub both_read : (command : Command) → command ≡ q.command → Keeps (state g old) s → HasCleanDisk (state g new)
       → AnswersOpen g old mid {E = StatementFault} (Ok figures) (λ s m x. AreFigures r.figures s → x ≡ figures_of s)
       → Answers g mid new {E = StatementFault} (Ok x) (λ s m x. IsKnown s known → IsFoundFor s m command x)
-      → IsRemembered s r → moment ≤ last_moment → now ≡ max moment figures.now → map.get s.kept (key_in q) ≡ None → Keeps (state g new) s × IsReadFor (state g new).now s moment now q figures x
+      → IsRemembered s r → moment ≤ last_moment → now ≡ max moment figures.now → kept_under (key_in q) s.history ≡ None → Keeps (state g new) s × IsReadFor (state g new).now s moment now q figures x
   both_read command is keeps clean one seen remembers in_time later anew =
       let two = subst (λ (c : Command). Answers g mid new {E = StatementFault} (Ok x) (λ s m x. IsKnown s known → IsFoundFor s m c x)) is seen in
       let first = one.answers keeps.is_open in

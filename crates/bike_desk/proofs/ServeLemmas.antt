@@ -14,10 +14,10 @@ use Rattle.bike_commands.specs.Commands.{text_of}
 use Rattle.bike_commands.specs.Requests.{IsRequest}
 use Rattle.sqlite.specs.Effect.{Database}
 use Rattle.bike_views.specs.declared.view_and_docks.ViewAndDocks.{ViewAndDocks}
-use Rattle.bike_operator.specs.Operator.{Operator, Kept}
+use Rattle.bike_operator.specs.Operator.{Operator, AcceptedRequest, key_in, kept_under}
 use Rattle.bike_operator.specs.Sound.{IsSound}
 use Rattle.bike_operator.specs.Steps.{refusal_of, reply_of}
-use Rattle.bike_operator.specs.Runs.{step, outcome_with_kept, outcome, after_acceptance, key_in}
+use Rattle.bike_operator.specs.Runs.{step, outcome_with_kept, outcome, after_acceptance}
 use Rattle.bike_laws.proofs.OrderLemmas.{step_sound}
 use Rattle.bike_laws.proofs.RetryLemmas.{first_kept}
 use Rattle.bike_book.specs.declared.row_change.RowChange.{RowChange}
@@ -42,21 +42,21 @@ use Rattle.bike_desk.specs.Serving.{IsNextBy, IsReadFor, Accepts}
 
 module _ (s : Operator) (t : ℕ) (q : Request) where
   -- a kept key
-  pub step_kept : (o : Option Kept) (row : KeptRow) (text : List ℕ) → map.get s.kept (key_in q) ≡ o → KeepsSame o (Some row) → text ≡ text_of q.command
+  pub step_kept : (o : Option AcceptedRequest) (row : KeptRow) (text : List ℕ) → kept_under (key_in q) s.history ≡ o → KeepsSame o (Some row) → text ≡ text_of q.command
       → (cond (bytes_eq (string_bytes row.command) text) row.reply (Refused refusal.KeyReused) ≡ (step s t q).0) × (s ≡ (step s t q).1)
   step_kept None row text found same is = absurd same
   step_kept (Some k) row text found same is =
       let is_step = ap (outcome_with_kept s t q) found in (
-        ap₂ (λ c r. cond (bytes_eq c text) r (Refused refusal.KeyReused)) same.0 same.1 ∙ ap (λ x. cond (bytes_eq (text_of k.command) x) k.reply (Refused refusal.KeyReused)) is
+        ap₂ (λ c r. cond (bytes_eq c text) r (Refused refusal.KeyReused)) same.0 same.1 ∙ ap (λ x. cond (bytes_eq (text_of k.request.command) x) k.reply (Refused refusal.KeyReused)) is
             ∙ sym (ap (λ (p : Reply × Operator). p.0) is_step),
         sym (ap (λ (p : Reply × Operator). p.1) is_step),
       )
 
-  pub none_kept : (o : Option Kept) → map.get s.kept (key_in q) ≡ o → KeepsSame o None → map.get s.kept (key_in q) ≡ None
+  pub none_kept : (o : Option AcceptedRequest) → kept_under (key_in q) s.history ≡ o → KeepsSame o None → kept_under (key_in q) s.history ≡ None
   none_kept None found same = found
   none_kept (Some k) found same = absurd same
 
-  module _ (now : ℕ) (later : now ≡ max t s.now) (anew : map.get s.kept (key_in q) ≡ None) where
+  module _ (now : ℕ) (later : now ≡ max t s.now) (anew : kept_under (key_in q) s.history ≡ None) where
     -- a refusal
     pub step_refused : (r : Refusal) → Decides s now q.command (Err r) → step s t q ≡ (Refused r, s)
     step_refused r decides = ap (outcome_with_kept s t q) anew ∙ ap (outcome s (max t s.now) q) decides
@@ -71,10 +71,10 @@ module _ (s : Operator) (t : ℕ) (q : Request) where
     accepted_sound moment good order free = subst (λ (p : Reply × Operator). IsSound p.1) (step_accepted free) (step_sound s t q moment good order)
 
 -- an accepted request keeps its key, so it doesn't leave the operator as it was
-pub acceptance_moves : (s : Operator) (t : ℕ) (q : Request) → map.get s.kept (key_in q) ≡ None → refusal_of s q.command ≡ None → (step s t q).1 ≡ s → ⊥
+pub acceptance_moves : (s : Operator) (t : ℕ) (q : Request) → kept_under (key_in q) s.history ≡ None → refusal_of s q.command ≡ None → (step s t q).1 ≡ s → ⊥
 acceptance_moves s t q anew free same =
     let kept = first_kept s t q (ap₂ (λ k r. is_none k && is_none r) anew free) in
-    let none : map.get (step s t q).1.kept (key_in q) ≡ None = ap (λ (o : Operator). map.get o.kept (key_in q)) same ∙ anew in cc
+    let none : kept_under (key_in q) (step s t q).1.history ≡ None = ap (λ (o : Operator). kept_under (key_in q) o.history) same ∙ anew in cc
 
 -- what is booked leads on, from the same rows after a read
 pub booked_next : (old new : State) (s : Operator) (now : ℕ) (q : Request) (h : Stores old.now s) (rows : List RowChange) → new.now ≡ old.now → Keeps new s → IsSound (after_acceptance s now q)

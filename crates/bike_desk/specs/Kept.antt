@@ -5,8 +5,7 @@ use Rattle.sqlite_trees.specs.declared.store.Store.{Ghosts}
 use Rattle.sqlite.specs.State.{State, HasCleanDisk}
 use Rattle.sqlite.specs.Held.{Held, state}
 use Rattle.bike_commands.specs.declared.request.Request.{Request}
-use Rattle.bike_operator.specs.Operator.{Operator}
-use Rattle.bike_operator.specs.Runs.{key_in}
+use Rattle.bike_operator.specs.Operator.{Operator, key_in, kept_under}
 use Rattle.bike_accepted.specs.declared.accepted.Accepted.{Accepted}
 use Rattle.bike_book.specs.declared.row_change.RowChange.{RowChange}
 use Rattle.bike_schema.specs.Stands.{AllLeft, Keeps}
@@ -44,7 +43,7 @@ ForEachAccepted g old new x now a sums texts says =
 
 -- nothing is kept under the request's key
 abbrev pub IsAnew : Operator → RequestTexts → Type 0
-IsAnew s asked = map.get s.kept (key_in asked.request.now) ≡ None
+IsAnew s asked = kept_under (key_in asked.request.now) s.history ≡ None
 
 -- The database stays as it was where the operator does.
 abbrev pub StaysWith : {S A E : Type 0} → Ghosts S → Held S → Held S → Operator → Operator → Result A E → Type 0

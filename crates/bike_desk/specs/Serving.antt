@@ -9,9 +9,9 @@ use Rattle.bike_commands.specs.declared.command.Command.{Command}
 use Rattle.bike_commands.specs.declared.reply.Reply.{Reply}
 use Rattle.bike_commands.specs.declared.request.Request.{Request}
 use Rattle.bike_commands.specs.Commands.{text_of}
-use Rattle.bike_operator.specs.Operator.{Operator}
+use Rattle.bike_operator.specs.Operator.{Operator, key_in, kept_under}
 use Rattle.bike_operator.specs.View.{view_of}
-use Rattle.bike_operator.specs.Runs.{key_in, after_acceptance}
+use Rattle.bike_operator.specs.Runs.{after_acceptance}
 use Rattle.bike_operator.specs.Sound.{IsSound}
 use Rattle.bike_accepted.specs.declared.accepted.Accepted.{Accepted}
 use Rattle.bike_accepted.specs.Effects.{Decides}
@@ -59,7 +59,7 @@ pub record IsReadFor (db : Database) (s : Operator) (moment now : ℕ) (q : Requ
     (x : ViewAndDocks) : Type 0 where
   pub in_time : moment ≤ last_moment
   pub later : now ≡ max moment s.now
-  pub anew : map.get s.kept (key_in q) ≡ None
+  pub anew : kept_under (key_in q) s.history ≡ None
   pub figures_are : figures ≡ figures_of s
   pub view_is : x.view ≡ view_of s q.command
   pub found_for : IsFoundIn db s q.command x
@@ -68,7 +68,7 @@ pub record IsReadFor (db : Database) (s : Operator) (moment now : ℕ) (q : Requ
 -- the records before are its own, the sums those with its entry, and the texts those of both.
 pub record Accepts (s : Operator) (now : ℕ) (q : Request) (a : Accepted) (sums : Sums)
     (texts : KeptTexts) : Type 0 where
-  pub anew : map.get s.kept (key_in q) ≡ None
+  pub anew : kept_under (key_in q) s.history ≡ None
   pub decides : Decides s now q.command (Ok a)
   pub found : AreFound now s a
   pub sums_are : sums ≡ sums_after (sums_of s) a.entry

@@ -2,7 +2,6 @@
 use Rattle.std.proofs.Common.{◌≡◌, ℕ, ℤ, ◌+◌, ◌≤◌, ◌+ℤ◌, pos, List, [], ◌∷◌, ◌++◌, length, length-append, map, Bool, true, false, cond, eqb, Option, Some, None, refl, sym, ap, ◌∙◌, subst, arith, inl}
 use Rattle.std.proofs.Common.{inr}
 use Rattle.std.specs.FinMap as finmap
-use Rattle.std.specs.FinMap.{FinMap}
 use Rattle.std.specs.Cmp.{nat_cmp_total}
 use Rattle.std.specs.Cmp.Lexicographic.{nat_list_cmp_total}
 use Rattle.std.proofs.lemmas.Option.{same_Some}
@@ -17,7 +16,7 @@ use Rattle.bike_operator.specs.declared.records.Bike.{Bike}
 use Rattle.bike_operator.specs.declared.records.Rental.{Rental}
 use Rattle.bike_operator.specs.declared.records.Closing.{Closing}
 use Rattle.bike_operator.specs.declared.view.RentalView.{RentalView}
-use Rattle.bike_operator.specs.Operator.{Operator, Kept, texts_cmp, item_numbered}
+use Rattle.bike_operator.specs.Operator.{Operator, AcceptedRequest, item_numbered}
 use Rattle.bike_operator.specs.Counts.{count, open_rentals, is_open}
 use Rattle.bike_operator.specs.Steps.{fare_now, with_fare, after_end, after_recovery, key_changed}
 use Rattle.bike_operator.specs.Sound.{IsOut, IsStop, IsOpenOrClosed, fares_of, fares_in, most_refunded, IsRentalAt, AreRentalsSound, IsSound}
@@ -55,9 +54,9 @@ pub record IsClosedIn (s x : Operator) (r : RentalView) (to_station : Option (Li
   pub stop : IsStop x to_station
   pub out : (n bike : ℕ) → (n ≡ r.number → ⊥) → IsOut s n bike → IsOut x n bike
 
-rentals_charged : (s x : Operator) (now : ℕ) (kept : FinMap texts_cmp Kept) (r : RentalView) (to_station : Option (List ℕ)) → IsSound s → s.now ≤ now → IsViewOf s r → is_open r.rental ≡ true
-    → IsClosedIn s x r to_station now → AreRentalsSound (at_moment x now kept)
-rentals_charged s x now kept r to_station order later v ongoing is =
+rentals_charged : (s x : Operator) (now : ℕ) (history : List AcceptedRequest) (r : RentalView) (to_station : Option (List ℕ)) → IsSound s → s.now ≤ now → IsViewOf s r → is_open r.rental ≡ true
+    → IsClosedIn s x r to_station now → AreRentalsSound (at_moment x now history)
+rentals_charged s x now history r to_station order later v ongoing is =
     let few = order.rentals.few_rentals in
     let count_rentals : length x.rentals ≡ length s.rentals = ap (λ (rs : List Rental). length rs) is.rentals ∙ length-number_changed r.number (closed_by c) s.rentals in
     let count_entries : length x.entries ≡ length s.entries + 1 = ap (λ (es : List Entry). length es) is.entries ∙ length-append s.entries (e ∷ []) in
@@ -76,7 +75,7 @@ rentals_charged s x now kept r to_station order later v ongoing is =
     e = record { number = length s.entries + 1; kind = Fare; rider = r.rental.rider; rental = r.number; amount = fare_now r now; at = now }
 
     next : Operator
-    next = at_moment x now kept
+    next = at_moment x now history
 
     keeps : KeepsNames s next
     keeps = record { riders = is.riders; bikes = is.bikes; plans = is.plans; stations = is.stations; later = later }
@@ -135,22 +134,22 @@ rentals_charged s x now kept r to_station order later v ongoing is =
     each n y i (Same same) = subst (λ (z : Rental). IsRentalAt next n z) (closed_row n y i same) (subst (λ (m : ℕ). IsRentalAt next m (closed_by c r.rental)) (sym same) closed)
     each n y i (Other apart) =
         let at = order.rentals.rentals n y (before n y i apart) in
-        rental_stands s next n y keeps (λ o. out_settled s x now kept n y.bike (is.out n y.bike apart o))
+        rental_stands s next n y keeps (λ o. out_settled s x now history n y.bike (is.out n y.bike apart o))
         (ap (fares_of n) is.entries ∙ fares_apart n s.entries e (other_number r.number n apart))
         (as_refunded n s.entries x.entries (most_refunded y.closing) (no_refund n) at.refunded) at
 
 -- ---- in a dock, or recovered
 
-pub rentals_ended : (s : Operator) (now : ℕ) (kept : FinMap texts_cmp Kept) (bike : ℕ) (station : List ℕ) (dock : ℕ) (o : Option RentalView) → IsSound s → s.now ≤ now
+pub rentals_ended : (s : Operator) (now : ℕ) (history : List AcceptedRequest) (bike : ℕ) (station : List ℕ) (dock : ℕ) (o : Option RentalView) → IsSound s → s.now ≤ now
     → finmap.contains_key s.stations station ≡ true
-    → ((r : RentalView) → o ≡ Some r → IsRentalOf s bike r) → AreRentalsSound (at_moment (after_end bike station dock now o s) now kept)
-rentals_ended s now kept bike station dock None order later there is = rentals_untouched s now kept order later
-rentals_ended s now kept bike station dock (Some r) order later there is = go (is r refl) where
+    → ((r : RentalView) → o ≡ Some r → IsRentalOf s bike r) → AreRentalsSound (at_moment (after_end bike station dock now o s) now history)
+rentals_ended s now history bike station dock None order later there is = rentals_untouched s now history order later
+rentals_ended s now history bike station dock (Some r) order later there is = go (is r refl) where
   docks : Bike → Bike
   docks x = record x { place = place.Dock station dock }
 
-  go : IsRentalOf s bike r → AreRentalsSound (at_moment (after_end bike station dock now (Some r) s) now kept)
-  go at = rentals_charged s (after_end bike station dock now (Some r) s) now kept r (Some station) order later at.view at.not_closed (record {
+  go : IsRentalOf s bike r → AreRentalsSound (at_moment (after_end bike station dock now (Some r) s) now history)
+  go at = rentals_charged s (after_end bike station dock now (Some r) s) now history r (Some station) order later at.view at.not_closed (record {
     rentals = refl;
     entries = refl;
     riders = λ id h. h;
@@ -167,18 +166,18 @@ rentals_ended s now kept bike station dock (Some r) order later there is = go (i
     };
   })
 
-pub rentals_recovered : (s : Operator) (now : ℕ) (kept : FinMap texts_cmp Kept) (o : Option RentalView) → IsSound s → s.now ≤ now
-    → ((r : RentalView) → o ≡ Some r → IsViewOf s r × (is_open r.rental ≡ true)) → AreRentalsSound (at_moment (after_recovery now o s) now kept)
-rentals_recovered s now kept None order later is = rentals_untouched s now kept order later
-rentals_recovered s now kept (Some r) order later is = go (is r refl).0 (is r refl).1 where
+pub rentals_recovered : (s : Operator) (now : ℕ) (history : List AcceptedRequest) (o : Option RentalView) → IsSound s → s.now ≤ now
+    → ((r : RentalView) → o ≡ Some r → IsViewOf s r × (is_open r.rental ≡ true)) → AreRentalsSound (at_moment (after_recovery now o s) now history)
+rentals_recovered s now history None order later is = rentals_untouched s now history order later
+rentals_recovered s now history (Some r) order later is = go (is r refl).0 (is r refl).1 where
   parks : Bike → Bike
   parks x = record x { place = place.Depot }
 
   marks : Bike → Bike
   marks x = record x { state = Disabled }
 
-  go : IsViewOf s r → is_open r.rental ≡ true → AreRentalsSound (at_moment (after_recovery now (Some r) s) now kept)
-  go v ongoing = rentals_charged s (after_recovery now (Some r) s) now kept r None order later v ongoing (record {
+  go : IsViewOf s r → is_open r.rental ≡ true → AreRentalsSound (at_moment (after_recovery now (Some r) s) now history)
+  go v ongoing = rentals_charged s (after_recovery now (Some r) s) now history r None order later v ongoing (record {
     rentals = refl;
     entries = refl;
     riders = λ id h. h;

@@ -25,35 +25,35 @@ no_more true n m most is e low = omega (arith, e, low)
 no_more false n m most is e low = absurd cc
 
 pub ledger_law : AcceptedKeeps IsLedgerSound
-ledger_law s now (command.AddRider rider) kept order good none later =
+ledger_law s now (command.AddRider rider) history order good none later =
     let free = none_holds (tests (view_of s (command.AddRider rider)) (command.AddRider rider)) none in
-    ledger_rider s now kept rider (record { is_blocked = false }) order.ledger later (record { low = good.0.0; high = good.0.1 })
+    ledger_rider s now history rider (record { is_blocked = false }) order.ledger later (record { low = good.0.0; high = good.0.1 })
     (one_more (finmap.contains_key s.riders rider) (finmap.len s.riders) (finmap.len (finmap.insert s.riders rider (record { is_blocked = false }))) MOST_RIDERS
     (finmap.len-insert nat_cmp_total s.riders rider (record { is_blocked = false })) (below_of MOST_RIDERS (finmap.len s.riders) free.1.0))
     (quiet_kind s now (command.AddRider rider) refl none)
-ledger_law s now (command.SetRider rider blocked) kept order good none later =
+ledger_law s now (command.SetRider rider blocked) history order good none later =
     let free = none_holds (tests (view_of s (command.SetRider rider blocked)) (command.SetRider rider blocked)) none in
-    ledger_rider s now kept rider (record { is_blocked = blocked }) order.ledger later (record { low = good.0.0; high = good.0.1 })
+    ledger_rider s now history rider (record { is_blocked = blocked }) order.ledger later (record { low = good.0.0; high = good.0.1 })
     (no_more (finmap.contains_key s.riders rider) (finmap.len s.riders) (finmap.len (finmap.insert s.riders rider (record { is_blocked = blocked }))) MOST_RIDERS
     (holds (finmap.contains_key s.riders rider) free.0) (finmap.len-insert nat_cmp_total s.riders rider (record { is_blocked = blocked })) order.ledger.few_riders)
     (quiet_kind s now (command.SetRider rider blocked) refl none)
-ledger_law s now (command.TopUp rider amount) kept order good none later =
+ledger_law s now (command.TopUp rider amount) history order good none later =
     let free = none_holds (tests (view_of s (command.TopUp rider amount)) (command.TopUp rider amount)) none in
-    ledger_paid s now kept TopUp rider 0 amount order (record { room = below_of MOST_ENTRIES (length s.entries + open_rentals s) free.1.0 }) later
+    ledger_paid s now history TopUp rider 0 amount order (record { room = below_of MOST_ENTRIES (length s.entries + open_rentals s) free.1.0 }) later
     (rider_there s rider (finmap.get s.riders rider) free.0) (refl, is_payment amount (record { low = good.1.0.0; high = good.1.0.1 }))
-ledger_law s now (command.Start rider station dock) kept order good none later =
+ledger_law s now (command.Start rider station dock) history order good none later =
     let free = none_holds (tests (view_of s (command.Start rider station dock)) (command.Start rider station dock)) none in
-    ledger_started s now kept rider station (docked_view s (docked_at s station dock)) order
+    ledger_started s now history rider station (docked_view s (docked_at s station dock)) order
     (record { room = below_of MOST_ENTRIES (length s.entries + open_rentals s) free.1.1.1.1.1.1.1.1.1.1.0 }) later
-ledger_law s now (command.End bike station dock) kept order good none later =
-    ledger_ended s now kept bike station dock (rental_of s (finmap.get s.bikes bike)) order later (λ r i. rental_is s bike (finmap.get s.bikes bike) r order.bikes refl i)
-ledger_law s now (command.Recover rental) kept order good none later =
+ledger_law s now (command.End bike station dock) history order good none later =
+    ledger_ended s now history bike station dock (rental_of s (finmap.get s.bikes bike)) order later (λ r i. rental_is s bike (finmap.get s.bikes bike) r order.bikes refl i)
+ledger_law s now (command.Recover rental) history order good none later =
     let free = none_holds (tests (view_of s (command.Recover rental)) (command.Recover rental)) none in
-    ledger_recovered s now kept (rental_view s rental (item_numbered rental s.rentals)) order later
+    ledger_recovered s now history (rental_view s rental (item_numbered rental s.rentals)) order later
     (λ r i. (view_is s rental (item_numbered rental s.rentals) r refl i, open_of (rental_view s rental (item_numbered rental s.rentals)) r i free.1.0))
-ledger_law s now (command.Refund rental amount) kept order good none later =
+ledger_law s now (command.Refund rental amount) history order good none later =
     let free = none_holds (tests (view_of s (command.Refund rental amount)) (command.Refund rental amount)) none in
-    ledger_refunded s now kept amount (rental_view s rental (item_numbered rental s.rentals)) order
+    ledger_refunded s now history amount (rental_view s rental (item_numbered rental s.rentals)) order
     (record { room = below_of MOST_ENTRIES (length s.entries + open_rentals s) free.1.1.1.0 }) (record { low = good.1.0.0; high = good.1.0.1 }) later
     (λ r i. (view_is s rental (item_numbered rental s.rentals) r refl i, closed_of (rental_view s rental (item_numbered rental s.rentals)) r i free.1.0))
-ledger_law s now c kept order good none later = ledger_quiet s (effect s now c) now kept order.ledger later (quiet_kind s now c refl none) (same_riders s now c refl)
+ledger_law s now c history order good none later = ledger_quiet s (effect s now c) now history order.ledger later (quiet_kind s now c refl none) (same_riders s now c refl)

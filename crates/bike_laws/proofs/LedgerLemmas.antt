@@ -2,7 +2,6 @@
 use Rattle.std.proofs.Common.{◌≡◌, ℕ, ◌+◌, ◌≤◌, pos, List, [], ◌∷◌, ◌++◌, length, length-append, true, false, Option, Some, None, refl, sym, ap, ◌∙◌, subst, arith, inl, inr}
 use Rattle.std.specs.Prelude.{is_none}
 use Rattle.std.specs.FinMap as finmap
-use Rattle.std.specs.FinMap.{FinMap}
 use Rattle.std.proofs.lemmas.Option.{same_Some}
 use Rattle.bike_ledger.specs.Entries.{Entry}
 use Rattle.bike_ledger.specs.declared.entry.EntryKind.{EntryKind}
@@ -11,7 +10,7 @@ use Rattle.bike_operator.specs.declared.records.Rental.{Rental}
 use Rattle.bike_operator.specs.declared.records.Closing.{Closing}
 use Rattle.bike_operator.specs.declared.view.RentalView.{RentalView}
 use Rattle.bike_operator.specs.declared.view.DockedBike.{DockedBike}
-use Rattle.bike_operator.specs.Operator.{Operator, Rider, Kept, texts_cmp, item_numbered, number_changed}
+use Rattle.bike_operator.specs.Operator.{Operator, Rider, AcceptedRequest, item_numbered, number_changed}
 use Rattle.bike_operator.specs.Counts.{count, open_rentals, is_open}
 use Rattle.bike_operator.specs.declared.limits.TheConstants.{MOST_RIDERS, MOST_ENTRIES}
 use Rattle.bike_operator.specs.Steps.{fare_now, with_entry, with_fare, after_start, after_end, after_recovery, refunded_by}
@@ -83,26 +82,26 @@ ledger_booked s next e ledger k riders entries last few =
 
 -- ---- quiet commands
 
-quiet_keeps : (s x : Operator) (now : ℕ) (kept : FinMap texts_cmp Kept) → s.now ≤ now → IsQuiet s x → KeepsBooked s (at_moment x now kept)
-quiet_keeps s x now kept later q = record {
+quiet_keeps : (s x : Operator) (now : ℕ) (history : List AcceptedRequest) → s.now ≤ now → IsQuiet s x → KeepsBooked s (at_moment x now history)
+quiet_keeps s x now history later q = record {
   riders = q.riders;
   closed = λ n y c found closed. ap (λ (rs : List Rental). item_numbered n rs) q.rentals ∙ found;
   later = later;
 }
 
-pub ledger_quiet : (s x : Operator) (now : ℕ) (kept : FinMap texts_cmp Kept) → IsLedgerSound s → s.now ≤ now → IsQuiet s x → x.riders ≡ s.riders → IsLedgerSound (at_moment x now kept)
-ledger_quiet s x now kept ledger later q riders =
-    ledger_same s (at_moment x now kept) ledger (quiet_keeps s x now kept later q) riders q.entries (ap (λ (rs : List Rental). count is_open rs) q.rentals)
+pub ledger_quiet : (s x : Operator) (now : ℕ) (history : List AcceptedRequest) → IsLedgerSound s → s.now ≤ now → IsQuiet s x → x.riders ≡ s.riders → IsLedgerSound (at_moment x now history)
+ledger_quiet s x now history ledger later q riders =
+    ledger_same s (at_moment x now history) ledger (quiet_keeps s x now history later q) riders q.entries (ap (λ (rs : List Rental). count is_open rs) q.rentals)
 
 -- a rider is added or changed
-pub ledger_rider : (s : Operator) (now : ℕ) (kept : FinMap texts_cmp Kept) (rider : ℕ) (r : Rider) → IsLedgerSound s → s.now ≤ now → IsRiderNumber rider
+pub ledger_rider : (s : Operator) (now : ℕ) (history : List AcceptedRequest) (rider : ℕ) (r : Rider) → IsLedgerSound s → s.now ≤ now → IsRiderNumber rider
     → finmap.len (finmap.insert s.riders rider r) ≤ MOST_RIDERS
-    → IsQuiet s (record s { riders = finmap.insert s.riders rider r }) → IsLedgerSound (at_moment (record s { riders = finmap.insert s.riders rider r }) now kept)
-ledger_rider s now kept rider r ledger later good few q = record {
+    → IsQuiet s (record s { riders = finmap.insert s.riders rider r }) → IsLedgerSound (at_moment (record s { riders = finmap.insert s.riders rider r }) now history)
+ledger_rider s now history rider r ledger later good few q = record {
   riders = λ number x i. each number x i (either number rider);
   entries =
-      λ number e i. entry_stands s (at_moment (record s { riders = finmap.insert s.riders rider r }) now kept) number e
-      (quiet_keeps s (record s { riders = finmap.insert s.riders rider r }) now kept later q) (ledger.entries number e i);
+      λ number e i. entry_stands s (at_moment (record s { riders = finmap.insert s.riders rider r }) now history) number e
+      (quiet_keeps s (record s { riders = finmap.insert s.riders rider r }) now history later q) (ledger.entries number e i);
   few_riders = few;
   few_entries = ledger.few_entries;
 } where
@@ -118,10 +117,10 @@ open_apart x y c same closed ongoing =
     absurd cc
 
 -- the rental is closed and its fare is booked
-pub ledger_charged : (s x : Operator) (now : ℕ) (kept : FinMap texts_cmp Kept) (r : RentalView) (to_station : Option (List ℕ)) → IsSound s → s.now ≤ now → IsViewOf s r → is_open r.rental ≡ true
-    → x.riders ≡ s.riders → x.rentals ≡ (with_fare r to_station now s).rentals → x.entries ≡ (with_fare r to_station now s).entries → IsLedgerSound (at_moment x now kept)
-ledger_charged s x now kept r to_station order later v ongoing riders rentals entries =
-    ledger_booked s (at_moment x now kept) _ order.ledger keeps riders entries last few
+pub ledger_charged : (s x : Operator) (now : ℕ) (history : List AcceptedRequest) (r : RentalView) (to_station : Option (List ℕ)) → IsSound s → s.now ≤ now → IsViewOf s r → is_open r.rental ≡ true
+    → x.riders ≡ s.riders → x.rentals ≡ (with_fare r to_station now s).rentals → x.entries ≡ (with_fare r to_station now s).entries → IsLedgerSound (at_moment x now history)
+ledger_charged s x now history r to_station order later v ongoing riders rentals entries =
+    ledger_booked s (at_moment x now history) _ order.ledger keeps riders entries last few
   where
     c : Closing
     c = closing_now r to_station now
@@ -129,7 +128,7 @@ ledger_charged s x now kept r to_station order later v ongoing riders rentals en
     changed : x.rentals ≡ number_changed r.number (closed_by c) s.rentals
     changed = rentals
 
-    keeps : KeepsBooked s (at_moment x now kept)
+    keeps : KeepsBooked s (at_moment x now history)
     keeps = record {
       riders = λ id h. ap (λ m. finmap.contains_key m id) riders ∙ h;
       closed = λ n y d found closed.
@@ -140,7 +139,7 @@ ledger_charged s x now kept r to_station order later v ongoing riders rentals en
       later = later;
     }
 
-    last : IsEntryAt (at_moment x now kept) (length s.entries + 1) (record { number = length s.entries + 1; kind = Fare; rider = r.rental.rider; rental = r.number; amount = fare_now r now; at = now })
+    last : IsEntryAt (at_moment x now history) (length s.entries + 1) (record { number = length s.entries + 1; kind = Fare; rider = r.rental.rider; rental = r.number; amount = fare_now r now; at = now })
     last =
         let amount = fare_amount s now r order v in
         let of = order.rentals.rentals r.number r.rental v.found in
@@ -161,42 +160,42 @@ ledger_charged s x now kept r to_station order later v ongoing riders rentals en
           by_now = omega arith;
         }
 
-    few : length s.entries + 1 + open_rentals (at_moment x now kept) ≤ MOST_ENTRIES
+    few : length s.entries + 1 + open_rentals (at_moment x now history) ≤ MOST_ENTRIES
     few =
-        let fewer : open_rentals (at_moment x now kept) + 1 ≡ open_rentals s =
+        let fewer : open_rentals (at_moment x now history) + 1 ≡ open_rentals s =
         ap (λ (rs : List Rental). count is_open rs + 1) changed ∙ count_changed is_open r.number (closed_by c) s.rentals r.rental v.found ongoing refl in
         let before = order.ledger.few_entries in
         omega (arith, before, fewer)
 
 -- nothing is touched
-ledger_untouched : (s : Operator) (now : ℕ) (kept : FinMap texts_cmp Kept) → IsLedgerSound s → s.now ≤ now → IsLedgerSound (at_moment s now kept)
-ledger_untouched s now kept ledger later = ledger_quiet s s now kept ledger later (quiet_fields s s refl refl refl refl refl refl) refl
+ledger_untouched : (s : Operator) (now : ℕ) (history : List AcceptedRequest) → IsLedgerSound s → s.now ≤ now → IsLedgerSound (at_moment s now history)
+ledger_untouched s now history ledger later = ledger_quiet s s now history ledger later (quiet_fields s s refl refl refl refl refl refl) refl
 
-pub ledger_ended : (s : Operator) (now : ℕ) (kept : FinMap texts_cmp Kept) (bike : ℕ) (station : List ℕ) (dock : ℕ) (o : Option RentalView) → IsSound s → s.now ≤ now
-    → ((r : RentalView) → o ≡ Some r → IsRentalOf s bike r) → IsLedgerSound (at_moment (after_end bike station dock now o s) now kept)
-ledger_ended s now kept bike station dock None order later is = ledger_untouched s now kept order.ledger later
-ledger_ended s now kept bike station dock (Some r) order later is =
+pub ledger_ended : (s : Operator) (now : ℕ) (history : List AcceptedRequest) (bike : ℕ) (station : List ℕ) (dock : ℕ) (o : Option RentalView) → IsSound s → s.now ≤ now
+    → ((r : RentalView) → o ≡ Some r → IsRentalOf s bike r) → IsLedgerSound (at_moment (after_end bike station dock now o s) now history)
+ledger_ended s now history bike station dock None order later is = ledger_untouched s now history order.ledger later
+ledger_ended s now history bike station dock (Some r) order later is =
     let at = is r refl in
-    ledger_charged s (after_end bike station dock now (Some r) s) now kept r (Some station) order later at.view at.not_closed refl refl refl
+    ledger_charged s (after_end bike station dock now (Some r) s) now history r (Some station) order later at.view at.not_closed refl refl refl
 
-pub ledger_recovered : (s : Operator) (now : ℕ) (kept : FinMap texts_cmp Kept) (o : Option RentalView) → IsSound s → s.now ≤ now
-    → ((r : RentalView) → o ≡ Some r → IsViewOf s r × (is_open r.rental ≡ true)) → IsLedgerSound (at_moment (after_recovery now o s) now kept)
-ledger_recovered s now kept None order later is = ledger_untouched s now kept order.ledger later
-ledger_recovered s now kept (Some r) order later is =
+pub ledger_recovered : (s : Operator) (now : ℕ) (history : List AcceptedRequest) (o : Option RentalView) → IsSound s → s.now ≤ now
+    → ((r : RentalView) → o ≡ Some r → IsViewOf s r × (is_open r.rental ≡ true)) → IsLedgerSound (at_moment (after_recovery now o s) now history)
+ledger_recovered s now history None order later is = ledger_untouched s now history order.ledger later
+ledger_recovered s now history (Some r) order later is =
     let at = is r refl in
-    ledger_charged s (after_recovery now (Some r) s) now kept r None order later at.0 at.1 refl refl refl
+    ledger_charged s (after_recovery now (Some r) s) now history r None order later at.0 at.1 refl refl refl
 
 -- a rental is added
-pub ledger_started : (s : Operator) (now : ℕ) (kept : FinMap texts_cmp Kept) (rider : ℕ) (station : List ℕ) (o : Option DockedBike) → IsSound s → HasRoom s → s.now ≤ now
-    → IsLedgerSound (at_moment (after_start rider station now o s) now kept)
-ledger_started s now kept rider station None order has later = ledger_untouched s now kept order.ledger later
-ledger_started s now kept rider station (Some b) order has later = record {
+pub ledger_started : (s : Operator) (now : ℕ) (history : List AcceptedRequest) (rider : ℕ) (station : List ℕ) (o : Option DockedBike) → IsSound s → HasRoom s → s.now ≤ now
+    → IsLedgerSound (at_moment (after_start rider station now o s) now history)
+ledger_started s now history rider station None order has later = ledger_untouched s now history order.ledger later
+ledger_started s now history rider station (Some b) order has later = record {
   riders = order.ledger.riders;
-  entries = λ number e i. entry_stands s (at_moment (after_start rider station now (Some b) s) now kept) number e
+  entries = λ number e i. entry_stands s (at_moment (after_start rider station now (Some b) s) now history) number e
       (record { riders = λ id h. h; closed = λ n y c found closed. number_stays n s.rentals added y found; later = later }) (order.ledger.entries number e i);
   few_riders = order.ledger.few_riders;
   few_entries =
-      let more : open_rentals (at_moment (after_start rider station now (Some b) s) now kept) ≡ open_rentals s + 1 = count_added is_open s.rentals added in
+      let more : open_rentals (at_moment (after_start rider station now (Some b) s) now history) ≡ open_rentals s + 1 = count_added is_open s.rentals added in
       let room = has.room in
       omega (arith, more, room);
 } where
@@ -208,29 +207,29 @@ ledger_started s now kept rider station (Some b) order has later = record {
 pub is_payment : (amount : ℕ) → IsPaid amount → IsPayment (pos amount)
 is_payment amount p = record { hundredths = amount; is = refl; low = p.low; high = p.high }
 
-pub ledger_paid : (s : Operator) (now : ℕ) (kept : FinMap texts_cmp Kept) (kind : EntryKind) (rider rental amount : ℕ) → IsSound s → HasRoom s → s.now ≤ now → finmap.contains_key s.riders rider ≡ true
-    → IsBooking (at_moment (with_entry kind rider rental (pos amount) now s) now kept)
+pub ledger_paid : (s : Operator) (now : ℕ) (history : List AcceptedRequest) (kind : EntryKind) (rider rental amount : ℕ) → IsSound s → HasRoom s → s.now ≤ now → finmap.contains_key s.riders rider ≡ true
+    → IsBooking (at_moment (with_entry kind rider rental (pos amount) now s) now history)
     (record { number = length s.entries + 1; kind = kind; rider = rider; rental = rental; amount = pos amount; at = now }) kind
-    → IsLedgerSound (at_moment (with_entry kind rider rental (pos amount) now s) now kept)
-ledger_paid s now kept kind rider rental amount order has later known booking =
+    → IsLedgerSound (at_moment (with_entry kind rider rental (pos amount) now s) now history)
+ledger_paid s now history kind rider rental amount order has later known booking =
     let room = has.room in
-    ledger_booked s (at_moment (with_entry kind rider rental (pos amount) now s) now kept) _ order.ledger
+    ledger_booked s (at_moment (with_entry kind rider rental (pos amount) now s) now history) _ order.ledger
     (record { riders = λ id h. h; closed = λ n y c found closed. found; later = later }) refl refl
     (record { number_is = refl; rider_is = known; booking = booking; by_now = omega arith }) (omega (arith, room))
 
 -- the rental that is refunded is closed
-pub ledger_refunded : (s : Operator) (now : ℕ) (kept : FinMap texts_cmp Kept) (amount : ℕ) (o : Option RentalView) → IsSound s → HasRoom s → IsPaid amount → s.now ≤ now
-    → ((r : RentalView) → o ≡ Some r → IsViewOf s r × (is_open r.rental ≡ false)) → IsLedgerSound (at_moment (refunded_by amount now o s) now kept)
-ledger_refunded s now kept amount None order has paid later is = ledger_untouched s now kept order.ledger later
-ledger_refunded s now kept amount (Some r) order has paid later is =
+pub ledger_refunded : (s : Operator) (now : ℕ) (history : List AcceptedRequest) (amount : ℕ) (o : Option RentalView) → IsSound s → HasRoom s → IsPaid amount → s.now ≤ now
+    → ((r : RentalView) → o ≡ Some r → IsViewOf s r × (is_open r.rental ≡ false)) → IsLedgerSound (at_moment (refunded_by amount now o s) now history)
+ledger_refunded s now history amount None order has paid later is = ledger_untouched s now history order.ledger later
+ledger_refunded s now history amount (Some r) order has paid later is =
     let at = is r refl in
     let v = at.0 in
     let of = order.rentals.rentals r.number r.rental v.found in
     of_closing r.rental.closing refl at.1 v of.rider_is
   where
     of_closing : (c : Option Closing) → r.rental.closing ≡ c → is_open r.rental ≡ false → IsViewOf s r → finmap.contains_key s.riders r.rental.rider ≡ true
-        → IsLedgerSound (at_moment (refunded_by amount now (Some r) s) now kept)
+        → IsLedgerSound (at_moment (refunded_by amount now (Some r) s) now history)
     of_closing None same shut v known = let ongoing : is_open r.rental ≡ true = ap (λ (c : Option Closing). is_none c) same in absurd cc
     of_closing (Some c) same shut v known =
-        ledger_paid s now kept Refund r.rental.rider r.number amount order has later known
+        ledger_paid s now history Refund r.rental.rider r.number amount order has later known
         (record { row = r.rental; closing = c; found = v.found; closed = same; rider_is = refl }, is_payment amount paid)

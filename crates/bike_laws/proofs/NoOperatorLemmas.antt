@@ -5,11 +5,11 @@ use Rattle.std.specs.FinSet as finset
 use Rattle.std.specs.Ordering.{nat_cmp}
 use Rattle.bike_catalogue.specs.Rows.{PlanRow, TypeRow, RegionRow}
 use Rattle.bike_operator.specs.declared.records.Bike.{Bike}
-use Rattle.bike_operator.specs.Operator.{Station, Truck, Rider, Kept, Key, NameKey, text_cmp, texts_cmp, no_operator, item_numbered}
+use Rattle.bike_operator.specs.Operator.{Station, Truck, Rider, Key, NameKey, text_cmp, texts_cmp, no_operator, item_numbered}
 use Rattle.bike_fields.specs.declared.name_kind.NameKind.{NameKind}
 use Rattle.bike_operator.specs.Counts.{count}
 use Rattle.bike_operator.specs.Names.{is_name_of, further_names}
-use Rattle.bike_operator.specs.Sound.{IsSound, IsCatalogueSound, AreNamesSound, AreBikesSound, AreOrdersSound, AreRentalsSound, IsLedgerSound}
+use Rattle.bike_operator.specs.Sound.{IsHistory, IsSound, IsCatalogueSound, AreNamesSound, AreBikesSound, AreOrdersSound, AreRentalsSound, IsLedgerSound}
 use Rattle.bike_laws.proofs.SingleSteps.NameLemmas.{names_counted}
 
 no_number : {A : Type 0} (n : ℕ) (x : A) → item_numbered n [] ≡ Some x → ⊥
@@ -31,8 +31,12 @@ no_station id x e = let none = finmap.get-empty {X = Station} text_cmp id in abs
 no_key : (X : Type 0) (n : ℕ) (x : X) → finmap.get (finmap.empty {X = X} {R = nat_cmp}) n ≡ Some x → ⊥
 no_key X n x e = let none = finmap.get-empty {X = X} nat_cmp n in absurd cc
 
-no_kept : (key : Key) (k : Kept) → finmap.get (finmap.empty {X = Kept} {R = texts_cmp}) key ≡ Some k → ⊥
-no_kept key k e = let none = finmap.get-empty {X = Kept} texts_cmp key in absurd cc
+none_history : IsHistory 0 []
+none_history = record {
+  requests = λ n a e. absurd (no_number n a e);
+  once = λ m n a b e f same. absurd (no_number m a e);
+  in_order = λ m n a b e f within. absurd (no_number m a e);
+}
 
 no_name : (key : NameKey) (name : List ℕ) → finmap.get (finmap.empty {X = List ℕ} {R = texts_cmp}) key ≡ Some name → ⊥
 no_name key name e = let none = finmap.get-empty {X = List ℕ} texts_cmp key in absurd cc
@@ -87,7 +91,7 @@ none_sound = record {
   orders = none_orders;
   rentals = none_rentals;
   ledger = none_ledger;
-  kept = λ key k e. absurd (no_kept key k e);
+  history = none_history;
   names = none_names;
   now = omega arith;
 }

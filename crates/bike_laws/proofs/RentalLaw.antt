@@ -21,30 +21,30 @@ small_enough : (amount : ℕ) (o : Option RentalView) (r : RentalView) → o ≡
 small_enough amount o r is e = ap (λ (x : Option RentalView). is_too_much amount x) (sym is) ∙ e
 
 pub rentals_law : AcceptedKeeps AreRentalsSound
-rentals_law s now (command.TopUp rider amount) kept order good none later = rentals_topped_up s now kept rider amount order later
-rentals_law s now (command.Start rider station dock) kept order good none later =
+rentals_law s now (command.TopUp rider amount) history order good none later = rentals_topped_up s now history rider amount order later
+rentals_law s now (command.Start rider station dock) history order good none later =
     let free = none_holds (tests (view_of s (command.Start rider station dock)) (command.Start rider station dock)) none in
-    rentals_started s now kept rider station dock (docked_view s (docked_at s station dock)) order later
+    rentals_started s now history rider station dock (docked_view s (docked_at s station dock)) order later
     (record {
       rider_is = rider_there s rider (finmap.get s.riders rider) free.0;
       idle = free.1.1.1.0;
       station_is = station_there (finmap.get s.stations station) free.1.1.1.1.0;
     })
     (λ b i. docked_view_is s station dock (docked_at s station dock) b refl i)
-rentals_law s now (command.End bike station dock) kept order good none later =
+rentals_law s now (command.End bike station dock) history order good none later =
     let free = none_holds (tests (view_of s (command.End bike station dock)) (command.End bike station dock)) none in
-    rentals_ended s now kept bike station dock (rental_of s (finmap.get s.bikes bike)) order later (station_there (finmap.get s.stations station) free.1.1.0)
+    rentals_ended s now history bike station dock (rental_of s (finmap.get s.bikes bike)) order later (station_there (finmap.get s.stations station) free.1.1.0)
     (λ r i. rental_is s bike (finmap.get s.bikes bike) r order.bikes refl i)
-rentals_law s now (command.Recover rental) kept order good none later =
+rentals_law s now (command.Recover rental) history order good none later =
     let free = none_holds (tests (view_of s (command.Recover rental)) (command.Recover rental)) none in
-    rentals_recovered s now kept (rental_view s rental (item_numbered rental s.rentals)) order later
+    rentals_recovered s now history (rental_view s rental (item_numbered rental s.rentals)) order later
     (λ r i. (view_is s rental (item_numbered rental s.rentals) r refl i, open_of (rental_view s rental (item_numbered rental s.rentals)) r i free.1.0))
-rentals_law s now (command.Refund rental amount) kept order good none later =
+rentals_law s now (command.Refund rental amount) history order good none later =
     let free = none_holds (tests (view_of s (command.Refund rental amount)) (command.Refund rental amount)) none in
-    rentals_refunded s now kept amount (rental_view s rental (item_numbered rental s.rentals)) order later
+    rentals_refunded s now history amount (rental_view s rental (item_numbered rental s.rentals)) order later
     (λ r i. (
       view_is s rental (item_numbered rental s.rentals) r refl i,
       small_enough amount (rental_view s rental (item_numbered rental s.rentals)) r i free.1.1.0,
       closed_of (rental_view s rental (item_numbered rental s.rentals)) r i free.1.0,
     ))
-rentals_law s now c kept order good none later = rentals_quiet s (effect s now c) now kept order later (quiet_kind s now c refl none)
+rentals_law s now c history order good none later = rentals_quiet s (effect s now c) now history order later (quiet_kind s now c refl none)

@@ -4,7 +4,6 @@ use Rattle.std.proofs.Common.{inr}
 use Rattle.std.specs.Prelude.{is_some, ◌&&◌, ◌||◌}
 use Rattle.std.specs.List.{list_any}
 use Rattle.std.specs.FinMap as finmap
-use Rattle.std.specs.FinMap.{FinMap}
 use Rattle.std.specs.Cmp.{nat_cmp_total}
 use Rattle.std.specs.Cmp.Lexicographic.{nat_list_cmp_total}
 use Rattle.std.proofs.lemmas.Option.{same_Some}
@@ -20,7 +19,7 @@ use Rattle.bike_operator.specs.declared.records.Place.TheVariants as place
 use Rattle.bike_operator.specs.declared.records.Bike.{Bike}
 use Rattle.bike_operator.specs.declared.records.Rental.{Rental}
 use Rattle.bike_operator.specs.declared.view.DockedBike.{DockedBike}
-use Rattle.bike_operator.specs.Operator.{Operator, Kept, texts_cmp, item_at, item_numbered}
+use Rattle.bike_operator.specs.Operator.{Operator, AcceptedRequest, item_at, item_numbered}
 use Rattle.bike_operator.specs.Counts.{is_dock, open_rentals, is_open, is_riding, docked_at}
 use Rattle.bike_operator.specs.View.{typed_bike, docked_view}
 use Rattle.bike_operator.specs.Steps.{after_start}
@@ -99,10 +98,10 @@ pub record IsStart (s : Operator) (rider : ℕ) (station : List ℕ) : Type 0 wh
   pub idle : is_riding s rider ≡ false
   pub station_is : finmap.contains_key s.stations station ≡ true
 
-pub rentals_started : (s : Operator) (now : ℕ) (kept : FinMap texts_cmp Kept) (rider : ℕ) (station : List ℕ) (dock : ℕ) (o : Option DockedBike) → IsSound s → s.now ≤ now → IsStart s rider station
-    → ((b : DockedBike) → o ≡ Some b → IsDockedView s station dock b) → AreRentalsSound (at_moment (after_start rider station now o s) now kept)
-rentals_started s now kept rider station dock None order later start is = rentals_untouched s now kept order later
-rentals_started s now kept rider station dock (Some b) order later start is =
+pub rentals_started : (s : Operator) (now : ℕ) (history : List AcceptedRequest) (rider : ℕ) (station : List ℕ) (dock : ℕ) (o : Option DockedBike) → IsSound s → s.now ≤ now → IsStart s rider station
+    → ((b : DockedBike) → o ≡ Some b → IsDockedView s station dock b) → AreRentalsSound (at_moment (after_start rider station now o s) now history)
+rentals_started s now history rider station dock None order later start is = rentals_untouched s now history order later
+rentals_started s now history rider station dock (Some b) order later start is =
     let few = order.rentals.few_rentals in
     let more : length (s.rentals ++ added ∷ []) ≡ length s.rentals + 1 = length-append s.rentals (added ∷ []) in
     let ongoing : open_rentals next ≡ open_rentals s + 1 = count_added is_open s.rentals added in
@@ -119,7 +118,7 @@ rentals_started s now kept rider station dock (Some b) order later start is =
     added = record { rider = rider; bike = b.bike; plan = b.plan; from_station = station; start = now; closing = None }
 
     next : Operator
-    next = at_moment (after_start rider station now (Some b) s) now kept
+    next = at_moment (after_start rider station now (Some b) s) now history
 
     rides : Bike → Bike
     rides x = record x { place = place.Rental (length s.rentals + 1) }

@@ -1,24 +1,26 @@
 -- Requests that come again: the caller and key of an accepted request are kept.
-use Rattle.std.specs.Prelude.{◌≡◌, ℕ, ◌+◌, List, [], ◌∷◌, Bool, is_none, is_some, ◌&&◌, Some, if◌then◌else◌}
-use Rattle.std.specs.FinMap as finmap
+use Rattle.std.specs.Prelude.{◌≡◌, ℕ, ◌+◌, max, List, [], ◌∷◌, Bool, is_none, is_some, ◌&&◌, Some, if◌then◌else◌}
 use Rattle.std.specs.Ordering.{eq_by_cmp}
-use Rattle.bike_commands.specs.declared.reply.Reply.{Reply}
 use Rattle.bike_commands.specs.declared.request.Request.{Request}
-use Rattle.bike_operator.specs.Operator.{Operator, Key, texts_cmp}
+use Rattle.bike_operator.specs.Operator.{Operator, AcceptedRequest, Key, key_in, kept_under, texts_cmp}
 use Rattle.bike_operator.specs.Steps.{refusal_of}
-use Rattle.bike_operator.specs.Runs.{Call, key_in, step}
+use Rattle.bike_operator.specs.Runs.{Call, step}
 
 -- a request with this caller and key was accepted
 abbrev pub is_kept : Operator → Request → Bool
-is_kept s q = is_some (finmap.get s.kept (key_in q))
+is_kept s q = is_some (kept_under (key_in q) s.history)
 
 -- the request is accepted: its caller and key are new, and no test refuses the command
 abbrev pub is_accepted : Operator → Request → Bool
-is_accepted s q = is_none (finmap.get s.kept (key_in q)) && is_none (refusal_of s q.command)
+is_accepted s q = is_none (kept_under (key_in q) s.history) && is_none (refusal_of s q.command)
 
--- the caller and key of the request are kept, with its command and this reply
-abbrev pub IsKeptWith : Operator → Request → Reply → Type 0
-IsKeptWith s q reply = finmap.get s.kept (key_in q) ≡ Some (record { command = q.command; reply = reply })
+-- a request as it is accepted: at the greater of its moment and the operator's
+abbrev pub acceptance : Operator → ℕ → Request → AcceptedRequest
+acceptance s t q = record { moment = max t s.now; request = q; reply = (step s t q).0 }
+
+-- the history keeps this accepted request under its caller and key
+abbrev pub Keeps : Operator → AcceptedRequest → Type 0
+Keeps s a = kept_under (key_in a.request) s.history ≡ Some a
 
 -- the request has this caller and key, and is accepted
 abbrev pub accepts : Operator → Key → Request → Bool

@@ -3,8 +3,8 @@ use Rattle.std.specs.Prelude.{◌≡◌, ℕ, ◌+◌, ◌≤◌, List, [], ◌�
 use Rattle.bike_commands.specs.declared.reply.Reply.{Reply}
 use Rattle.bike_commands.specs.declared.reply.Reply.TheVariants.{Refused}
 use Rattle.bike_commands.specs.declared.refusal.Refusal.TheVariants.{KeyReused}
-use Rattle.bike_operator.specs.Operator.{Operator, Key}
-use Rattle.bike_operator.specs.Runs.{Call, key_in, is_same, step, after, replies}
+use Rattle.bike_operator.specs.Operator.{Operator, Key, key_in}
+use Rattle.bike_operator.specs.Runs.{Call, is_same, step, after, replies}
 use Rattle.bike_operator.specs.Sound.{AreCalls}
 use Rattle.bike_laws.specs.Retries.{is_accepted, times_accepted, without_retries}
 

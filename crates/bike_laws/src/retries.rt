@@ -1,21 +1,20 @@
 //! The laws of retries.
 
 ghost use Rattle.std.specs.Prelude.{◌≡◌, ◌≤◌, ◌++◌, ◌∷◌, ℕ, List, true, false, Some};
-ghost use Rattle.std.specs.FinMap.{get};
 ghost use Rattle.bike_commands.specs.declared.reply.Reply.TheVariants.{Refused};
 ghost use Rattle.bike_commands.specs.declared.refusal.Refusal.TheVariants.{KeyReused};
 ghost use Rattle.bike_commands.specs.declared.request.Request.{Request};
-ghost use Rattle.bike_operator.specs.Operator.{Operator, Kept, Key};
-ghost use Rattle.bike_operator.specs.Runs.{Call, key_in, is_same, step, after};
-ghost use Rattle.bike_laws.specs.Retries.{is_kept, is_accepted, IsKeptWith, times_accepted, without_retries};
+ghost use Rattle.bike_operator.specs.Operator.{Operator, AcceptedRequest, Key, key_in};
+ghost use Rattle.bike_operator.specs.Runs.{Call, is_same, step, after};
+ghost use Rattle.bike_laws.specs.Retries.{is_kept, is_accepted, acceptance, Keeps};
+ghost use Rattle.bike_laws.specs.Retries.{times_accepted, without_retries};
 
-/// The law of what is kept: an accepted request is kept under its caller and key with its command and reply,
-/// and what is kept stays so.
+/// The law of what is kept: an accepted request is kept under its caller and key with its moment, its command and its
+/// reply, and what is kept stays so.
 pub fn kept_law()
     ensures first { (s : Operator) (t : ℕ) (q : Request) → is_accepted s q ≡ true
-        → IsKeptWith (step s t q).1 q (step s t q).0 }
-    ensures on { (s : Operator) (cs : List Call) (key : Key) (kept : Kept) → get s.kept key ≡ Some kept
-        → get (after s cs).kept key ≡ Some kept }
+        → Keeps (step s t q).1 (acceptance s t q) }
+    ensures on { (s : Operator) (cs : List Call) (a : AcceptedRequest) → Keeps s a → Keeps (after s cs) a }
 {}
 
 /// The law of acceptance: of all requests with one caller and key at most one is accepted.

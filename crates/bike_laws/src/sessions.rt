@@ -2,10 +2,10 @@
 //! of it.
 
 ghost use Rattle.std.specs.Prelude.{◌≡◌, ◌++◌, ◌∷◌, List, length, take, drop};
-ghost use Rattle.bike_operator.specs.Operator.{Operator};
+ghost use Rattle.bike_operator.specs.Operator.{Operator, no_operator};
 ghost use Rattle.bike_operator.specs.Sound.{IsSound};
 ghost use Rattle.bike_operator.specs.Runs.{Call, after, replies};
-ghost use Rattle.bike_laws.specs.History.{accepted_of, last_moment_of, IsInOrder, IsServedAgain};
+ghost use Rattle.bike_laws.specs.History.{accepted_of, last_moment_of, IsInOrder, IsServedAgain, IsMadeAgain};
 ghost use Rattle.bike_laws.specs.Sessions.{Session, IsSession, AreCallsOf, history, after_sessions, AcceptsOnce};
 ghost use Rattle.bike_laws.specs.Sessions.{AnswersAgain, RefusesOthers, LeavesRetriesOut};
 
@@ -37,12 +37,14 @@ pub fn answers_law()
         ≡ take x.answered (drop (length (history xs)) (replies s (history (xs ++ x ∷ ys)))) }
 {}
 
-/// The law of the history: the requests that a list adds to an operator's history, served at the moments that they have
-/// there, lead to the operator after the list, and each is answered as it was. So a copy of a database that is served
-/// what was accepted since stands where the first one stands. No moment of a history lies before an earlier one, and
-/// the last is the operator's.
+/// The law of the history: a list adds to an operator's history the requests that are accepted, in order. Served at the
+/// moments that they have there they lead to the operator after the list, and each is answered as it was. So a copy of
+/// a database that is served what was accepted since stands where the first one stands, and the whole history of an
+/// operator, from the first request on, makes it again. No moment that is added lies before an earlier one, and the
+/// last is the operator's.
 pub fn history_law()
     ensures again { (s : Operator) (cs : List Call) → IsServedAgain s cs }
+    ensures whole { (cs : List Call) → IsMadeAgain (after no_operator cs) }
     ensures order { (s : Operator) (cs : List Call) → IsInOrder s.now (accepted_of s cs) }
     ensures last { (s : Operator) (cs : List Call) → (after s cs).now ≡ last_moment_of s.now (accepted_of s cs) }
 {}

@@ -22,7 +22,7 @@ use Rattle.bike_ledger.specs.Entries.{Entry}
 use Rattle.bike_ledger.specs.Ledger.{balance_of, refunded_of}
 use Rattle.bike_operator.specs.declared.records.Rental.{Rental}
 use Rattle.bike_operator.specs.declared.records.Closing.{Closing}
-use Rattle.bike_operator.specs.Operator.{Operator, Rider, Kept, item_numbered}
+use Rattle.bike_operator.specs.Operator.{Operator, Rider, AcceptedRequest, item_numbered}
 use Rattle.bike_operator.specs.View.{rider_view, rider_at}
 use Rattle.bike_operator.specs.declared.view.RiderView.{RiderView}
 use Rattle.bike_book.specs.Tables.{Riders, Rentals}
@@ -186,11 +186,11 @@ made_if {made = made} fault result P b result_is is it = subst (λ r. IfOk r P) 
 -- ---- kept requests
 
 -- the row of what is kept
-pub kept_found : (caller key : List ℕ) (o : Option Kept) {row : Row} (x : KeptRow) → ((k : Kept) → o ≡ Some k → IsReply k.reply) → KeepsRow row x
-    → Some row ≡ option_map (λ (k : Kept). kept_row caller key (text_of k.command) (reply_text k.reply)) o → KeepsSame o (Some x)
+pub kept_found : (caller key : List ℕ) (o : Option AcceptedRequest) {row : Row} (x : KeptRow) → ((k : AcceptedRequest) → o ≡ Some k → IsReply k.reply) → KeepsRow row x
+    → Some row ≡ option_map (λ (k : AcceptedRequest). kept_row caller key (text_of k.request.command) (reply_text k.reply)) o → KeepsSame o (Some x)
 kept_found caller key None x good reads is = absurd cc
 kept_found caller key (Some k) x good reads is = reads caller key k (good k refl) cc
 
-pub nothing_kept : (caller key : List ℕ) (o : Option Kept) → None ≡ option_map (λ (k : Kept). kept_row caller key (text_of k.command) (reply_text k.reply)) o → KeepsSame o None
+pub nothing_kept : (caller key : List ℕ) (o : Option AcceptedRequest) → None ≡ option_map (λ (k : AcceptedRequest). kept_row caller key (text_of k.request.command) (reply_text k.reply)) o → KeepsSame o None
 nothing_kept caller key None is = tt
 nothing_kept caller key (Some k) is = absurd cc

@@ -4,7 +4,7 @@ use Rattle.bike_ledger.specs.Ledger.{cash_of, revenue_of, refunded_of}
 use Rattle.bike_commands.specs.Commands.{text_of}
 use Rattle.bike_catalogue.specs.Rows.{SystemRow}
 use Rattle.bike_operator.specs.declared.records.Rental.{Rental}
-use Rattle.bike_operator.specs.Operator.{Operator, Kept, item_numbered}
+use Rattle.bike_operator.specs.Operator.{Operator, AcceptedRequest, item_numbered}
 use Rattle.bike_office_reads.specs.declared.meta.MetaRow.{MetaRow}
 use Rattle.bike_office_reads.specs.declared.kept.KeptRow.{KeptRow}
 
@@ -13,11 +13,12 @@ abbrev pub meta_of : Operator → MetaRow
 meta_of s = record { now = s.now; cash = cash_of s.entries; revenue = revenue_of s.entries }
 
 -- the row keeps what the operator keeps, or neither keeps anything
-abbrev pub KeepsSame : Option Kept → Option KeptRow → Type 0
+abbrev pub KeepsSame : Option AcceptedRequest → Option KeptRow → Type 0
 KeepsSame None None = Unit {0}
 KeepsSame None (Some row) = ⊥
-KeepsSame (Some k) None = ⊥
-KeepsSame (Some k) (Some row) = (string_bytes row.command ≡ text_of k.command) × (row.reply ≡ k.reply)
+KeepsSame (Some a) None = ⊥
+KeepsSame (Some a) (Some row) =
+    (string_bytes row.command ≡ text_of a.request.command) × (row.reply ≡ a.reply)
 
 -- a rental, if it is there, with the sum of its refunds
 abbrev pub stored_rental_at : Operator → ℕ → Option (Rental × ℤ)

@@ -10,7 +10,7 @@ use Rattle.bike_operator.specs.declared.records.Closing.{Closing}
 use Rattle.bike_fields.specs.declared.name_kind.NameKind.{NameKind}
 use Rattle.bike_fields.specs.NameKinds.{kind_text}
 use Rattle.bike_catalogue.specs.Rows.{MoreNameRow}
-use Rattle.bike_operator.specs.Operator.{Kept, NameKey}
+use Rattle.bike_operator.specs.Operator.{AcceptedRequest, NameKey}
 use Rattle.bike_operator.specs.Names.{part_at}
 use Rattle.bike_book.specs.Rows.{closing_columns, kept_row}
 use Rattle.bike_book.specs.Stored.{stored_name}
@@ -29,9 +29,9 @@ HasClosing row closing = map (column row) (6 ∷ 7 ∷ 8 ∷ []) ≡ closing_col
 -- the row keeps what it was made of, under any caller and key
 abbrev pub KeepsRow : Row → KeptRow → Type 0
 KeepsRow row x =
-    (caller key : List ℕ) (k : Kept) → IsReply k.reply
-    → row ≡ kept_row caller key (text_of k.command) (reply_text k.reply)
-    → KeepsSame (Some k) (Some x)
+    (caller key : List ℕ) (a : AcceptedRequest) → IsReply a.reply
+    → row ≡ kept_row caller key (text_of a.request.command) (reply_text a.reply)
+    → KeepsSame (Some a) (Some x)
 
 -- the further name of an entry of the operator's
 abbrev pub named_in : NameKey × List ℕ → MoreNameRow

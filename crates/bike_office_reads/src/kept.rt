@@ -1,9 +1,8 @@
 //! What is kept of accepted requests.
 
 ghost use Rattle.std.specs.Prelude.{◌≡◌, [], ◌∷◌, IfOk};
-ghost use Rattle.std.specs.FinMap as map;
 ghost use Rattle.sqlite_value.specs.declared.value.Value.TheVariants.{Text};
-ghost use Rattle.bike_operator.specs.Operator.{key_of};
+ghost use Rattle.bike_operator.specs.Operator.{key_of, kept_under};
 ghost use Rattle.bike_book.specs.Tables.{Kept};
 ghost use Rattle.bike_book.specs.Found.{row_under};
 ghost use Rattle.bike_schema.specs.Answers.{Answers};
@@ -63,7 +62,7 @@ pub fn find_kept<S: Alter>(
     key: &str,
 ) -> Result<Option<KeptRow>, StatementFault>
     ensures { Answers S.Store conn.old conn.new result
-        (λ s m x. KeepsSame (map.get s.kept (key_of caller.now key.now)) x) }
+        (λ s m x. KeepsSame (kept_under (key_of caller.now key.now) s.history) x) }
 {
     match find_kept_row(conn, caller, key)? {
         Some(row) => Ok(Some(read_kept(alloc, &row)?)),

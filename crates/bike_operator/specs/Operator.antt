@@ -1,7 +1,7 @@
 -- The operator: all that it keeps. It holds no balance, no count and no sum; those are figures of its records.
 -- The ledger rule: so balances change by entries alone.
-use Rattle.std.specs.Prelude.{ℕ, zero, suc, List, [], ◌∷◌, Bool, Option, Some, None}
-use Rattle.std.specs.Ordering.{nat_cmp}
+use Rattle.std.specs.Prelude.{ℕ, zero, suc, List, [], ◌∷◌, Bool, Option, Some, None, if◌then◌else◌}
+use Rattle.std.specs.Ordering.{nat_cmp, eq_by_cmp}
 use Rattle.std.specs.declared.cmp.Ordering.{Ordering}
 use Rattle.std.specs.Cmp.Lexicographic.{slice_cmp}
 use Rattle.std.specs.FinMap as map
@@ -12,7 +12,8 @@ use Rattle.bike_commands.specs.Rows.{PlanRow, TypeRow, StationRow, RegionRow, Sy
 use Rattle.bike_commands.specs.NameKinds.{kind_text}
 use Rattle.bike_commands.specs.NameKind.{NameKind}
 use Rattle.bike_ledger.specs.Entries.{Entry}
-use Rattle.bike_commands.specs.declared.command.Command.{Command}
+use Rattle.bike_commands.specs.Caller.{caller_text}
+use Rattle.bike_commands.specs.declared.request.Request.{Request}
 use Rattle.bike_commands.specs.declared.reply.Reply.{Reply}
 use Rattle.bike_operator.specs.declared.records.Bike.{Bike}
 use Rattle.bike_operator.specs.declared.records.Rental.{Rental}
@@ -34,11 +35,6 @@ pub record Truck : Type 0 where
 pub record Rider : Type 0 where
   pub is_blocked : Bool
 
--- what is kept of an accepted request, under its caller and key
-pub record Kept : Type 0 where
-  pub command : Command
-  pub reply : Reply
-
 -- maps from texts, and from lists of texts
 abbrev pub text_cmp : List ℕ → List ℕ → Ordering
 text_cmp = slice_cmp nat_cmp
@@ -52,6 +48,22 @@ Key = List (List ℕ)
 
 abbrev pub key_of : List ℕ → List ℕ → Key
 key_of caller key = caller ∷ key ∷ []
+
+-- the caller rule: a request is known again by its caller's text and its key
+abbrev pub key_in : Request → Key
+key_in q = key_of (caller_text q.caller) q.key
+
+-- an accepted request: the operator's moment after it, in seconds, who asked for what under which key, and the reply
+pub record AcceptedRequest : Type 0 where
+  pub moment : ℕ
+  pub request : Request
+  pub reply : Reply
+
+-- what a history keeps of a caller and key: the first request that was accepted under them
+abbrev pub kept_under : Key → List AcceptedRequest → Option AcceptedRequest
+kept_under key [] = None
+kept_under key (a ∷ history) =
+    if eq_by_cmp texts_cmp key (key_in a.request) then Some a else kept_under key history
 
 -- what has a name in a further language, with the language: the word of its kind, its identifier, and the language
 abbrev pub NameKey : Type 0
@@ -82,7 +94,8 @@ pub record Operator : Type 0 where
   pub rentals : List Rental
   pub orders : List Order
   pub entries : List Entry
-  pub kept : FinMap texts_cmp Kept
+  -- what was accepted, in order
+  pub history : List AcceptedRequest
   -- names in languages that aren't the system's
   pub more_names : FinMap texts_cmp (List ℕ)
   -- the greatest moment of an accepted request, in seconds
@@ -103,7 +116,7 @@ no_operator = record {
   rentals = [];
   orders = [];
   entries = [];
-  kept = map.empty;
+  history = [];
   more_names = map.empty;
   now = 0;
 }

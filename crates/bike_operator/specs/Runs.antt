@@ -1,8 +1,6 @@
 -- One step of the operator, and a list of steps.
-use Rattle.std.specs.Prelude.{ℕ, max, List, [], ◌∷◌, Bool, Option, Some, None, if◌then◌else◌}
+use Rattle.std.specs.Prelude.{ℕ, max, List, [], ◌∷◌, ◌++◌, Bool, Option, Some, None, if◌then◌else◌}
 use Rattle.std.specs.Str.{bytes_eq}
-use Rattle.std.specs.FinMap as map
-use Rattle.bike_commands.specs.Caller.{caller_text}
 use Rattle.bike_commands.specs.declared.command.Command.{Command}
 use Rattle.bike_commands.specs.declared.reply.Reply.{Reply}
 use Rattle.bike_commands.specs.declared.reply.Reply.TheVariants.{Refused}
@@ -10,24 +8,20 @@ use Rattle.bike_commands.specs.declared.refusal.Refusal.{Refusal}
 use Rattle.bike_commands.specs.declared.refusal.Refusal.TheVariants as refusal
 use Rattle.bike_commands.specs.declared.request.Request.{Request}
 use Rattle.bike_commands.specs.Commands.{text_of}
-use Rattle.bike_operator.specs.Operator.{Operator, Kept, Key, key_of}
+use Rattle.bike_operator.specs.Operator.{Operator, AcceptedRequest, key_in, kept_under}
 use Rattle.bike_operator.specs.Steps.{refusal_of, effect, reply_of}
-
--- the caller rule: what is kept is found by the caller's text and the key
-abbrev pub key_in : Request → Key
-key_in q = key_of (caller_text q.caller) q.key
 
 -- two commands are equal exactly where their texts are
 abbrev pub is_same : Command → Command → Bool
 is_same c d = bytes_eq (text_of c) (text_of d)
 
 -- the acceptance rule: after an accepted request at a moment,
--- now it is that moment, and the key keeps command and reply
+-- now it is that moment, and the history ends with it and its reply
 abbrev pub after_acceptance : Operator → ℕ → Request → Operator
 after_acceptance s now q =
     record (effect s now q.command) {
       now = now;
-      kept = map.insert s.kept (key_in q) (record { command = q.command; reply = reply_of s now q.command });
+      history = s.history ++ record { moment = now; request = q; reply = reply_of s now q.command } ∷ [];
     }
 
 -- the refusal rule: a refused request changes nothing
@@ -37,13 +31,14 @@ outcome s now q None = (reply_of s now q.command, after_acceptance s now q)
 
 -- The kept-key rule: a kept key answers an equal command as before and refuses another, and nothing changes.
 -- The now rule: else the moment is the greater of the request's and the operator's.
-abbrev pub outcome_with_kept : Operator → ℕ → Request → Option Kept → Reply × Operator
-outcome_with_kept s t q (Some k) = (if is_same k.command q.command then k.reply else Refused refusal.KeyReused, s)
+abbrev pub outcome_with_kept : Operator → ℕ → Request → Option AcceptedRequest → Reply × Operator
+outcome_with_kept s t q (Some a) =
+    (if is_same a.request.command q.command then a.reply else Refused refusal.KeyReused, s)
 outcome_with_kept s t q None = outcome s (max t s.now) q (refusal_of s q.command)
 
 -- One step: a request that comes at a moment.
 abbrev pub step : Operator → ℕ → Request → Reply × Operator
-step s t q = outcome_with_kept s t q (map.get s.kept (key_in q))
+step s t q = outcome_with_kept s t q (kept_under (key_in q) s.history)
 
 -- a request and the moment at which it comes
 abbrev pub Call : Type 0

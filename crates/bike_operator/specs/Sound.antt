@@ -6,10 +6,8 @@ use Rattle.std.specs.FinMap as finmap
 use Rattle.std.specs.FinSet as finset
 use Rattle.bike_ledger.specs.Whole.{last_moment}
 use Rattle.bike_commands.specs.numbers.TheConstants.{GREATEST_NUMBER, GREATEST_PAYMENT, MOST_CARRIED}
-use Rattle.bike_commands.specs.Bytes.{is_key, is_ident}
+use Rattle.bike_commands.specs.Bytes.{is_ident}
 use Rattle.bike_commands.specs.NameKind.{NameKind}
-use Rattle.bike_commands.specs.CallerType.{Caller}
-use Rattle.bike_commands.specs.Caller.{IsCaller, caller_text}
 use Rattle.bike_commands.specs.Rows.{PlanRow, TypeRow, RegionRow, SystemRow, IsPlan, IsType, IsStation, IsRegion}
 use Rattle.bike_commands.specs.Rows.{IsMoreName, IsSystem}
 use Rattle.bike_ledger.specs.Entries.{Entry}
@@ -18,7 +16,6 @@ use Rattle.bike_ledger.specs.declared.entry.EntryKind.TheVariants.{TopUp, Fare, 
 use Rattle.bike_ledger.specs.Ledger.{refunded_of}
 use Rattle.bike_ledger.specs.Entries.{greatest_amount}
 use Rattle.bike_commands.specs.Fields.{AreSegments}
-use Rattle.bike_commands.specs.Commands.{IsCommand}
 use Rattle.bike_commands.specs.declared.reply.Reply.{Reply}
 use Rattle.bike_commands.specs.declared.reply.Reply.TheVariants.{Done, Balance, Started, Ended, Ordered, Refused}
 use Rattle.bike_commands.specs.Replies.{IsReply}
@@ -32,8 +29,8 @@ use Rattle.bike_operator.specs.declared.records.Bike.{Bike}
 use Rattle.bike_operator.specs.declared.records.Rental.{Rental}
 use Rattle.bike_operator.specs.declared.records.Closing.{Closing}
 use Rattle.bike_operator.specs.declared.records.Order.{Order}
-use Rattle.bike_operator.specs.Operator.{Operator, Station, Truck, Rider, Kept, Key, key_of, NameKey, name_key, DockKey}
-use Rattle.bike_operator.specs.Operator.{dock_key, item_numbered}
+use Rattle.bike_operator.specs.Operator.{Operator, Station, Truck, Rider, AcceptedRequest, key_in, NameKey, name_key}
+use Rattle.bike_operator.specs.Operator.{DockKey, dock_key, item_numbered}
 use Rattle.bike_operator.specs.Counts.{is_open, is_retired, truck_load, order_load, open_rentals}
 use Rattle.bike_operator.specs.View.{has_end, has_region}
 use Rattle.bike_operator.specs.Names.{has_named, is_own_language, further_names}
@@ -279,7 +276,7 @@ pub record IsLedgerSound (s : Operator) : Type 0 where
   pub few_riders : finmap.len s.riders ≤ MOST_RIDERS
   pub few_entries : length s.entries + open_rentals s ≤ MOST_ENTRIES
 
--- ---- kept requests
+-- ---- the history
 
 abbrev pub is_refused : Reply → Bool
 is_refused Done = false
@@ -289,16 +286,21 @@ is_refused (Ended fare balance) = false
 is_refused (Ordered order) = false
 is_refused (Refused refusal) = true
 
--- a kept request: its caller, its key, its command and the reply, which isn't a refusal
-pub record IsKept (key : Key) (k : Kept) : Type 0 where
-  pub caller : Caller
-  pub name : List ℕ
-  pub key_is : key ≡ key_of (caller_text caller) name
-  pub good_caller : IsCaller caller
-  pub good_name : is_key name ≡ true
-  pub command : IsCommand k.command
-  pub reply : IsReply k.reply
-  pub accepted : is_refused k.reply ≡ false
+-- a request of the program, not after now, and its reply, which isn't a refusal
+pub record IsAccepted (now : ℕ) (a : AcceptedRequest) : Type 0 where
+  pub request : IsRequest a.request
+  pub reply : IsReply a.reply
+  pub accepted : is_refused a.reply ≡ false
+  pub by_now : a.moment ≤ now
+
+pub record IsHistory (now : ℕ) (history : List AcceptedRequest) : Type 0 where
+  pub requests : (number : ℕ) (a : AcceptedRequest) → item_numbered number history ≡ Some a → IsAccepted now a
+  -- no two are of one caller and key
+  pub once : (m n : ℕ) (a b : AcceptedRequest) → item_numbered m history ≡ Some a → item_numbered n history ≡ Some b
+      → key_in a.request ≡ key_in b.request → m ≡ n
+  -- none is of a later moment than one behind it
+  pub in_order : (m n : ℕ) (a b : AcceptedRequest) → item_numbered m history ≡ Some a
+      → item_numbered n history ≡ Some b → m ≤ n → a.moment ≤ b.moment
 
 -- The operator is sound.
 pub record IsSound (s : Operator) : Type 0 where
@@ -307,7 +309,7 @@ pub record IsSound (s : Operator) : Type 0 where
   pub orders : AreOrdersSound s
   pub rentals : AreRentalsSound s
   pub ledger : IsLedgerSound s
-  pub kept : (key : Key) (k : Kept) → finmap.get s.kept key ≡ Some k → IsKept key k
+  pub history : IsHistory s.now s.history
   pub names : AreNamesSound s
   pub now : s.now ≤ last_moment
 

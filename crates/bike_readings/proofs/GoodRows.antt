@@ -26,6 +26,8 @@ use Rattle.bike_operator.specs.Counts.{docks_available, docks_broken, available_
 use Rattle.bike_operator.specs.Sound.{IsSound, IsPlace, IsBooking, IsSetSystem, fares_of, fares_in}
 use Rattle.bike_laws.specs.SingleSteps.Numbers.{disabled_of}
 use Rattle.bike_laws.proofs.SingleSteps.ItemLemmas.{number_within}
+use Rattle.bike_book.specs.KeptRequests.{kept_of}
+use Rattle.bike_book.proofs.KeptLemmas.{are_kept}
 use Rattle.bike_book.specs.declared.version.TheConstants.{NEWEST}
 use Rattle.bike_book.specs.Tables.{Meta, System, Plans, Segments, Types, Regions, Stations, Docks, Bikes, Trucks, Riders, Rentals, Orders, Entries, Kept as KeptTable, Counts, MoreNames}
 use Rattle.bike_book.specs.Rows.{number_value, meta_row}
@@ -272,8 +274,8 @@ module _ (s : Operator) (m : Listed) (sound : IsSound s) (listing : IsListing s 
       (record { number_is = place; room = omega (arith, few, high, place); good = sound.orders.orders n o found })) row has
   all_rows_good Entries row has = numbered_good stored_entry (λ e. refl) entry_read (IsGoodEntry s) s.entries entry_good row has
   all_rows_good KeptTable row has =
-      map_good pairs stored_kept kept_read (IsGoodKept s) s.kept (λ k v below found low. some_and (IsGoodKept s below) (kept_read (stored_kept (k, v))) (k, v) (kept_is s m sound listing k v found)
-      (sound.kept k v found)) row has
+      map_good pairs stored_kept kept_read (IsGoodKept s) (kept_of s.history) (λ k v below found low. some_and (IsGoodKept s below) (kept_read (stored_kept (k, v))) (k, v) (kept_is s m sound listing k v found)
+      (are_kept s sound k v found)) row has
   all_rows_good Counts row has = map_good pairs (stored_count s) count_read (IsGoodCount s) m.counts (λ k v below found low. count_good k v below found) row has
   all_rows_good MoreNames row has = map_good triples stored_name name_read (IsGoodName s) s.more_names (λ k v below found low. name_good k v below found) row has
 

@@ -18,8 +18,9 @@ use Rattle.bike_commands.proofs.ReplyLaws.{reply_sound, reply_full}
 use Rattle.bike_requests.specs.Readers.{command_at}
 use Rattle.bike_requests.proofs.CommandLaws.{command_sound, command_full}
 use Rattle.bike_requests.proofs.OneText.{text_spells}
-use Rattle.bike_operator.specs.Operator.{Key, Kept, key_of}
-use Rattle.bike_operator.specs.Sound.{IsKept, is_refused}
+use Rattle.bike_operator.specs.Operator.{Key, key_of}
+use Rattle.bike_operator.specs.Sound.{is_refused}
+use Rattle.bike_book.specs.KeptRequests.{Kept, IsKept}
 use Rattle.bike_book.specs.Rows.{kept_row, first_text, second_text}
 use Rattle.bike_readings.specs.ColumnReaders.{is_tab, caller_in, command_in, reply_in, one_command_of, accepted_of}
 use Rattle.bike_readings.specs.Readings.{kept_read}

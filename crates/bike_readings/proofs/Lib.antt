@@ -17,6 +17,7 @@ pub mod ReadBack
 pub mod Segments
 pub mod Broken
 pub mod RowRules
+pub mod StoredHistory
 pub mod ReadOffBack
 pub mod Fares
 pub mod GoodRows

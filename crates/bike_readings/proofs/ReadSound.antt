@@ -1,4 +1,5 @@
 -- The operator that is read off tables whose keys are all good is sound, and its docks and counts are listed right.
+use Rattle.std.specs.Prelude.{map}
 use Rattle.std.proofs.Common.{◌≡◌, inl, ℕ, ℤ, ◌+◌, ◌-◌, ◌<◌, ◌≤◌, List, [], ◌∷◌, length, Bool, true, false, Option, Some, None, is_some, refl, sym, ap, ◌∙◌, subst, arith}
 use Rattle.std.specs.Prelude.{option_map, take}
 use Rattle.std.specs.Ordering.{nat_cmp}
@@ -7,6 +8,7 @@ use Rattle.std.specs.declared.cmp.Ordering.TheVariants.{Less, Equal, Greater}
 use Rattle.std.specs.Cmp.{ranked}
 use Rattle.std.proofs.lemmas.Option.{same_Some}
 use Rattle.std.specs.FinMap as fin
+use Rattle.std.specs.FinMap.{FinMap}
 use Rattle.std.specs.FinSet as set
 use Rattle.sqlite_value.specs.declared.value.Value.TheVariants.{Text}
 use Rattle.sqlite_value.specs.Order.{Row}
@@ -26,15 +28,16 @@ use Rattle.bike_operator.specs.declared.records.Bike.{Bike}
 use Rattle.bike_operator.specs.declared.records.Rental.{Rental}
 use Rattle.bike_operator.specs.declared.records.Closing.{Closing}
 use Rattle.bike_operator.specs.declared.records.Order.{Order}
-use Rattle.bike_operator.specs.Operator.{Operator, Station, Truck, Rider, Kept, Key, NameKey, DockKey, dock_key, key_of, name_key, item_numbered}
+use Rattle.bike_operator.specs.Operator.{Operator, Station, Truck, Rider, Key, NameKey, DockKey, dock_key, key_of, name_key, item_numbered, texts_cmp}
 use Rattle.bike_operator.specs.Counts.{is_open, open_rentals}
 use Rattle.bike_operator.specs.Names.{part_at}
 use Rattle.bike_operator.specs.Sound.{IsSound, IsCatalogueSound, AreNamesSound, IsNameAt, AreBikesSound, AreOrdersSound, AreRentalsSound, IsLedgerSound, IsTypeAt, IsRegionAt, IsStationAt, HasDock}
-use Rattle.bike_operator.specs.Sound.{IsBrokenDock, IsBikeAt, IsPlace, IsTruckAt, IsOrderAt, IsRentalAt, IsRiderNumber, IsEntryAt, IsKept as IsKeptAt, fares_of, fares_in}
+use Rattle.bike_operator.specs.Sound.{IsBrokenDock, IsBikeAt, IsPlace, IsTruckAt, IsOrderAt, IsRentalAt, IsRiderNumber, IsEntryAt, fares_of, fares_in}
 use Rattle.bike_laws.proofs.SingleSteps.MapLemmas.{there_of}
+use Rattle.bike_book.specs.KeptRequests.{Kept, IsKept as IsKeptAt}
 use Rattle.bike_book.specs.Tables.{TableName, Tables, keys_of, Meta, Plans, Types, Regions, Stations, Docks, Bikes, Trucks, Riders, Rentals, Orders, Entries, Kept as KeptTable, Counts, MoreNames}
 use Rattle.bike_book.specs.Rows.{number_value}
-use Rattle.bike_book.specs.Stored.{IsListing, IsDockKey, IsCountKey, tables_for, stored_plan, stored_type, stored_region, stored_station, stored_bike, stored_truck, stored_rider, stored_rental}
+use Rattle.bike_book.specs.Stored.{IsListing, IsDockKey, IsCountKey, tables_for, stored_plan, stored_type, stored_region, stored_station, stored_bike, stored_truck, stored_rider, stored_rental, stored_kept}
 use Rattle.bike_book.specs.Stored.{stored_order, stored_count}
 use Rattle.bike_book.proofs.MapRows.{found_entries, has_get}
 use Rattle.bike_book.proofs.Keys.{numbers, texts, pairs, docks, IsPair, IsTriple}
@@ -42,7 +45,8 @@ use Rattle.bike_readings.specs.Readings.{type_read, region_read, station_read, d
 use Rattle.bike_readings.specs.Readings.{plan_read}
 use Rattle.bike_readings.proofs.CatalogueRows.{region_reading, name_reading}
 use Rattle.bike_readings.proofs.LedgerRows.{rental_reading}
-use Rattle.bike_readings.specs.ReadOff.{plan_in, station_in, rider_in, rental_in, dock_in, operator_of, listed_of, first_of, misplaced_bike, bike_in}
+use Rattle.bike_readings.proofs.StoredHistory.{history_sound, kept_again}
+use Rattle.bike_readings.specs.ReadOff.{plan_in, station_in, rider_in, rental_in, dock_in, operator_of, listed_of, first_of, misplaced_bike, bike_in, kept_in}
 use Rattle.bike_readings.specs.Demands.{IsGoodPlan, IsGoodType, IsGoodRegion, IsGoodStation, IsGoodDock, IsGoodPlace, IsGoodBike, IsGoodTruck, IsGoodRider, IsGoodRental, IsGoodOrder, IsGoodEntry}
 use Rattle.bike_readings.specs.Demands.{IsGoodKept, IsGoodCount, IsGoodName, names_before, IsRiding, HasFare, IsFareOf, IsFirstFare, IsOneFare}
 use Rattle.bike_readings.specs.Rules.{AreInOrder, rows_below, HasNone, AreOf}
@@ -139,7 +143,7 @@ module _ (t : Tables) (up : AreInOrder t) (rows : AreGoodRows (operator_of t) t)
       let fact = some_is (IsGoodEntry s (below_of Entries at.item)) (entry_read at.item) it.value (rows Entries at.item at.has) it.value_is in
       subst IsEntryFact it.part_is (fact.good, fact.fare)
 
-  kept_fact : (key : Key) (k : Kept) → fin.get s.kept key ≡ Some k → IsKeptAt key k
+  kept_fact : (key : Key) (k : Kept) → fin.get (kept_in t.kept) key ≡ Some k → IsKeptAt key k
   kept_fact key k found =
       let at = (kept_table t up rows).found key k found in
       some_is (IsGoodKept s (below_of KeptTable at.item)) (kept_read at.item) (key, k) (rows KeptTable at.item at.has) at.read_is
@@ -413,7 +417,7 @@ module _ (t : Tables) (up : AreInOrder t) (rows : AreGoodRows (operator_of t) t)
 
     sound : IsSound s
     sound =
-        record { catalogue = catalogue_sound; bikes = bikes_sound; orders = orders_sound; rentals = rentals_sound; ledger = ledger_sound; kept = kept_fact; names = names_sound; now = meta.by_last }
+        record { catalogue = catalogue_sound; bikes = bikes_sound; orders = orders_sound; rentals = rentals_sound; ledger = ledger_sound; history = history_sound (kept_in t.kept) kept_fact s.now; names = names_sound; now = meta.by_last }
 
     tables : t ≡ tables_for s (listed_of t)
     tables =
@@ -431,7 +435,7 @@ module _ (t : Tables) (up : AreInOrder t) (rows : AreGoodRows (operator_of t) t)
         let rentals = (rentals_table t up rows).rows_are in
         let orders = (orders_table t up rows).rows_are in
         let entries = (entries_table t up rows).rows_are in
-        let kept = (kept_table t up rows).rows_are in
+        let kept = (kept_table t up rows).rows_are ∙ ap (λ (k : FinMap texts_cmp Kept). map stored_kept (fin.entries k)) (sym (kept_again (kept_in t.kept) kept_fact)) in
         let counts = (counts_table t up rows).rows_are in
         let more_names = (names_table t up rows).rows_are in
         λ i. record {

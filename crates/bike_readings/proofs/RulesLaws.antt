@@ -1,5 +1,5 @@
 -- The laws of the rules, from rows to tables and to the tables in a database.
-use Rattle.std.proofs.Common.{◌≡◌, ℕ, List, [], map, slice_index_or, Option, Some, None, refl, sym, ap, ◌∙◌, subst}
+use Rattle.std.proofs.Common.{◌≡◌, ℕ, List, [], map, slice_index_or, Option, Some, None, refl, sym, ap, ◌∙◌, subst, subst₂}
 use Rattle.std.specs.Prelude.{unwrap_or, option_map, option_and_then, slice_get}
 use Rattle.std.specs.Ordering.{nat_cmp, ordering_reverse}
 use Rattle.std.specs.declared.cmp.Ordering.{Ordering}
@@ -17,18 +17,20 @@ use Rattle.bike_sql.proofs.TreeLemmas.{by_key_total}
 use Rattle.bike_operator.specs.Operator.{Operator}
 use Rattle.bike_book.specs.Tables.{TableName, Tables, rows_in as rows_in_tables, tables_by, keys_of, table_place, Meta, System, Plans, Segments, Types, Regions, Stations, Docks, Bikes, Trucks, Riders}
 use Rattle.bike_book.specs.Tables.{Rentals, Orders, Entries, Kept, Counts, MoreNames}
-use Rattle.bike_book.specs.Stored.{tables_for}
+use Rattle.bike_operator.specs.Sound.{IsSound}
+use Rattle.bike_book.specs.Stored.{tables_for, IsListing}
 use Rattle.sqlite_trees.specs.Tree.{Trees}
 use Rattle.bike_schema.specs.Layouts.{every_table, name_of}
 use Rattle.bike_schema.specs.Tables.{tables_of}
 use Rattle.bike_schema.specs.Stands.{Stores}
-use Rattle.bike_readings.specs.ReadOff.{operator_of, listed_of}
+use Rattle.bike_readings.specs.ReadOff.{operator_of, listed_of, as_stored}
 use Rattle.bike_readings.specs.Rules.{AllGood, IsGoodKey, IsFirstBad, AreOf}
 use Rattle.bike_readings.specs.Laws.{GoodAreOf, OfAreGood, OfIsReadOff, BadAreOfNone, OneVerdict, StoredInOrder, StoredGood, StoredReadOff, StoredBad}
 use Rattle.bike_readings.proofs.RowRules.{AreGoodKeys, keys_good, rows_good, lacks_none}
 use Rattle.bike_readings.proofs.GoodRows.{all_rows_good, none_lacking}
 use Rattle.bike_readings.proofs.ReadOffBack.{operator_back, listed_back}
 use Rattle.bike_readings.proofs.ReadSound.{are_of}
+use Rattle.bike_readings.proofs.StoredHistory.{as_stored_sound, as_stored_listing, as_stored_tables}
 
 -- ---- of tables
 
@@ -40,11 +42,17 @@ of_is_read_off t s m of = (ap operator_of of.tables ∙ operator_back s m of.sou
 
 pub of_are_good : OfAreGood
 of_are_good t s m of = subst AllGood (sym of.tables) good where
-  keys : AreGoodKeys s (tables_for s m)
-  keys = keys_good s (tables_for s m) (all_rows_good s m of.sound of.listing) (none_lacking s m of.sound of.listing)
+  sound : IsSound (as_stored s)
+  sound = as_stored_sound s of.sound
+
+  listing : IsListing (as_stored s) m
+  listing = as_stored_listing s of.sound m of.listing
+
+  keys : AreGoodKeys (as_stored s) (tables_for (as_stored s) m)
+  keys = keys_good (as_stored s) (tables_for (as_stored s) m) (all_rows_good (as_stored s) m sound listing) (none_lacking (as_stored s) m sound listing)
 
   good : AllGood (tables_for s m)
-  good = subst (λ (o : Operator). AreGoodKeys o (tables_for s m)) (sym (operator_back s m of.sound of.listing)) keys
+  good = subst₂ AreGoodKeys (sym (operator_back s m of.sound of.listing)) (as_stored_tables s of.sound m) keys
 
 pub bad_are_of_none : BadAreOfNone
 bad_are_of_none t bad verdict s m of = verdict.bad (of_are_good t s m of bad.0 bad.1)

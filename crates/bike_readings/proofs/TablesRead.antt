@@ -23,7 +23,7 @@ use Rattle.bike_readings.proofs.CatalogueRows.{plan_reading, segment_reading, ty
 use Rattle.bike_readings.proofs.LedgerRows.{count_reading, rider_reading, rental_reading, entry_reading}
 use Rattle.bike_readings.proofs.FleetRows.{bike_reading, truck_reading, order_reading}
 use Rattle.bike_readings.proofs.KeptRows.{kept_reading}
-use Rattle.bike_readings.specs.ReadOff.{with_segments, plan_in, station_in, rider_in, rental_in, entry_in, name_in, dock_in, count_in, segments_of, most_segments, operator_of, listed_of, first_of}
+use Rattle.bike_readings.specs.ReadOff.{with_segments, plan_in, station_in, rider_in, rental_in, entry_in, name_in, dock_in, count_in, segments_of, most_segments, operator_of, listed_of, first_of, kept_in}
 use Rattle.bike_readings.specs.ReadOff.{misplaced_bike, bike_in}
 use Rattle.bike_readings.specs.Demands.{IsGoodPlan, IsGoodSegment, IsGoodType, IsGoodRegion, IsGoodStation, IsGoodDock, IsGoodBike, IsGoodTruck, IsGoodRider, IsGoodRental, IsGoodOrder, IsGoodEntry}
 use Rattle.bike_readings.specs.Demands.{IsGoodKept, IsGoodCount, IsGoodName}
@@ -158,7 +158,7 @@ module _ (t : Tables) (up : AreInOrder t) (rows : AreGoodRows (operator_of t) t)
       let it = (kept_reading.sound r e is).1 in
       record { first = caller_text it.caller; second = it.name; is = it.key_is }
 
-  pub kept_table : AreRowsOf pairs stored_kept (λ e. refl) kept_read t.kept s.kept
+  pub kept_table : AreRowsOf pairs stored_kept (λ e. refl) kept_read t.kept (kept_in t.kept)
   kept_table = read_map pairs stored_kept (λ e. refl) kept_read t.kept (up Kept) (λ r has. stored_plain kept_reading (IsGoodKept s (below_of Kept r)) r (rows Kept r has)) kept_pair
 
   -- ---- names in further languages

@@ -11,8 +11,8 @@ use Rattle.bike_ledger.specs.Entries.{Entry}
 use Rattle.bike_operator.specs.declared.records.Bike.{Bike}
 use Rattle.bike_operator.specs.declared.records.Rental.{Rental}
 use Rattle.bike_operator.specs.declared.records.Order.{Order}
-use Rattle.bike_operator.specs.Operator.{Station, Truck, Rider, Key, Kept, name_key}
-use Rattle.bike_operator.specs.Sound.{IsKept}
+use Rattle.bike_operator.specs.Operator.{Station, Truck, Rider, Key, name_key}
+use Rattle.bike_book.specs.KeptRequests.{Kept, IsKept}
 use Rattle.bike_book.specs.Rows.{meta_row, system_row, plan_row, segment_row, type_row, region_row, station_row}
 use Rattle.bike_book.specs.Rows.{dock_row, bike_row, truck_row, rider_row, rental_row, order_row, entry_row, kept_row}
 use Rattle.bike_book.specs.Rows.{count_row, name_row, first_text, second_text}

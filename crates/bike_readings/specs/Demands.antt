@@ -41,12 +41,13 @@ use Rattle.bike_operator.specs.declared.records.Bike.{Bike}
 use Rattle.bike_operator.specs.declared.records.Rental.{Rental}
 use Rattle.bike_operator.specs.declared.records.Closing.{Closing}
 use Rattle.bike_operator.specs.declared.records.Order.{Order}
-use Rattle.bike_operator.specs.Operator.{Operator, Station, Truck, Rider, Kept, Key, text_cmp, item_numbered}
+use Rattle.bike_operator.specs.Operator.{Operator, Station, Truck, Rider, Key, text_cmp, item_numbered}
 use Rattle.bike_operator.specs.Counts.{is_open, is_retired, open_rentals, docks_available, docks_broken, available_of}
 use Rattle.bike_operator.specs.Names.{has_named, is_own_language, further_names}
 use Rattle.bike_operator.specs.Sound.{IsTypeAt, IsStationAt, HasDock, IsTruckAt, IsOrderAt, IsOpenOrClosed}
-use Rattle.bike_operator.specs.Sound.{most_refunded, fares_of, IsRiderNumber, IsEntryAt, IsKept}
+use Rattle.bike_operator.specs.Sound.{most_refunded, fares_of, IsRiderNumber, IsEntryAt}
 use Rattle.bike_laws.specs.SingleSteps.Numbers.{disabled_of}
+use Rattle.bike_book.specs.KeptRequests.{Kept, IsKept}
 use Rattle.bike_book.specs.declared.version.TheConstants.{NEWEST}
 use Rattle.bike_book.specs.Tables.{Tables}
 use Rattle.bike_readings.specs.ReadOff.{rental_at, order_at}

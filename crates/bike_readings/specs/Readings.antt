@@ -14,8 +14,9 @@ use Rattle.bike_ledger.specs.Entries.{Entry}
 use Rattle.bike_operator.specs.declared.records.Bike.{Bike}
 use Rattle.bike_operator.specs.declared.records.Rental.{Rental}
 use Rattle.bike_operator.specs.declared.records.Order.{Order}
-use Rattle.bike_operator.specs.Operator.{Station, Truck, Rider, Kept, Key, key_of}
+use Rattle.bike_operator.specs.Operator.{Station, Truck, Rider, Key, key_of}
 use Rattle.bike_schema.specs.Columns.{number_in, moment_in, flag_in, state_in, whole_in, ident_in, name_in, or_none}
+use Rattle.bike_book.specs.KeptRequests.{Kept}
 use Rattle.bike_readings.specs.ColumnReaders.{where_wide, language_in, currency_in, ascii_in, key_in, caller_in}
 use Rattle.bike_readings.specs.ColumnReaders.{form_in, propulsion_in, named_kind_in, end_in, word_in, command_in}
 use Rattle.bike_readings.specs.ColumnReaders.{reply_in, rate_in, latitude_in, longitude_in, greatest_count, count_in}

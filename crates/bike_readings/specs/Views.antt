@@ -13,7 +13,8 @@ use Rattle.bike_operator.specs.declared.records.Bike.{Bike}
 use Rattle.bike_operator.specs.declared.records.Rental.{Rental}
 use Rattle.bike_operator.specs.declared.records.Closing.{Closing}
 use Rattle.bike_operator.specs.declared.records.Order.{Order}
-use Rattle.bike_operator.specs.Operator.{Station, Truck, Rider, Kept, Key, key_of}
+use Rattle.bike_operator.specs.Operator.{Station, Truck, Rider, Key, key_of}
+use Rattle.bike_book.specs.KeptRequests.{Kept}
 use Rattle.bike_readings.specs.declared.catalogue.StoredMeta.{StoredMeta}
 use Rattle.bike_readings.specs.declared.catalogue.StoredSystem.{StoredSystem}
 use Rattle.bike_readings.specs.declared.catalogue.StoredPlan.{StoredPlan}

@@ -1,11 +1,10 @@
 -- An operator at a later moment.
-use Rattle.std.proofs.Common.{ℕ}
-use Rattle.std.specs.FinMap.{FinMap}
-use Rattle.bike_operator.specs.Operator.{Operator, Station, Kept, texts_cmp}
+use Rattle.std.proofs.Common.{ℕ, List}
+use Rattle.bike_operator.specs.Operator.{Operator, Station, AcceptedRequest}
 
--- the operator at a moment, with these kept requests
-abbrev pub at_moment : Operator → ℕ → FinMap texts_cmp Kept → Operator
-at_moment s now k = record s { now = now; kept = k }
+-- the operator at a moment, with this history
+abbrev pub at_moment : Operator → ℕ → List AcceptedRequest → Operator
+at_moment s now k = record s { now = now; history = k }
 
 abbrev pub reports : ℕ → Station → Station
 reports now x = record x { reported = now }

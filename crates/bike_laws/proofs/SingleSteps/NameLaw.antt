@@ -21,7 +21,7 @@ use Rattle.bike_operator.specs.declared.records.Bike.{Bike}
 use Rattle.bike_operator.specs.declared.records.Order.{Order}
 use Rattle.bike_operator.specs.declared.view.DockedBike.{DockedBike}
 use Rattle.bike_operator.specs.declared.view.RentalView.{RentalView}
-use Rattle.bike_operator.specs.Operator.{Operator, Station, Kept, text_cmp, texts_cmp, name_key, item_numbered}
+use Rattle.bike_operator.specs.Operator.{Operator, Station, AcceptedRequest, text_cmp, name_key, item_numbered}
 use Rattle.bike_operator.specs.Counts.{docked_at}
 use Rattle.bike_operator.specs.Names.{is_own_language, has_named, has_language, further_names}
 use Rattle.bike_operator.specs.View.{view_of, end_at, docked_view, rental_of, rental_view}
@@ -126,19 +126,19 @@ module _ (s : Operator) (now : ℕ) where
 -- ---- all commands
 
 -- the further names after a command that leaves them alone
-kept_names : (s n : Operator) (now : ℕ) (k : FinMap texts_cmp Kept) → KeepsNames s n → AreNamesSound s → AreNamesSound (at_moment n now k)
+kept_names : (s n : Operator) (now : ℕ) (k : List AcceptedRequest) → KeepsNames s n → AreNamesSound s → AreNamesSound (at_moment n now k)
 kept_names s n now k keeps h = names_kept s (at_moment n now k) keeps.names
     (record { system = keeps.named.system; plans = keeps.named.plans; types = keeps.named.types; regions = keeps.named.regions; stations = keeps.named.stations }) h
 
 -- a command that leaves alone what has names, too
-unchanged : (s : Operator) (now : ℕ) (c : Command) (k : FinMap texts_cmp Kept) → (effect s now c).more_names ≡ s.more_names → named_parts (effect s now c) ≡ named_parts s → AreNamesSound s
+unchanged : (s : Operator) (now : ℕ) (c : Command) (k : List AcceptedRequest) → (effect s now c).more_names ≡ s.more_names → named_parts (effect s now c) ≡ named_parts s → AreNamesSound s
     → AreNamesSound (at_moment (effect s now c) now k)
 unchanged s now c k names parts h = kept_names s (effect s now c) now k (others s (effect s now c) names parts) h
 
 -- ---- names that change
 
 -- the name in the system's language: the further names stay
-module _ (s : Operator) (now : ℕ) (k : FinMap texts_cmp Kept) (id name : List ℕ) (h : AreNamesSound s) where
+module _ (s : Operator) (now : ℕ) (k : List AcceptedRequest) (id name : List ℕ) (h : AreNamesSound s) where
   own_named_names : (kind : NameKind) → AreNamesSound (at_moment (own_name_set kind id name s) now k)
   own_named_names named.System =
       let n : Operator = own_name_set named.System id name s in
@@ -165,7 +165,7 @@ further_there true there has further = absurd cc
 further_there false true has further = refl
 further_there false false has further = absurd cc
 
-module _ (s : Operator) (now : ℕ) (k : FinMap texts_cmp Kept) (kind : NameKind) (id language : List ℕ) (has : not (has_language s kind id language) ≡ false) (h : AreNamesSound s) where
+module _ (s : Operator) (now : ℕ) (k : List AcceptedRequest) (kind : NameKind) (id language : List ℕ) (has : not (has_language s kind id language) ≡ false) (h : AreNamesSound s) where
   old_name : is_own_language s.system language ≡ false → (old : List ℕ) × (map.get s.more_names (name_key kind id language) ≡ Some old)
   old_name further =
       there_of (map.get s.more_names (name_key kind id language)) (further_there (is_own_language s.system language) (map.contains_key s.more_names (name_key kind id language)) has further)

@@ -1,14 +1,13 @@
 -- What stays true of a sound operator when a command is accepted.
-use Rattle.std.specs.Prelude.{◌≡◌, ◌≤◌, ℕ, None}
-use Rattle.std.specs.FinMap.{FinMap}
+use Rattle.std.specs.Prelude.{◌≡◌, ◌≤◌, ℕ, List, None}
 use Rattle.bike_operator.specs.Command.{Command}
 use Rattle.bike_operator.specs.Commands.{IsCommand}
-use Rattle.bike_operator.specs.Operator.{Operator, Kept, texts_cmp}
+use Rattle.bike_operator.specs.Operator.{Operator, AcceptedRequest}
 use Rattle.bike_operator.specs.Steps.{refusal_of, effect}
 use Rattle.bike_operator.specs.Sound.{IsSound}
 
--- The fact holds after each command that isn't refused, at a moment not before now, whatever is kept of requests.
+-- The fact holds after each command that isn't refused, at a moment not before now, whatever the history is.
 abbrev pub AcceptedKeeps : (Operator → Type 0) → Type 0
 AcceptedKeeps Fact =
-    (s : Operator) (now : ℕ) (c : Command) (kept : FinMap texts_cmp Kept) → IsSound s → IsCommand c
-    → refusal_of s c ≡ None → s.now ≤ now → Fact (record (effect s now c) { now = now; kept = kept })
+    (s : Operator) (now : ℕ) (c : Command) (history : List AcceptedRequest) → IsSound s → IsCommand c
+    → refusal_of s c ≡ None → s.now ≤ now → Fact (record (effect s now c) { now = now; history = history })
