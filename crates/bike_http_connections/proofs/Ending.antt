@@ -1,16 +1,16 @@
 -- When connections end: the soonest of their deadlines, and those whose time is over.
-use Rattle.std.proofs.Common.{◌≡◌, ◌≢◌, ℕ, zero, suc, ◌+◌, ◌-◌, ◌<◌, ◌≤◌, leb, not, cond, All, List, [], ◌∷◌, ◌++◌, map, length, min, Option, Some, None, Bool, true, false, if◌then◌else◌, slice_set, slice_index_or, Result, Ok, Err, IfOk}
+use Rattle.std.proofs.Common.{◌≡◌, ℕ, zero, suc, ◌+◌, ◌-◌, ◌<◌, ◌≤◌, leb, not, cond, All, List, [], ◌∷◌, ◌++◌, map, length, min, Option, Some, None, Bool, true, false, if◌then◌else◌, slice_set, slice_index_or, Result, Ok, Err, IfOk}
 use Rattle.std.proofs.Common.{OnErr, is_err, IsPermutation, inl, inr, refl, sym, subst, ap, ◌∙◌, arith}
 use Rattle.std.proofs.Math.Nat.{min-le_left, min-le_right, min-eq_left, min-eq_right, le_refl}
 use Rattle.std.proofs.lemmas.Bool.{cases_eq, cases_lt, lt-leb}
-use Rattle.std.proofs.lemmas.List.{map-append, length-map, get_or_past}
+use Rattle.std.proofs.lemmas.List.{map-append, get_or_past}
 use Rattle.std.proofs.lemmas.List.Sorted.{IsPermutation-map, sum_by_popped, sum_by_pushed}
 use Rattle.std.specs.Duration.{as_nanos}
-use Rattle.slab.specs.Slab.{Slab, get, slab_len, Updates}
+use Rattle.slab.specs.Slab.{Slab, get, Updates}
 use Rattle.bike_http_connections.specs.Turns.{sooner_of, time_until, HasCome}
 use Rattle.bike_http_connections.specs.Table.{Table}
-use Rattle.bike_http_connection.specs.Connected.{Connected}
-use Rattle.bike_http_connections.specs.Kept.{Kept, blocks_of, blocks_in}
+use Rattle.bike_http_connection.specs.Connected.{Connected, Opened}
+use Rattle.bike_http_connections.specs.Kept.{Kept, kept_as, opened_of, blocks_of, blocks_in, GivesOut, TakesIn}
 use Rattle.bike_http_connections.specs.Ahead.{Loses, open_in}
 use Rattle.bike_http_connections.specs.Ending.{clients_in, IsNoted, NoneSooner, IsOfOne, unless_late, EndsLate, EndsLateAt, in_time, ComesFirst, EndsFirst}
 use Rattle.bike_http_connections.proofs.Losing.{loses_none, loses_then, loses_front, taken_from, taken_out, put_in, put_back, nothing_found}
@@ -36,6 +36,25 @@ pub client_put : {F : Type 0} (told : Result ℕ F) (old new : Slab Kept) (x : K
 client_put {F} told old new x seen is free updates full =
     subst (λ (xs : List Connected). Loses (x.who ∷ xs) (clients_in new.slots)) is
     (loses_clients (x ∷ open_in old.slots) (open_in new.slots) (put_back told old new x (open_in old.slots) refl free updates full))
+
+-- ---- connections that go out and come in, with all that is known of them
+
+pub kept_taken : (old new : Slab Kept) (key : ℕ) (x : Kept) (one : Opened) (seen : List Kept) → open_in old.slots ≡ seen → Some x ≡ get old key
+    → new.slots ≡ slice_set old.slots key None → one ≡ opened_of x → GivesOut one seen (open_in new.slots)
+kept_taken old new key x one seen is found set same = (
+  x.blocks,
+  subst (λ (xs : List Kept). IsPermutation xs (kept_as one x.blocks ∷ open_in new.slots)) is
+      (subst (λ (y : Opened). IsPermutation (open_in old.slots) (kept_as y x.blocks ∷ open_in new.slots)) (sym same)
+      (subst (λ (slots : List (Option Kept)). IsPermutation (open_in old.slots) (x ∷ open_in slots)) (sym set) (taken_out old.slots key x (sym found)))),
+)
+
+pub kept_put : {F : Type 0} (told : Result ℕ F) (old new : Slab Kept) (x : Kept) (one : Opened) (blocks : ℕ) (seen : List Kept)
+    → open_in old.slots ≡ seen → x ≡ kept_as one blocks → IfOk told (λ key. get old key ≡ None)
+    → IfOk told (λ key. Updates old new key (Some x)) → OnErr told (new ≡ record old { capacity = new.capacity }) → TakesIn one seen (open_in new.slots)
+kept_put {F} told old new x one blocks seen is same free updates full = (
+  blocks,
+  subst (λ (y : Kept). Loses (y ∷ seen) (open_in new.slots)) same (put_back told old new x seen is free updates full),
+)
 
 -- ---- the soonest
 

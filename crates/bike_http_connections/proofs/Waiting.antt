@@ -1,5 +1,5 @@
 -- For how long is waited, and whether there is work.
-use Rattle.std.proofs.Common.{◌≡◌, ℕ, ◌↔◌, ◌⊎◌, List, length, Option, Some, Bool, true, false, IsTrue, if◌then◌else◌, inl, inr, refl}
+use Rattle.std.proofs.Common.{◌≡◌, ℕ, ◌↔◌, length, Option, Some, Bool, true, false, IsTrue, if◌then◌else◌, inl, inr, refl}
 use Rattle.bike_http_connections.specs.Kept.{blocks_of}
 use Rattle.bike_http_connections.specs.Turns.{IsDue}
 use Rattle.bike_http_connections.specs.Table.{Table, FitsFeed, HasWork}

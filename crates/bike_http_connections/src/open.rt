@@ -1,13 +1,13 @@
 //! The connections that are open.
 
-ghost use Rattle.std.specs.Prelude.{◌≡◌, ◌<◌, ◌↔◌, ◌+◌, ◌*◌, [], ◌∷◌, length, min, IsTrue, false, IfOk, IfSome, IfNone};
+ghost use Rattle.std.specs.Prelude.{◌≡◌, ◌<◌, ◌≤◌, ◌↔◌, ◌+◌, ◌*◌, [], ◌∷◌, length, min, Some, IsTrue, false, IfOk, IfSome, IfNone};
 ghost use Rattle.std.specs.Duration.{as_nanos, max_nanos};
 ghost use Rattle.bike_http_connections.specs.Ahead.{Loses};
 ghost use Rattle.bike_http_connections.specs.Handed.{Gives};
 ghost use Rattle.bike_http_connections.specs.Ending.{clients_in, NoneSooner, IsOfOne, EndsLate, EndsLateAt};
 ghost use Rattle.bike_http_connections.specs.Ending.{in_time, ComesFirst, EndsFirst};
-ghost use Rattle.bike_http_connections.specs.Kept.{blocks_in};
-ghost use Rattle.bike_http_connections.specs.Turns.{nanos, time_until};
+ghost use Rattle.bike_http_connections.specs.Kept.{blocks_in, GivesOut, TakesIn, TakesInBy};
+ghost use Rattle.bike_http_connections.specs.Turns.{nanos, sooner_of, time_until};
 ghost use Rattle.bike_http_connections.specs.Table.{clients_of, HasWork};
 
 use crate::entry::Entry;
@@ -175,6 +175,7 @@ impl<S: Socket> Open<S> {
         ensures same { connection.new.who ≡ connection.old.who }
         ensures end { IsTrue result → as_nanos connection.new.end
             ≡ min (as_nanos connection.old.end) (min (as_nanos now + LINGER * 1_000_000) max_nanos) }
+        ensures sooner { as_nanos connection.new.end ≤ as_nanos connection.old.end }
         ensures kept { self.new ≡ record self.old { going = self.new.going } }
     {
         if !connection.is_early() {
@@ -199,6 +200,7 @@ impl<S: Socket> Open<S> {
         ensures unchanged { (step ≡ Step.Sent → ⊥) → connection.new ≡ connection.old }
         ensures lingers { step ≡ Step.Sent → IsTrue result → as_nanos connection.new.end
             ≡ min (as_nanos connection.old.end) (min (as_nanos now + LINGER * 1_000_000) max_nanos) }
+        ensures sooner { as_nanos connection.new.end ≤ as_nanos connection.old.end }
         // Those that are open, which stay as they are, and its turn.
         ensures kept { self.new ≡ record self.old {
           ready = self.new.ready;
@@ -227,7 +229,8 @@ impl<S: Socket> Open<S> {
         connection: Connection<S>,
         now: Duration,
     )
-        ensures { IsTrue S.is_known → Loses (connection.who ∷ clients_of self.old) (clients_of self.new) }
+        ensures kept { IsTrue S.is_known → Loses (connection.who ∷ clients_of self.old) (clients_of self.new) }
+        ensures time { TakesInBy connection self.old.opened self.new.opened }
     {
         let (mut connection, step) = connection.step();
         let key = self.connections.vacant_key();
@@ -240,6 +243,7 @@ impl<S: Socket> Open<S> {
     fn remove(&mut self, key: usize) -> Option<Connection<S>>
         ensures taken { IfSome result (λ connection.
             Loses (clients_of self.old) (connection.who ∷ clients_of self.new)) }
+        ensures whole { IfSome result (λ connection. GivesOut connection self.old.opened self.new.opened) }
         ensures none { IfNone result (self.new ≡ self.old) }
     {
         let entry = self.connections.try_remove(key)?;
@@ -249,7 +253,9 @@ impl<S: Socket> Open<S> {
 
     /// Puts a connection in as it is, and notes when it is given up.
     fn put_back(&mut self, connection: Connection<S>)
-        ensures { Loses (connection.who ∷ clients_of self.old) (clients_of self.new) }
+        ensures kept { Loses (connection.who ∷ clients_of self.old) (clients_of self.new) }
+        ensures whole { TakesIn connection self.old.opened self.new.opened }
+        ensures noted { self.new.soonest ≡ sooner_of self.old.soonest (Some (as_nanos connection.end)) }
     {
         self.deadlines.note(connection.end());
         let blocks = self.room.take(connection.blocks());
@@ -342,6 +348,7 @@ impl<S: Socket> Open<S> {
     pub(crate) fn give_up(&mut self, now: Duration)
         ensures lost { Loses (clients_of self.old) (clients_of self.new) }
         ensures late { self.new.opened ≡ in_time (as_nanos now) self.old.opened }
+        ensures others { self.new ≡ record self.old { opened = self.new.opened; soonest = self.new.soonest } }
     {
         if !self.deadlines.have_come(now) {
             return;

@@ -22,7 +22,7 @@ impl Room {
         Room { held: 0 }
     }
 
-    /// One is there that holds so many; how many of them are counted, which is all but for what no number can tell.
+    /// One is there that holds so many; how many of them are counted: all, unless that is more than can be counted.
     pub(crate) fn take(&mut self, blocks: usize) -> usize
         ensures held { self.new.held ≡ min (self.old.held + blocks) (2 ^ 64 - 1) }
         ensures counted { self.new.held ≡ self.old.held + result }

@@ -10,7 +10,7 @@ use Rattle.bike_http_connections.proofs.open.Open.hand_out.Goals.{in-Ok-new, in-
 pub returns-then-may_be_feed-is_feed : goal.returns-then-may_be_feed-is_feed
 returns-then-may_be_feed-is_feed g c =
     back_again (clients_of c.args.self.now) (clients_of c.remove.new.self) _ (clients_of c.put_back.new.self) c.in_ok-connection.connection.who _ refl refl
-    c.in_ok-connection.ensures.taken c.put_back.ensures
+    c.in_ok-connection.ensures.taken c.put_back.ensures.kept
 
 pub returns-after-new : goal.returns-after-new
 returns-after-new g c = elim c.match-new.branch [
@@ -27,4 +27,4 @@ returns-after-new g c = elim c.match-new.branch [
 pub returns-in-Err : goal.returns-in-Err
 returns-in-Err g c =
     back_again (clients_of c.args.self.now) (clients_of c.remove.new.self) _ (clients_of c.put_back-in-Err.new.self) c.in_ok-connection.connection.who _ refl (ap (λ (one : Opened). one.who) c.in-Err.ensures.kept)
-    c.in_ok-connection.ensures.taken c.put_back-in-Err.ensures
+    c.in_ok-connection.ensures.taken c.put_back-in-Err.ensures.kept

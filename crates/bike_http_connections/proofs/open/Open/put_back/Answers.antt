@@ -7,7 +7,7 @@ use Rattle.bike_http_connections.specs.Kept.{Kept}
 use Rattle.bike_http_connections.specs.Turns.{nanos, sooner_of}
 use Rattle.bike_http_connections.specs.Ending.{clients_in}
 use Rattle.bike_http_connections.specs.Table.{Table, clients_of}
-use Rattle.bike_http_connections.proofs.Ending.{client_put, sooner_put, blocks_put, blocks_back}
+use Rattle.bike_http_connections.proofs.Ending.{client_put, kept_put, sooner_put, blocks_put, blocks_back}
 use Rattle.bike_http_connections.proofs.open.Open.put_back.Goals as goal
 
 pub invariant_of-self : goal.invariant_of-self
@@ -39,14 +39,36 @@ invariant_of-self-else-is_err g c =
           (sym c.is_err.ensures.value ∙ c.if-is_err.false) c.insert.ensures.was_vacant c.insert.ensures.updates;
     }
 
-pub returns-then-is_err : goal.returns-then-is_err
-returns-then-is_err g c =
+pub returns-then-is_err-clause-kept : goal.returns-then-is_err-clause-kept
+returns-then-is_err-clause-kept g c =
     subst (λ (who : Connected). Loses (who ∷ clients_of c.args.self.now) (clients_in c.insert.new.self.slots)) (ap (λ (k : Kept). k.who) c.new-entry.ensures)
     (client_put c.insert.result c.self.inside.connections c.insert.new.self c.new-entry.result (clients_of c.args.self.now) (ap (λ (t : Table). clients_of t) c.self.view_is)
     c.insert.ensures.was_vacant c.insert.ensures.updates c.insert.ensures.err)
 
-pub returns-else-is_err : goal.returns-else-is_err
-returns-else-is_err g c =
+pub returns-else-is_err-clause-kept : goal.returns-else-is_err-clause-kept
+returns-else-is_err-clause-kept g c =
     subst (λ (who : Connected). Loses (who ∷ clients_of c.args.self.now) (clients_in c.insert.new.self.slots)) (ap (λ (k : Kept). k.who) c.new-entry.ensures)
     (client_put c.insert.result c.self.inside.connections c.insert.new.self c.new-entry.result (clients_of c.args.self.now) (ap (λ (t : Table). clients_of t) c.self.view_is)
     c.insert.ensures.was_vacant c.insert.ensures.updates c.insert.ensures.err)
+
+pub returns-then-is_err-clause-whole : goal.returns-then-is_err-clause-whole
+returns-then-is_err-clause-whole g c =
+    kept_put c.insert.result c.self.inside.connections c.insert.new.self c.new-entry.result c.args.connection c.take-blocks.result c.args.self.now.opened
+    (ap (λ (t : Table). t.opened) c.self.view_is) c.new-entry.ensures c.insert.ensures.was_vacant c.insert.ensures.updates c.insert.ensures.err
+
+pub returns-else-is_err-clause-whole : goal.returns-else-is_err-clause-whole
+returns-else-is_err-clause-whole g c =
+    kept_put c.insert.result c.self.inside.connections c.insert.new.self c.new-entry.result c.args.connection c.take-blocks.result c.args.self.now.opened
+    (ap (λ (t : Table). t.opened) c.self.view_is) c.new-entry.ensures c.insert.ensures.was_vacant c.insert.ensures.updates c.insert.ensures.err
+
+pub returns-then-is_err-clause-noted : goal.returns-then-is_err-clause-noted
+returns-then-is_err-clause-noted g c =
+    c.note.ensures
+    ∙ ap (λ (d : Duration). sooner_of (nanos c.self.inside.deadlines.soonest) (Some (as_nanos d))) c.end.ensures
+    ∙ ap (λ (t : Table). sooner_of t.soonest (Some (as_nanos c.args.connection.end))) c.self.view_is
+
+pub returns-else-is_err-clause-noted : goal.returns-else-is_err-clause-noted
+returns-else-is_err-clause-noted g c =
+    c.note.ensures
+    ∙ ap (λ (d : Duration). sooner_of (nanos c.self.inside.deadlines.soonest) (Some (as_nanos d))) c.end.ensures
+    ∙ ap (λ (t : Table). sooner_of t.soonest (Some (as_nanos c.args.connection.end))) c.self.view_is
