@@ -1,6 +1,7 @@
 //! The connections that are open.
 
-ghost use Rattle.std.specs.Prelude.{◌≡◌, ◌<◌, ◌≤◌, ◌↔◌, ◌+◌, ◌*◌, [], ◌∷◌, length, min, Some, IsTrue, false, IfOk, IfSome, IfNone};
+ghost use Rattle.std.specs.Prelude.{◌≡◌, ◌<◌, ◌≤◌, ◌↔◌, ◌+◌, ◌*◌, [], ◌∷◌, length, min, Some};
+ghost use Rattle.std.specs.Prelude.{IsTrue, false, IfOk, IfSome, IfNone};
 ghost use Rattle.std.specs.Duration.{as_nanos, max_nanos};
 ghost use Rattle.bike_http_connections.specs.Ahead.{Loses};
 ghost use Rattle.bike_http_connections.specs.Handed.{Gives};
@@ -8,7 +9,7 @@ ghost use Rattle.bike_http_connections.specs.Ending.{clients_in, NoneSooner, IsO
 ghost use Rattle.bike_http_connections.specs.Ending.{in_time, ComesFirst, EndsFirst};
 ghost use Rattle.bike_http_connections.specs.Kept.{blocks_in, GivesOut, TakesIn, TakesInBy};
 ghost use Rattle.bike_http_connections.specs.Turns.{nanos, sooner_of, time_until};
-ghost use Rattle.bike_http_connections.specs.Table.{clients_of, HasWork};
+ghost use Rattle.bike_http_connections.specs.Table.{clients_of, KeepsOpened, HasWork};
 
 use crate::entry::Entry;
 use crate::limits::MOST_OPEN;
@@ -202,11 +203,7 @@ impl<S: Socket> Open<S> {
             ≡ min (as_nanos connection.old.end) (min (as_nanos now + LINGER * 1_000_000) max_nanos) }
         ensures sooner { as_nanos connection.new.end ≤ as_nanos connection.old.end }
         // Those that are open, which stay as they are, and its turn.
-        ensures kept { self.new ≡ record self.old {
-          ready = self.new.ready;
-          feeds = self.new.feeds;
-          going = self.new.going;
-        } }
+        ensures kept { KeepsOpened self.old self.new }
         ensures ended { step ≡ Step.Over → result ≡ false }
         ensures settles { step ≡ Step.Settled → length self.old.ready < MOST_OPEN
             → length self.old.feeds < MOST_OPEN → IsTrue result }

@@ -92,8 +92,8 @@ impl Queues {
         })
     }
 
-    /// One more has its request, which may ask for a feed; false where memory is refused, for which as many have to wait
-    /// as may be open.
+    /// One more has its request, which may ask for a feed; false where memory is refused. None is asked for before as
+    /// many wait as may be open.
     pub(crate) fn add(&mut self, key: usize, may_be_feed: bool) -> bool
         ensures ready { self.new.ready.items
             ≡ (if result && not may_be_feed then self.old.ready.items ++ key ∷ [] else self.old.ready.items) }
@@ -126,7 +126,8 @@ impl Queues {
         }
     }
 
-    /// One more goes on in the next turn; false where memory is refused, for which as many have to wait as may be open.
+    /// One more goes on in the next turn; false where memory is refused. None is asked for before as many wait as may be
+    /// open.
     pub(crate) fn put_off(&mut self, key: usize) -> bool
         ensures going { self.new.going.items
             ≡ (if result then self.old.going.items ++ key ∷ [] else self.old.going.items) }
