@@ -1,5 +1,6 @@
 pub mod Losing
 pub mod Ending
+pub mod Waiting
 pub mod Giving
 pub mod Opening
 pub mod Requests

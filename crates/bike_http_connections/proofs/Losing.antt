@@ -54,7 +54,7 @@ module _ {X : Type 0} where
   loses_one xs ys c = loses_moved (xs ++ c ∷ ys) (c ∷ xs ++ ys) (IsPermutation-middle xs c ys)
 
   -- a slot that is emptied: what was in it stands before the rest
-  taken_out : (slots : List (Option X)) (key : ℕ) (x : X) → slice_index_or slots key None ≡ Some x
+  pub taken_out : (slots : List (Option X)) (key : ℕ) (x : X) → slice_index_or slots key None ≡ Some x
       → IsPermutation (open_in slots) (x ∷ open_in (slice_set slots key None))
   taken_out [] key x is = absurd (cc)
   taken_out (None ∷ slots) zero x is = absurd (cc)
@@ -68,7 +68,7 @@ module _ {X : Type 0} where
       (IsPermutation-cons y (open_in slots) (x ∷ rest) (taken_out slots key x is)) (past (y ∷ []) (x ∷ []) rest)
 
   -- what is there depends on what is found at each key alone, and not on how many empty slots there are
-  nothing_found : (slots : List (Option X)) → ((k : ℕ) → slice_index_or slots k None ≡ None) → open_in slots ≡ []
+  pub nothing_found : (slots : List (Option X)) → ((k : ℕ) → slice_index_or slots k None ≡ None) → open_in slots ≡ []
   nothing_found [] none = refl
   nothing_found (None ∷ slots) none = nothing_found slots (λ k. none (suc k))
   nothing_found (Some x ∷ slots) none = absurd (let at : Some x ≡ None = none zero in cc)
@@ -99,7 +99,7 @@ module _ {X : Type 0} where
         | inr differs ↦ sym (get_or-set_other new.slots key k None None differs ∙ updates.others k differs)
       ]
 
-  put_in : (old new : Slab X) (key : ℕ) (x : X) → get old key ≡ None → Updates old new key (Some x)
+  pub put_in : (old new : Slab X) (key : ℕ) (x : X) → get old key ≡ None → Updates old new key (Some x)
       → IsPermutation (x ∷ open_in old.slots) (open_in new.slots)
   put_in old new key x vacant updates =
       subst (λ (l : List X). IsPermutation (x ∷ l) (open_in new.slots))

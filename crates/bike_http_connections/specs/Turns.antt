@@ -1,5 +1,5 @@
 -- For how long is waited, and what is to be done without waiting.
-use Rattle.std.specs.Prelude.{ℕ, min, ◌<◌, ◌≤◌, ◌⊎◌, Bool, IsTrue, Option, Some, None, option_map}
+use Rattle.std.specs.Prelude.{ℕ, min, ◌<◌, ◌≤◌, ◌-◌, ◌⊎◌, Option, Some, None, option_map}
 use Rattle.std.specs.Duration.{as_nanos}
 use Rattle.std.specs.declared.time.Duration.{Duration}
 
@@ -18,6 +18,10 @@ abbrev pub HasCome : Option ℕ → ℕ → Type 0
 HasCome None now = ⊥
 HasCome (Some moment) now = moment ≤ now
 
+-- how long it is until a moment, which may be never
+abbrev pub time_until : Option ℕ → ℕ → Option ℕ
+time_until end now = option_map (λ moment. moment - now) end
+
 -- one goes on at once: its request is there, it was put off, or it may ask for a feed, and there is room for one
-abbrev pub IsDue : ℕ → ℕ → ℕ → Bool → Type 0
-IsDue ready going feeds has_feed_room = (0 < ready) ⊎ ((0 < going) ⊎ ((0 < feeds) × IsTrue has_feed_room))
+abbrev pub IsDue : ℕ → ℕ → ℕ → Type 0 → Type 0
+IsDue ready going feeds FitsFeed = (0 < ready) ⊎ ((0 < going) ⊎ ((0 < feeds) × FitsFeed))

@@ -1,10 +1,13 @@
 //! Accepting, waiting, and whose turn it is.
 
-ghost use Rattle.std.specs.Prelude.{◌≡◌, ◌∷◌, map, IsTrue, IfOk, Some, if◌then◌else◌};
+ghost use Rattle.std.specs.Prelude.{◌≡◌, ◌∷◌, ◌-◌, map, IsTrue, IfOk, Some, None, if◌then◌else◌};
+ghost use Rattle.std.specs.Duration.{as_nanos};
 ghost use Rattle.bike_http_connection.specs.Connected.{begun_as, peer_as, answered};
 ghost use Rattle.bike_http_connections.specs.Ahead.{Loses, fresh, ahead_of};
 ghost use Rattle.bike_http_connections.specs.Handed.{Gives, Hands, HandsOver, AreWhole};
-ghost use Rattle.bike_http_connections.specs.Turns.{nanos, sooner_of};
+ghost use Rattle.bike_http_connections.specs.Turns.{nanos, sooner_of, time_until};
+ghost use Rattle.bike_http_connections.specs.Ending.{EndsFirst};
+ghost use Rattle.bike_http_connections.specs.Table.{HasWork};
 
 use crate::limits::TURN;
 use crate::network::{AcceptOutcome, Network};
@@ -12,7 +15,7 @@ use crate::open::Open;
 use crate::times::{Pause, sooner};
 use crate::turns::Turn;
 use bike_fixed::Moment;
-use bike_http_connection::{Connection, Exchange, PIECE, Peer, ResponseBuffer};
+use bike_http_connection::{Connection, Exchange, PIECE, Peer, ResponseBuffer, Socket};
 use std::alloc::Global;
 use std::io;
 use std::io::ErrorKind;
@@ -37,10 +40,11 @@ impl<N: Network> Model for Connections<N> {
     ghost use Rattle.std.specs.Prelude.{List, ◌++◌, map};
     ghost use Rattle.bike_http_connection.specs.Connected.{Connected};
     ghost use Rattle.bike_http_connections.specs.Ahead.{fresh};
+    ghost use Rattle.bike_http_connections.specs.Table.{clients_of};
 
     ghost Value = { List Connected };
 
-    ghost view = { λ c. c.connections ++ map fresh (N.ahead c.network) };
+    ghost view = { λ c. clients_of c.connections ++ map fresh (N.ahead c.network) };
 }
 
 /// For how long is waited: not at all where something is to be done, and else until the sooner of two moments.
@@ -58,6 +62,24 @@ fn time_to_wait(
         Some(end) => sooner(patience, end),
         None => patience,
     }
+}
+
+/// For how long is waited at most, where one more may have a place: until one of those that are open is given up.
+fn patience<S: Socket>(
+    connections: &Open<S>,
+    has_place: bool,
+    pause: Pause,
+    now: Duration,
+) -> Option<Duration>
+    ensures at_once { HasWork connections.now → nanos result ≡ Some 0 }
+    ensures later { (HasWork connections.now → ⊥)
+        → nanos result ≡ sooner_of (time_until connections.now.soonest (as_nanos now))
+        (if has_place then Some (as_nanos pause.end - as_nanos now) else None) }
+    ensures in_time { EndsFirst (nanos result) (as_nanos now) connections.now.opened }
+{
+    let accepts_in = pause.accepts_in(has_place, now);
+    let patience = connections.patience(now);
+    time_to_wait(connections.has_work(), patience, accepts_in)
 }
 
 impl<N: Network> Connections<N> {
@@ -187,22 +209,12 @@ impl<N: Network> Connections<N> {
         self.connections.go_on(self.network.registry(), self.now);
     }
 
-    /// For how long is waited at most.
-    fn patience(&self) -> Option<Duration> {
-        let accepts_in = if self.has_place() {
-            Some(self.pause.left(self.now))
-        } else {
-            None
-        };
-        let patience = self.connections.patience(self.now);
-        time_to_wait(self.connections.has_work(), patience, accepts_in)
-    }
-
     /// Waits until a socket is ready or somebody's time is over.
     fn wait(&mut self) -> io::Result<()>
         ensures { self.new ≡ self.old }
     {
-        let patience = self.patience();
+        let has_place = self.has_place();
+        let patience = patience(&self.connections, has_place, self.pause, self.now);
         self.network.wait(patience)
     }
 

@@ -7,6 +7,7 @@
 #![tactic(auto)]
 
 mod connections;
+mod entry;
 mod limits;
 mod network;
 mod open;

@@ -22,11 +22,14 @@ impl Room {
         Room { held: 0 }
     }
 
-    /// One is there that holds so many.
-    pub(crate) fn take(&mut self, blocks: usize)
-        ensures { self.new.held ≡ min (self.old.held + blocks) (2 ^ 64 - 1) }
+    /// One is there that holds so many; how many of them are counted: all, unless that is more than can be counted.
+    pub(crate) fn take(&mut self, blocks: usize) -> usize
+        ensures held { self.new.held ≡ min (self.old.held + blocks) (2 ^ 64 - 1) }
+        ensures counted { self.new.held ≡ self.old.held + result }
     {
+        let before = self.held;
         self.held = self.held.saturating_add(blocks);
+        self.held - before
     }
 
     /// One is gone that held so many.

@@ -1,8 +1,8 @@
 //! When connections are given up, and from when on some are accepted.
 
-ghost use Rattle.std.specs.Prelude.{◌≡◌, ◌≤◌, ◌+◌, ◌-◌, ◌*◌, ◌↔◌, min, IsTrue, None, Some, option_map};
+ghost use Rattle.std.specs.Prelude.{◌≡◌, ◌≤◌, ◌+◌, ◌-◌, ◌*◌, ◌↔◌, min, IsTrue, None, Some, if◌then◌else◌};
 ghost use Rattle.std.specs.Duration.{as_nanos, max_nanos};
-ghost use Rattle.bike_http_connections.specs.Turns.{nanos, sooner_of, HasCome};
+ghost use Rattle.bike_http_connections.specs.Turns.{nanos, sooner_of, time_until, HasCome};
 
 use crate::limits::ACCEPTS_AGAIN;
 use std::time::Duration;
@@ -50,7 +50,7 @@ impl Deadlines {
 
     /// How long it is until the soonest, which may be for ever.
     pub(crate) fn patience(&self, now: Duration) -> Option<Duration>
-        ensures { nanos result ≡ option_map (λ moment. moment - as_nanos now) (nanos self.now.soonest) }
+        ensures { nanos result ≡ time_until (nanos self.now.soonest) (as_nanos now) }
     {
         let soonest = self.soonest?;
         Some(soonest.saturating_sub(now))
@@ -92,5 +92,17 @@ impl Pause {
         ensures { as_nanos result ≡ as_nanos self.now.end - as_nanos now }
     {
         self.end.saturating_sub(now)
+    }
+
+    /// How long it is until one may be accepted: for ever where there is no place for one.
+    pub(crate) fn accepts_in(&self, has_place: bool, now: Duration) -> Option<Duration>
+        ensures { nanos result
+            ≡ (if has_place then Some (as_nanos self.now.end - as_nanos now) else None) }
+    {
+        if has_place {
+            Some(self.left(now))
+        } else {
+            None
+        }
     }
 }

@@ -1,11 +1,12 @@
 //! Whose turn it is.
 
-ghost use Rattle.std.specs.Prelude.{◌≡◌, ◌<◌, ◌-◌, ◌↔◌, ◌++◌, ◌∷◌, [], ◌&&◌, not, true, false, if◌then◌else◌};
-ghost use Rattle.std.specs.Prelude.{IsTrue, IfOk, IfNone, option_to_list};
-ghost use Rattle.std.specs.VecDeque.{deque_len};
+ghost use Rattle.std.specs.Prelude.{◌≡◌, ◌<◌, ◌≤◌, ◌-◌, ◌↔◌, ◌++◌, ◌∷◌, [], ◌&&◌, not, true, false, if◌then◌else◌};
+ghost use Rattle.std.specs.Prelude.{IsTrue, IfOk, IfNone, length, option_to_list};
+ghost use Rattle.std.specs.VecDeque.{deque_len, deque_capacity};
 ghost use Rattle.bike_http_connections.specs.Turns.{IsDue};
+ghost use Rattle.bike_http_connections.specs.declared.limits.TheConstants.{MOST_OPEN};
 
-use crate::limits::TURN;
+use crate::limits::{MOST_OPEN, TURN};
 use std::alloc::{AllocError, Global};
 use std::collections::VecDeque;
 
@@ -70,29 +71,37 @@ pub(crate) struct Queues {
     feeds: VecDeque<usize>,
     /// Those that go on in the next turn.
     going: VecDeque<usize>,
+
+    // None of them is short of memory before as many wait in it as may be open.
+    ghost ready_room: { MOST_OPEN ≤ deque_capacity ready },
+    ghost feeds_room: { MOST_OPEN ≤ deque_capacity feeds },
+    ghost going_room: { MOST_OPEN ≤ deque_capacity going },
 }
 
 impl Queues {
-    /// Nobody waits. Takes the memory for so many in each.
-    pub(crate) fn with_capacity(alloc: Global, most: usize) -> Result<Queues, AllocError>
+    /// Nobody waits. Takes the memory for as many in each as may be open.
+    pub(crate) fn new(alloc: Global) -> Result<Queues, AllocError>
         ensures ready { IfOk result (λ none. none.ready.items ≡ []) }
         ensures feeds { IfOk result (λ none. none.feeds.items ≡ []) }
         ensures going { IfOk result (λ none. none.going.items ≡ []) }
     {
         Ok(Queues {
-            ready: VecDeque::with_capacity(alloc, most)?,
-            feeds: VecDeque::with_capacity(alloc, most)?,
-            going: VecDeque::with_capacity(alloc, most)?,
+            ready: VecDeque::with_capacity(alloc, MOST_OPEN)?,
+            feeds: VecDeque::with_capacity(alloc, MOST_OPEN)?,
+            going: VecDeque::with_capacity(alloc, MOST_OPEN)?,
         })
     }
 
-    /// One more has its request, which may ask for a feed; false where memory is refused.
+    /// One more has its request, which may ask for a feed; false where memory is refused. None is asked for before as
+    /// many wait as may be open.
     pub(crate) fn add(&mut self, key: usize, may_be_feed: bool) -> bool
         ensures ready { self.new.ready.items
             ≡ (if result && not may_be_feed then self.old.ready.items ++ key ∷ [] else self.old.ready.items) }
         ensures feeds { self.new.feeds.items
             ≡ (if result && may_be_feed then self.old.feeds.items ++ key ∷ [] else self.old.feeds.items) }
         ensures going { self.new.going ≡ self.old.going }
+        ensures few { length (if may_be_feed then self.old.feeds.items else self.old.ready.items) < MOST_OPEN
+            → IsTrue result }
     {
         if may_be_feed {
             self.feeds.push_back(key).is_ok()
@@ -117,11 +126,14 @@ impl Queues {
         }
     }
 
-    /// One more goes on in the next turn; false where memory is refused.
+    /// One more goes on in the next turn; false where memory is refused. None is asked for before as many wait as may be
+    /// open.
     pub(crate) fn put_off(&mut self, key: usize) -> bool
         ensures going { self.new.going.items
             ≡ (if result then self.old.going.items ++ key ∷ [] else self.old.going.items) }
-        ensures others { self.new ≡ record self.old { going = self.new.going } }
+        ensures ready { self.new.ready ≡ self.old.ready }
+        ensures feeds { self.new.feeds ≡ self.old.feeds }
+        ensures few { length self.old.going.items < MOST_OPEN → IsTrue result }
     {
         self.going.push_back(key).is_ok()
     }
@@ -130,7 +142,8 @@ impl Queues {
     pub(crate) fn next_put_off(&mut self) -> Option<usize>
         ensures first { self.old.going.items ≡ option_to_list result ++ self.new.going.items }
         ensures none { IfNone result (self.old.going.items ≡ []) }
-        ensures others { self.new ≡ record self.old { going = self.new.going } }
+        ensures ready { self.new.ready ≡ self.old.ready }
+        ensures feeds { self.new.feeds ≡ self.old.feeds }
     {
         self.going.pop_front()
     }
@@ -154,8 +167,8 @@ impl Queues {
 
     /// Whether one goes on without waiting.
     pub(crate) fn has_work(&self, fits_feed: bool) -> bool
-        ensures { IsTrue result ↔ IsDue (deque_len self.now.ready) (deque_len self.now.going)
-            (deque_len self.now.feeds) fits_feed }
+        ensures { IsTrue result ↔ IsDue (length self.now.ready.items) (length self.now.going.items)
+            (length self.now.feeds.items) (IsTrue fits_feed) }
     {
         self.ready.len() > 0 || self.going.len() > 0 || (self.feeds.len() > 0 && fits_feed)
     }

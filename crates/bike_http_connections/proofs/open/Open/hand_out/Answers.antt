@@ -3,27 +3,28 @@ use Rattle.bike_http_connection.specs.Connected.{Opened}
 use Rattle.bike_http_connections.specs.Handed.{Gives}
 use Rattle.bike_http_connections.proofs.Losing.{back_again, ends_there}
 use Rattle.bike_http_connections.proofs.Giving.{gives_taken}
+use Rattle.bike_http_connections.specs.Table.{clients_of}
 use Rattle.bike_http_connections.proofs.open.Open.hand_out.Goals as goal
 use Rattle.bike_http_connections.proofs.open.Open.hand_out.Goals.{in-Ok-new, in-Err-new}
 
 pub returns-then-may_be_feed-is_feed : goal.returns-then-may_be_feed-is_feed
 returns-then-may_be_feed-is_feed g c =
-    back_again c.args.self.now c.remove.new.self _ c.put_back.new.self c.in_ok-connection.connection.who _ refl refl
-    c.in_ok-connection.ensures.taken c.put_back.ensures
+    back_again (clients_of c.args.self.now) (clients_of c.remove.new.self) _ (clients_of c.put_back.new.self) c.in_ok-connection.connection.who _ refl refl
+    c.in_ok-connection.ensures.taken c.put_back.ensures.kept
 
 pub returns-after-new : goal.returns-after-new
 returns-after-new g c = elim c.match-new.branch [
-  | in-Ok-new w ↦ subst (λ (given : _). Gives g.S.Socket.is_known g.S.Socket.input g.S.Socket.coming g.S.Socket.taken c.args.self.now c.remove.new.self given) (sym w.result-is) (
-    gives_taken g.S.Socket.is_known g.S.Socket.input g.S.Socket.coming g.S.Socket.taken c.args.self.now c.remove.new.self c.in_ok-connection.connection.who c.in-Ok.exchange
+  | in-Ok-new w ↦ subst (λ (given : _). Gives g.S.Socket.is_known g.S.Socket.input g.S.Socket.coming g.S.Socket.taken (clients_of c.args.self.now) (clients_of c.remove.new.self) given) (sym w.result-is) (
+    gives_taken g.S.Socket.is_known g.S.Socket.input g.S.Socket.coming g.S.Socket.taken (clients_of c.args.self.now) (clients_of c.remove.new.self) c.in_ok-connection.connection.who c.in-Ok.exchange
         c.in_ok-connection.ensures.taken c.in-Ok.ensures.handed,
     w.in-Ok-new.ensures,
     c.in-Ok.ensures.whole,
   )
-  | in-Err-new w ↦ subst (λ (given : _). Gives g.S.Socket.is_known g.S.Socket.input g.S.Socket.coming g.S.Socket.taken c.args.self.now c.remove.new.self given) (sym w.result-is)
-      (ends_there c.args.self.now c.remove.new.self c.in_ok-connection.connection.who c.in_ok-connection.ensures.taken)
+  | in-Err-new w ↦ subst (λ (given : _). Gives g.S.Socket.is_known g.S.Socket.input g.S.Socket.coming g.S.Socket.taken (clients_of c.args.self.now) (clients_of c.remove.new.self) given) (sym w.result-is)
+      (ends_there (clients_of c.args.self.now) (clients_of c.remove.new.self) c.in_ok-connection.connection.who c.in_ok-connection.ensures.taken)
 ]
 
 pub returns-in-Err : goal.returns-in-Err
 returns-in-Err g c =
-    back_again c.args.self.now c.remove.new.self _ c.put_back-in-Err.new.self c.in_ok-connection.connection.who _ refl (ap (λ (one : Opened). one.who) c.in-Err.ensures.kept)
-    c.in_ok-connection.ensures.taken c.put_back-in-Err.ensures
+    back_again (clients_of c.args.self.now) (clients_of c.remove.new.self) _ (clients_of c.put_back-in-Err.new.self) c.in_ok-connection.connection.who _ refl (ap (λ (one : Opened). one.who) c.in-Err.ensures.kept)
+    c.in_ok-connection.ensures.taken c.put_back-in-Err.ensures.kept

@@ -1,6 +1,8 @@
-use Rattle.std.proofs.Common.{rules}
-use Rattle.bike_http_connections.proofs.Ending.{no_client}
+use Rattle.std.proofs.Common.{ap, rules}
+use Rattle.bike_http_connections.specs.Table.{Table}
+use Rattle.bike_http_connections.proofs.Losing.{nobody}
 use Rattle.bike_http_connections.proofs.open.Open.is_empty.Goals as goal
 
 pub returns : goal.returns
-returns g c none = no_client c.self.inside.connections c.args.self.now c.self.view_is (search rules)
+returns g c none =
+    nobody c.self.inside.connections c.args.self.now.opened (ap (λ (t : Table). t.opened) c.self.view_is) (search rules)
