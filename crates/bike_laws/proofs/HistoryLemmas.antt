@@ -1,6 +1,7 @@
 -- A list of requests, and the history that it adds.
 use Rattle.std.proofs.Common.{◌≡◌, ℕ, List, [], ◌∷◌, ◌++◌, Bool, true, false, Option, Some, None, refl, sym, ap, ◌∙◌, subst, append_assoc, append-nil, arith}
-use Rattle.std.specs.Prelude.{max, is_none, ◌&&◌, if◌then◌else◌}
+use Rattle.std.proofs.Math.Seq.{drop-append_seam}
+use Rattle.std.specs.Prelude.{length, drop, max, is_none, ◌&&◌, if◌then◌else◌}
 use Rattle.bike_commands.specs.declared.reply.Reply.{Reply}
 use Rattle.bike_commands.specs.declared.refusal.Refusal.{Refusal}
 use Rattle.bike_commands.specs.declared.request.Request.{Request}
@@ -79,8 +80,12 @@ answers_again s (c ∷ cs) = tells (is_accepted s c.1) refl (answers_again (step
       ap (λ (o : Operator). replies o (calls_of (accepted_of (step s c.0 c.1).1 cs)))
       (sym (unaccepted_stays s c.0 c.1 (kept_under (key_in c.1) s.history) e)) ∙ rest
 
+-- it is what stands behind what was there
+behind_are : (s : Operator) (cs : List Call) → drop (length s.history) (after s cs).history ≡ accepted_of s cs
+behind_are s cs = ap (λ (h : List AcceptedRequest). drop (length s.history) h) (history_after s cs) ∙ drop-append_seam s.history (accepted_of s cs)
+
 pub served_again : (s : Operator) (cs : List Call) → IsServedAgain s cs
-served_again s cs = record { added = history_after s cs; operator = operator_again s cs; answers = answers_again s cs }
+served_again s cs = record { added = history_after s cs; behind = behind_are s cs; operator = operator_again s cs; answers = answers_again s cs }
 
 pub made_again : (cs : List Call) → IsMadeAgain (after no_operator cs)
 made_again cs = record {

@@ -1,5 +1,5 @@
 -- What a list of requests adds to the history of an operator, and how a history is served again.
-use Rattle.std.specs.Prelude.{◌≡◌, ℕ, ◌≤◌, List, [], ◌∷◌, ◌++◌, map, if◌then◌else◌}
+use Rattle.std.specs.Prelude.{◌≡◌, ℕ, ◌≤◌, length, drop, List, [], ◌∷◌, ◌++◌, map, if◌then◌else◌}
 use Rattle.bike_commands.specs.declared.reply.Reply.{Reply}
 use Rattle.bike_operator.specs.Operator.{Operator, AcceptedRequest, no_operator}
 use Rattle.bike_operator.specs.Runs.{Call, step, after, replies}
@@ -29,10 +29,11 @@ abbrev pub IsInOrder : ℕ → List AcceptedRequest → Type 0
 IsInOrder now [] = Unit {0}
 IsInOrder now (a ∷ history) = (now ≤ a.moment) × IsInOrder a.moment history
 
--- THE HISTORY IS THE CITY: what a list adds to the history, served at its moments, leads to the same operator, and is
--- answered as it was.
+-- THE HISTORY IS THE CITY: what a list adds to the history are the requests that are accepted. Served at their moments
+-- they lead to the same operator, and are answered as they were.
 pub record IsServedAgain (s : Operator) (cs : List Call) : Type 0 where
   pub added : (after s cs).history ≡ s.history ++ accepted_of s cs
+  pub behind : drop (length s.history) (after s cs).history ≡ accepted_of s cs
   pub operator : after s (calls_of (accepted_of s cs)) ≡ after s cs
   pub answers : replies s (calls_of (accepted_of s cs)) ≡ replies_of (accepted_of s cs)
 
