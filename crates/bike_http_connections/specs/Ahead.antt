@@ -7,6 +7,10 @@ use Rattle.bike_http_connection.specs.Connected.{Connected}
 abbrev pub Loses : {X : Type 0} → List X → List X → Type 0
 Loses {X} old new = (lost : List X) × IsPermutation old (lost ++ new)
 
+-- those that were there are there still, each as it was; others may have come in
+abbrev pub Stay : {X : Type 0} → List X → List X → Type 0
+Stay {X} old new = Loses new old
+
 -- those in slots
 abbrev pub open_in : {X : Type 0} → List (Option X) → List X
 open_in {X} [] = []

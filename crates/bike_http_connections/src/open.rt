@@ -3,11 +3,11 @@
 ghost use Rattle.std.specs.Prelude.{◌≡◌, ◌<◌, ◌≤◌, ◌↔◌, ◌+◌, ◌*◌, [], ◌∷◌, length, min, Some};
 ghost use Rattle.std.specs.Prelude.{IsTrue, false, IfOk, IfSome, IfNone};
 ghost use Rattle.std.specs.Duration.{as_nanos, max_nanos};
-ghost use Rattle.bike_http_connections.specs.Ahead.{Loses};
+ghost use Rattle.bike_http_connections.specs.Ahead.{Loses, Stay};
 ghost use Rattle.bike_http_connections.specs.Handed.{Gives};
 ghost use Rattle.bike_http_connections.specs.Ending.{clients_in, NoneSooner, IsOfOne, EndsLate, EndsLateAt};
 ghost use Rattle.bike_http_connections.specs.Ending.{in_time, ComesFirst, EndsFirst};
-ghost use Rattle.bike_http_connections.specs.Kept.{blocks_in, GivesOut, TakesIn, TakesInBy};
+ghost use Rattle.bike_http_connections.specs.Kept.{blocks_in, GivesOut, TakesIn, TakesInBy, ComesIn};
 ghost use Rattle.bike_http_connections.specs.Turns.{nanos, sooner_of, time_until};
 ghost use Rattle.bike_http_connections.specs.Table.{clients_of, KeepsOpened, HasWork};
 
@@ -52,7 +52,8 @@ impl<S: Socket> Model for Open<S> {
       going = o.queues.going.items;
     } };
 
-    // None of them is given up before the soonest of the deadlines, and the room that is taken is that of all of them.
+    // None of them is given up before the soonest of the deadlines, the room that is taken is that of all of them, and
+    // as many as may be open have a place.
     ghost invariant = { λ o. IsNoted (nanos o.deadlines.soonest) o.room.held o.connections };
 }
 
@@ -79,6 +80,7 @@ fn end_where_late<S: Socket>(
 )
     ensures lost { Loses (clients_in connections.old.slots) (clients_in connections.new.slots) }
     ensures late { EndsLateAt (as_nanos now) connections.old connections.new key }
+    ensures places { connections.new.capacity ≡ connections.old.capacity }
     ensures room { room.old.held ≡ blocks_in connections.old → room.new.held ≡ blocks_in connections.new }
 {
     let is_late = match connections.get(key) {
@@ -96,6 +98,7 @@ fn end_where_late<S: Socket>(
 fn end_late<S: Socket>(connections: &mut Slab<Entry<S>>, room: &mut Room, now: Duration)
     ensures lost { Loses (clients_in connections.old.slots) (clients_in connections.new.slots) }
     ensures late { EndsLate (as_nanos now) connections.old connections.new }
+    ensures places { connections.new.capacity ≡ connections.old.capacity }
     ensures room { room.old.held ≡ blocks_in connections.old → room.new.held ≡ blocks_in connections.new }
 {
     for key in 0..connections.capacity() {
@@ -242,6 +245,7 @@ impl<S: Socket> Open<S> {
             Loses (clients_of self.old) (connection.who ∷ clients_of self.new)) }
         ensures whole { IfSome result (λ connection. GivesOut connection self.old.opened self.new.opened) }
         ensures none { IfNone result (self.new ≡ self.old) }
+        ensures noted { self.new ≡ record self.old { opened = self.new.opened } }
     {
         let entry = self.connections.try_remove(key)?;
         self.room.give_back(entry.counted());
@@ -250,9 +254,14 @@ impl<S: Socket> Open<S> {
 
     /// Puts a connection in as it is, and notes when it is given up.
     fn put_back(&mut self, connection: Connection<S>)
+        // Those that are open: it comes in where it has a place, and the others stay.
         ensures kept { Loses (connection.who ∷ clients_of self.old) (clients_of self.new) }
         ensures whole { TakesIn connection self.old.opened self.new.opened }
+        ensures others { Stay self.old.opened self.new.opened }
+        ensures comes_in { length self.old.opened < MOST_OPEN → ComesIn connection self.old.opened self.new.opened }
+        // What is noted of them.
         ensures noted { self.new.soonest ≡ sooner_of self.old.soonest (Some (as_nanos connection.end)) }
+        ensures turns { self.new ≡ record self.old { opened = self.new.opened; soonest = self.new.soonest } }
     {
         self.deadlines.note(connection.end());
         let blocks = self.room.take(connection.blocks());
