@@ -17,7 +17,7 @@ use Rattle.bike_http_connections.proofs.Losing.{loses_none, loses_then, loses_fr
 
 -- ---- clients of connections
 
-loses_clients : (old new : List Kept) → Loses old new → Loses (map (λ one. one.who) old) (map (λ one. one.who) new)
+pub loses_clients : (old new : List Kept) → Loses old new → Loses (map (λ one. one.who) old) (map (λ one. one.who) new)
 loses_clients old new lost = (
   map (λ one. one.who) lost.0,
   subst (λ (xs : List Connected). IsPermutation (map (λ one. one.who) old) xs) (map-append (λ (one : Kept). one.who) lost.0 new)

@@ -3,13 +3,13 @@
 ghost use Rattle.std.specs.Prelude.{◌≡◌, ◌<◌, ◌≤◌, ◌↔◌, ◌+◌, ◌*◌, [], ◌∷◌, length, min, Some};
 ghost use Rattle.std.specs.Prelude.{IsTrue, false, IfOk, IfSome, IfNone};
 ghost use Rattle.std.specs.Duration.{as_nanos, max_nanos};
-ghost use Rattle.bike_http_connections.specs.Ahead.{Loses, Stay};
+ghost use Rattle.bike_http_connections.specs.Ahead.{Loses, Stay, StayBut};
 ghost use Rattle.bike_http_connections.specs.Handed.{Gives};
 ghost use Rattle.bike_http_connections.specs.Ending.{clients_in, NoneSooner, IsOfOne, EndsLate, EndsLateAt};
 ghost use Rattle.bike_http_connections.specs.Ending.{in_time, ComesFirst, EndsFirst};
 ghost use Rattle.bike_http_connections.specs.Kept.{blocks_in, GivesOut, TakesIn, TakesInBy, ComesIn};
 ghost use Rattle.bike_http_connections.specs.Turns.{nanos, sooner_of, time_until};
-ghost use Rattle.bike_http_connections.specs.Table.{clients_of, KeepsOpened, HasWork};
+ghost use Rattle.bike_http_connections.specs.Table.{clients_of, KeepsOpened, HasTurn, HasWork};
 
 use crate::entry::Entry;
 use crate::limits::MOST_OPEN;
@@ -208,9 +208,7 @@ impl<S: Socket> Open<S> {
         // Those that are open, which stay as they are, and its turn.
         ensures kept { KeepsOpened self.old self.new }
         ensures ended { step ≡ Step.Over → result ≡ false }
-        ensures settles { step ≡ Step.Settled → length self.old.ready < MOST_OPEN
-            → length self.old.feeds < MOST_OPEN → IsTrue result }
-        ensures goes_on { step ≡ Step.GoesOn → length self.old.going < MOST_OPEN → IsTrue result }
+        ensures turn { HasTurn step self.old → IsTrue result }
     {
         match step {
             Step::Waits => connection.watch(registry, key).is_ok(),
@@ -219,6 +217,24 @@ impl<S: Socket> Open<S> {
             Step::Settled => self.queues.add(key, connection.may_be_feed()),
             Step::Sent => self.lingers(key, connection, now),
             Step::Over => false,
+        }
+    }
+
+    /// Keeps a connection that got so far, with its next turn; it ends where it is over, or has no room.
+    fn keep(&mut self, registry: &S::Registry, connection: Connection<S>, step: Step, now: Duration)
+        // The connection: it comes in unless it is over, waits for a socket, was sent, or has no room.
+        ensures kept { Loses (connection.who ∷ clients_of self.old) (clients_of self.new) }
+        ensures time { TakesInBy connection self.old.opened self.new.opened }
+        ensures comes_in { HasTurn step self.old → length self.old.opened < MOST_OPEN
+            → ComesIn connection self.old.opened self.new.opened }
+        ensures ended { step ≡ Step.Over → self.new.opened ≡ self.old.opened }
+        // The others.
+        ensures others { Stay self.old.opened self.new.opened }
+    {
+        let mut connection = connection;
+        let key = self.connections.vacant_key();
+        if self.is_kept(registry, key, &mut connection, step, now) {
+            self.put_back(connection);
         }
     }
 
@@ -231,12 +247,10 @@ impl<S: Socket> Open<S> {
     )
         ensures kept { IsTrue S.is_known → Loses (connection.who ∷ clients_of self.old) (clients_of self.new) }
         ensures time { TakesInBy connection self.old.opened self.new.opened }
+        ensures others { Stay self.old.opened self.new.opened }
     {
-        let (mut connection, step) = connection.step();
-        let key = self.connections.vacant_key();
-        if self.is_kept(registry, key, &mut connection, step, now) {
-            self.put_back(connection);
-        }
+        let (connection, step) = connection.step();
+        self.keep(registry, connection, step, now);
     }
 
     /// Takes a connection out.
@@ -273,7 +287,8 @@ impl<S: Socket> Open<S> {
 
     /// Goes on with a connection whose socket may be ready.
     pub(crate) fn step(&mut self, registry: &S::Registry, key: usize, now: Duration)
-        ensures { IsTrue S.is_known → Loses (clients_of self.old) (clients_of self.new) }
+        ensures kept { IsTrue S.is_known → Loses (clients_of self.old) (clients_of self.new) }
+        ensures others { StayBut 1 self.old.opened self.new.opened }
     {
         if let Some(connection) = self.remove(key) {
             self.insert(registry, connection, now);
@@ -282,7 +297,8 @@ impl<S: Socket> Open<S> {
 
     /// Goes on with one of those that were put off.
     fn go_on_with(&mut self, registry: &S::Registry, key: usize, now: Duration)
-        ensures { IsTrue S.is_known → Loses (clients_of self.old) (clients_of self.new) }
+        ensures kept { IsTrue S.is_known → Loses (clients_of self.old) (clients_of self.new) }
+        ensures others { StayBut 1 self.old.opened self.new.opened }
     {
         if let Some(mut connection) = self.remove(key) {
             connection.set_going(false);
@@ -292,7 +308,8 @@ impl<S: Socket> Open<S> {
 
     /// Goes on with those that were put off.
     pub(crate) fn go_on(&mut self, registry: &S::Registry, now: Duration)
-        ensures { IsTrue S.is_known → Loses (clients_of self.old) (clients_of self.new) }
+        ensures kept { IsTrue S.is_known → Loses (clients_of self.old) (clients_of self.new) }
+        ensures others { StayBut (length self.old.going) self.old.opened self.new.opened }
     {
         for _turn in 0..self.queues.count_put_off() {
             let Some(key) = self.queues.next_put_off() else {
@@ -310,7 +327,9 @@ impl<S: Socket> Open<S> {
         is_feed: bool,
         blocks: usize,
     ) -> Option<(Exchange<S>, ResponseBuffer)>
-        ensures { Gives S.is_known S.input S.coming S.taken (clients_of self.old) (clients_of self.new) result }
+        ensures gives { Gives S.is_known S.input S.coming S.taken (clients_of self.old) (clients_of self.new) result }
+        ensures others { StayBut 1 self.old.opened self.new.opened }
+        ensures turns { self.new ≡ record self.old { opened = self.new.opened; soonest = self.new.soonest } }
     {
         let connection = self.remove(key)?;
         if connection.may_be_feed() != is_feed {
