@@ -62,6 +62,12 @@ but_one one old middle new out stay =
           (loses_behind (it ∷ []) new middle stay),
     )
 
+-- one has its turn
+pub one_turn : (turn : ℕ) (start now queue left new : List ℕ) (key : ℕ) → turn + length now ≡ length start → queue ≡ now → queue ≡ key ∷ left → new ≡ left
+    → turn + 1 + length new ≡ length start
+one_turn turn start now queue left new key so_far is first same =
+    omega (arith, so_far, ap (λ (xs : List ℕ). length xs) is, ap (λ (xs : List ℕ). length xs) first, ap (λ (xs : List ℕ). length xs) same)
+
 -- ---- as clients, beside those that aren't accepted yet
 
 pub stay_open : (old coming : List Connected) (opened left : List Kept) → map (λ one. one.who) opened ++ coming ≡ old → Stay opened left

@@ -1,5 +1,5 @@
 -- The connections that are open, and what is noted of them.
-use Rattle.std.specs.Prelude.{◌≡◌, ℕ, ◌+◌, ◌<◌, ◌≤◌, ⊤, List, map, length, Option}
+use Rattle.std.specs.Prelude.{◌≡◌, ℕ, ◌+◌, ◌<◌, ◌≤◌, ⊤, Bool, List, map, length, Option, if◌then◌else◌}
 use Rattle.bike_http_connection.specs.Connected.{Connected}
 use Rattle.bike_http_connection.specs.declared.connection.Step.{Step}
 use Rattle.bike_http_connection.specs.declared.connection.Step.TheVariants.{Waits, GoesOn, Settled, Sent, Rests, Over}
@@ -33,6 +33,10 @@ HasTurn Settled table = (length table.ready < MOST_OPEN) × (length table.feeds 
 HasTurn Sent table = ⊥
 HasTurn Rests table = ⊤
 HasTurn Over table = ⊥
+
+-- the keys of those that may ask for a feed, or of the others whose request is there
+abbrev pub queue_of : Bool → Table → List ℕ
+queue_of is_feed table = if is_feed then table.feeds else table.ready
 
 -- beside so many blocks there is room for a feed
 abbrev pub FitsFeed : ℕ → Type 0

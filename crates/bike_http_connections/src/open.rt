@@ -1,6 +1,6 @@
 //! The connections that are open.
 
-ghost use Rattle.std.specs.Prelude.{◌≡◌, ◌<◌, ◌≤◌, ◌↔◌, ◌+◌, ◌*◌, [], ◌∷◌, length, min, Some};
+ghost use Rattle.std.specs.Prelude.{◌≡◌, ◌<◌, ◌≤◌, ◌↔◌, ◌+◌, ◌-◌, ◌*◌, [], ◌∷◌, length, min, Some};
 ghost use Rattle.std.specs.Prelude.{IsTrue, false, IfOk, IfSome, IfNone};
 ghost use Rattle.std.specs.Duration.{as_nanos, max_nanos};
 ghost use Rattle.bike_http_connections.specs.Ahead.{Loses, Stay, StayBut};
@@ -9,7 +9,7 @@ ghost use Rattle.bike_http_connections.specs.Ending.{clients_in, NoneSooner, IsO
 ghost use Rattle.bike_http_connections.specs.Ending.{in_time, ComesFirst, EndsFirst};
 ghost use Rattle.bike_http_connections.specs.Kept.{blocks_in, GivesOut, TakesIn, TakesInBy, ComesIn};
 ghost use Rattle.bike_http_connections.specs.Turns.{nanos, sooner_of, time_until};
-ghost use Rattle.bike_http_connections.specs.Table.{clients_of, KeepsOpened, HasTurn, HasWork};
+ghost use Rattle.bike_http_connections.specs.Table.{clients_of, queue_of, KeepsOpened, HasTurn, HasWork};
 
 use crate::entry::Entry;
 use crate::limits::MOST_OPEN;
@@ -351,7 +351,9 @@ impl<S: Socket> Open<S> {
     /// The next of those that may ask for a feed, or of the others. A feed is handed out where there is room for the
     /// longest.
     pub(crate) fn next(&mut self, is_feed: bool) -> Option<(Exchange<S>, ResponseBuffer)>
-        ensures { Gives S.is_known S.input S.coming S.taken (clients_of self.old) (clients_of self.new) result }
+        ensures gives { Gives S.is_known S.input S.coming S.taken (clients_of self.old) (clients_of self.new) result }
+        ensures others { StayBut (length (queue_of is_feed self.old) - length (queue_of is_feed self.new))
+            self.old.opened self.new.opened }
     {
         if is_feed && !self.room.fits_feed() {
             return None;
