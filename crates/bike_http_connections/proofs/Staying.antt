@@ -1,12 +1,12 @@
 -- Those that stay as they are, while others come in, go out or end.
-use Rattle.std.proofs.Common.{◌≡◌, ℕ, ◌+◌, ◌≤◌, List, [], ◌∷◌, ◌++◌, map, length, IsPermutation, sym, subst, ap, ◌∙◌, append_assoc, arith, refl, inl, inr, ◌⊎◌}
+use Rattle.std.proofs.Common.{◌≡◌, ℕ, ◌+◌, ◌<◌, ◌≤◌, List, [], ◌∷◌, ◌++◌, map, length, IsPermutation, sym, subst, ap, ◌∙◌, append_assoc, arith, refl, inl, inr, ◌⊎◌}
 use Rattle.std.proofs.lemmas.List.{map-append, length-append, length-map}
-use Rattle.std.proofs.lemmas.List.Sorted.{IsPermutation-sym}
+use Rattle.std.proofs.lemmas.List.Sorted.{IsPermutation-sym, IsPermutation-trans, IsPermutation-map, length_permutation}
 use Rattle.bike_http_connection.specs.declared.connection.Step.{Step}
 use Rattle.bike_http_connection.specs.declared.connection.Step.TheVariants.{Waits, GoesOn, Settled, Sent, Rests, Over}
 use Rattle.bike_http_connection.specs.Connected.{Connected, Opened}
 use Rattle.bike_http_connections.specs.Ahead.{Loses, Stay, StayBut}
-use Rattle.bike_http_connections.specs.Kept.{Kept, kept_as, GivesOut}
+use Rattle.bike_http_connections.specs.Kept.{Kept, kept_as, GivesOut, ComesIn}
 use Rattle.bike_http_connections.specs.Table.{Table, HasTurn}
 use Rattle.bike_http_connections.proofs.Losing.{loses_none, loses_then, loses_behind, loses_before, loses_moved}
 use Rattle.bike_http_connections.proofs.Ending.{loses_clients}
@@ -61,6 +61,20 @@ but_one one old middle new out stay =
       stay_then old (it ∷ middle) (it ∷ new) (loses_moved (it ∷ middle) old (IsPermutation-sym old (it ∷ middle) out.1))
           (loses_behind (it ∷ []) new middle stay),
     )
+
+-- one goes out and comes back as it was
+pub back_as_before : (most : ℕ) (one other : Opened) (old middle new : List Kept) → GivesOut one old middle → other ≡ one → length old ≤ most
+    → (length middle < most → ComesIn other middle new) → Stay (map (λ one. one.who) old) (map (λ one. one.who) new)
+back_as_before most one other old middle new out same few comes =
+    let left : List Connected = map (λ (k : Kept). k.who) middle in
+    let was : List Connected = map (λ (k : Kept). k.who) old in
+    let is : List Connected = map (λ (k : Kept). k.who) new in
+    let many = length_permutation old (kept_as one out.0 ∷ middle) out.1 in
+    let into = comes (omega (arith, few, many)) in
+    let came : IsPermutation is (one.who ∷ left) =
+    subst (λ (x : Opened). IsPermutation is (x.who ∷ left)) same (IsPermutation-map (λ (k : Kept). k.who) new (kept_as other into.0 ∷ middle) into.1) in
+    let went : IsPermutation was (one.who ∷ left) = IsPermutation-map (λ (k : Kept). k.who) old (kept_as one out.0 ∷ middle) out.1 in
+    loses_moved is was (IsPermutation-trans is (one.who ∷ left) was came (IsPermutation-sym was (one.who ∷ left) went))
 
 -- one has its turn
 pub one_turn : (turn : ℕ) (start now queue left new : List ℕ) (key : ℕ) → turn + length now ≡ length start → queue ≡ now → queue ≡ key ∷ left → new ≡ left

@@ -3,6 +3,7 @@
 ghost use Rattle.std.specs.Prelude.{◌≡◌, ◌<◌, ◌≤◌, ◌↔◌, ◌+◌, ◌-◌, ◌*◌, [], ◌∷◌, length, min, Some};
 ghost use Rattle.std.specs.Prelude.{IsTrue, false, IfOk, IfSome, IfNone};
 ghost use Rattle.std.specs.Duration.{as_nanos, max_nanos};
+ghost use Rattle.bike_http_connection.specs.Connected.{IsRequest, handed_as};
 ghost use Rattle.bike_http_connections.specs.Ahead.{Loses, Stay, StayBut};
 ghost use Rattle.bike_http_connections.specs.Handed.{Gives};
 ghost use Rattle.bike_http_connections.specs.Ending.{clients_in, NoneSooner, IsOfOne, EndsLate, EndsLateAt};
@@ -319,6 +320,33 @@ impl<S: Socket> Open<S> {
         }
     }
 
+    /// Takes a connection out that asks for this kind of answer, and whose request is there. Another stays.
+    fn take_request(&mut self, key: usize, is_feed: bool) -> Option<Exchange<S>>
+        // The connection, or none.
+        ensures taken { IfSome result (λ exchange. Loses (clients_of self.old)
+            (handed_as S.input S.coming S.taken exchange ∷ clients_of self.new)) }
+        ensures whole { IfSome result (λ exchange. IsRequest S.is_known S.coming exchange) }
+        ensures lost { IfNone result (Loses (clients_of self.old) (clients_of self.new)) }
+        ensures stay { length self.old.opened ≤ MOST_OPEN
+            → IfNone result (Stay (clients_of self.old) (clients_of self.new)) }
+        // The others.
+        ensures others { StayBut 1 self.old.opened self.new.opened }
+        ensures turns { self.new ≡ record self.old { opened = self.new.opened; soonest = self.new.soonest } }
+    {
+        let connection = self.remove(key)?;
+        if connection.may_be_feed() != is_feed {
+            self.put_back(connection);
+            return None;
+        }
+        match connection.into_exchange() {
+            Ok(exchange) => Some(exchange),
+            Err(connection) => {
+                self.put_back(connection);
+                None
+            }
+        }
+    }
+
     /// Hands a connection out, with room for so many blocks of an answer; none where its request isn't there, or asks
     /// for another kind of answer, or where memory is refused, which ends the connection.
     fn hand_out(
@@ -331,20 +359,10 @@ impl<S: Socket> Open<S> {
         ensures others { StayBut 1 self.old.opened self.new.opened }
         ensures turns { self.new ≡ record self.old { opened = self.new.opened; soonest = self.new.soonest } }
     {
-        let connection = self.remove(key)?;
-        if connection.may_be_feed() != is_feed {
-            self.put_back(connection);
-            return None;
-        }
-        match connection.into_exchange() {
-            Ok(exchange) => match ResponseBuffer::new(self.alloc, blocks.saturating_mul(BLOCK)) {
-                Ok(answer) => Some((exchange, answer)),
-                Err(AllocError) => None,
-            },
-            Err(connection) => {
-                self.put_back(connection);
-                None
-            }
+        let exchange = self.take_request(key, is_feed)?;
+        match ResponseBuffer::new(self.alloc, blocks.saturating_mul(BLOCK)) {
+            Ok(answer) => Some((exchange, answer)),
+            Err(AllocError) => None,
         }
     }
 

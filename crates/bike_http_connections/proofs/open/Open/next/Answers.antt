@@ -27,10 +27,10 @@ loop-turn-preserved g c = (
   loses_via _ _ _ _ (ap (λ (t : Table). clients_of t) c.self-in-loop-turn.view_is) c.loop-turn.invariant.0
       (gives_none g.S.Socket.is_known g.S.Socket.input g.S.Socket.coming g.S.Socket.taken _ _ c.hand_out-next.result (sym c.is_some.ensures ∙ c.if-is_some.false) c.hand_out-next.ensures.gives),
   but_then c.loop-turn._turn 1 c.args.self.now.opened c.loop-turn.self.opened c.hand_out-next.new.self.opened c.loop-turn.invariant.1
-    (subst (λ (seen : List Kept). StayBut 1 seen c.hand_out-next.new.self.opened) (ap (λ (t : Table). t.opened) c.self-in-loop-turn.view_is)
-    c.hand_out-next.ensures.others),
+      (subst (λ (seen : List Kept). StayBut 1 seen c.hand_out-next.new.self.opened) (ap (λ (t : Table). t.opened) c.self-in-loop-turn.view_is)
+      c.hand_out-next.ensures.others),
   one_turn c.loop-turn._turn (queue_of c.args.is_feed c.args.self.now) (queue_of c.args.is_feed c.loop-turn.self)
-    _ _ (queue_of c.args.is_feed c.hand_out-next.new.self) c.in-Some.key c.loop-turn.invariant.2
-    (ap (λ (t : Table). queue_of c.args.is_feed t) c.self-in-loop-turn.view_is) c.in-Some.ensures.first
-    (ap (λ (t : Table). queue_of c.args.is_feed t) c.hand_out-next.ensures.turns),
+      _ _ (queue_of c.args.is_feed c.hand_out-next.new.self) c.in-Some.key c.loop-turn.invariant.2
+      (ap (λ (t : Table). queue_of c.args.is_feed t) c.self-in-loop-turn.view_is) c.in-Some.ensures.first
+      (ap (λ (t : Table). queue_of c.args.is_feed t) c.hand_out-next.ensures.turns),
 )
