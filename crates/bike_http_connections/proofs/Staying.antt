@@ -5,7 +5,7 @@ use Rattle.std.proofs.lemmas.List.Sorted.{IsPermutation-sym, IsPermutation-trans
 use Rattle.bike_http_connection.specs.declared.connection.Step.{Step}
 use Rattle.bike_http_connection.specs.declared.connection.Step.TheVariants.{Waits, GoesOn, Settled, Sent, Rests, Over}
 use Rattle.bike_http_connection.specs.Connected.{Connected, Opened}
-use Rattle.bike_http_connections.specs.Ahead.{Loses, Stay, StayBut}
+use Rattle.bike_http_connections.specs.Ahead.{Stay, StayBut}
 use Rattle.bike_http_connections.specs.Kept.{Kept, kept_as, GivesOut, ComesIn}
 use Rattle.bike_http_connections.specs.Table.{Table, HasTurn}
 use Rattle.bike_http_connections.proofs.Losing.{loses_none, loses_then, loses_behind, loses_before, loses_moved}

@@ -1,6 +1,6 @@
 use Rattle.std.proofs.Common.{refl}
 use Rattle.bike_http_connections.proofs.Losing.{back_again}
-use Rattle.bike_http_connections.proofs.Staying.{but_one, but_same}
+use Rattle.bike_http_connections.proofs.Staying.{but_one}
 use Rattle.bike_http_connections.specs.Table.{clients_of}
 use Rattle.bike_http_connections.proofs.open.Open.step.Goals as goal
 
