@@ -25,7 +25,8 @@ clients_of table = map (λ one. one.who) table.opened
 abbrev pub KeepsOpened : Table → Table → Type 0
 KeepsOpened old new = new ≡ record old { ready = new.ready; feeds = new.feeds; going = new.going }
 
--- a connection that got so far is kept, with a turn of its own where it needs one
+-- A connection that got so far is sure to be kept: one that has nothing to do, and one that goes on or whose request is
+-- there, while fewer wait than may be open. Whether a socket can be waited for isn't known.
 abbrev pub HasTurn : Step → Table → Type 0
 HasTurn Waits table = ⊥
 HasTurn GoesOn table = length table.going < MOST_OPEN

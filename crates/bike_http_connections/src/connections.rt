@@ -101,7 +101,7 @@ impl<N: Network> Connections<N> {
 
     /// Takes in a connection that was accepted at this moment, and of whose request this came.
     fn take_in(&mut self, socket: N::Socket, moment: Moment, came: &[u8])
-        ensures comes { IsTrue N.Socket.is_known
+        ensures kept { IsTrue N.Socket.is_known
             → Loses (begun_as N.Socket.input N.Socket.coming N.Socket.taken socket moment came.now ∷ self.old)
             self.new }
         ensures others { Stay self.old self.new }
