@@ -1,23 +1,23 @@
 -- When connections end: the soonest of their deadlines, and those whose time is over.
-use Rattle.std.proofs.Common.{◌≡◌, ℕ, zero, suc, ◌+◌, ◌-◌, ◌<◌, ◌≤◌, leb, not, cond, All, List, [], ◌∷◌, ◌++◌, map, length, min, Option, Some, None, Bool, true, false, if◌then◌else◌, slice_set, slice_index_or, Result, Ok, Err, IfOk}
+use Rattle.std.proofs.Common.{◌≡◌, ℕ, zero, suc, ◌+◌, ◌-◌, ◌<◌, ◌≤◌, leb, not, cond, All, List, [], ◌∷◌, ◌++◌, map, length, min, Option, Some, None, Bool, true, false, if◌then◌else◌, slice_set, slice_index_or, Result, Ok, Err, IfOk, IsOk}
 use Rattle.std.proofs.Common.{OnErr, is_err, IsPermutation, inl, inr, refl, sym, subst, ap, ◌∙◌, arith}
 use Rattle.std.proofs.Math.Nat.{min-le_left, min-le_right, min-eq_left, min-eq_right, le_refl}
 use Rattle.std.proofs.lemmas.Bool.{cases_eq, cases_lt, lt-leb}
 use Rattle.std.proofs.lemmas.List.{map-append, get_or_past}
-use Rattle.std.proofs.lemmas.List.Sorted.{IsPermutation-map, sum_by_popped, sum_by_pushed}
+use Rattle.std.proofs.lemmas.List.Sorted.{IsPermutation-sym, IsPermutation-map, sum_by_popped, sum_by_pushed}
 use Rattle.std.specs.Duration.{as_nanos}
-use Rattle.slab.specs.Slab.{Slab, get, Updates}
+use Rattle.slab.specs.Slab.{Slab, get, Updates, HasRoomFor}
 use Rattle.bike_http_connections.specs.Turns.{sooner_of, time_until, HasCome}
 use Rattle.bike_http_connections.specs.Table.{Table}
 use Rattle.bike_http_connection.specs.Connected.{Connected, Opened}
-use Rattle.bike_http_connections.specs.Kept.{Kept, kept_as, opened_of, blocks_of, blocks_in, GivesOut, TakesIn}
-use Rattle.bike_http_connections.specs.Ahead.{Loses, open_in}
+use Rattle.bike_http_connections.specs.Kept.{Kept, kept_as, opened_of, blocks_of, blocks_in, GivesOut, TakesIn, ComesIn}
+use Rattle.bike_http_connections.specs.Ahead.{Loses, Stay, open_in}
 use Rattle.bike_http_connections.specs.Ending.{clients_in, IsNoted, NoneSooner, IsOfOne, unless_late, EndsLate, EndsLateAt, in_time, ComesFirst, EndsFirst}
-use Rattle.bike_http_connections.proofs.Losing.{loses_none, loses_then, loses_front, taken_from, taken_out, put_in, put_back, nothing_found}
+use Rattle.bike_http_connections.proofs.Losing.{loses_none, loses_then, loses_front, taken_from, taken_out, put_in, put_back, nothing_found, as_many}
 
 -- ---- clients of connections
 
-loses_clients : (old new : List Kept) → Loses old new → Loses (map (λ one. one.who) old) (map (λ one. one.who) new)
+pub loses_clients : (old new : List Kept) → Loses old new → Loses (map (λ one. one.who) old) (map (λ one. one.who) new)
 loses_clients old new lost = (
   map (λ one. one.who) lost.0,
   subst (λ (xs : List Connected). IsPermutation (map (λ one. one.who) old) xs) (map-append (λ (one : Kept). one.who) lost.0 new)
@@ -56,6 +56,32 @@ kept_put {F} told old new x one blocks seen is same free updates full = (
   subst (λ (y : Kept). Loses (y ∷ seen) (open_in new.slots)) same (put_back told old new x seen is free updates full),
 )
 
+-- .. the others stay
+pub others_stay : {F : Type 0} (told : Result ℕ F) (old new : Slab Kept) (x : Kept) (seen : List Kept) → open_in old.slots ≡ seen
+    → IfOk told (λ key. get old key ≡ None) → IfOk told (λ key. Updates old new key (Some x)) → OnErr told (new ≡ record old { capacity = new.capacity })
+    → Stay seen (open_in new.slots)
+others_stay {F} (Ok key) old new x seen is free updates full = (
+  x ∷ [],
+  subst (λ (xs : List Kept). IsPermutation (open_in new.slots) (x ∷ xs)) is
+      (IsPermutation-sym (x ∷ open_in old.slots) (open_in new.slots) (put_in old new key x free updates)),
+)
+others_stay {F} (Err fault) old new x seen is free updates full =
+    subst (λ (s : Slab Kept). Stay seen (open_in s.slots)) (sym full)
+    (subst (λ (xs : List Kept). Stay xs (open_in old.slots)) is (loses_none (open_in old.slots)))
+
+-- .. and it comes in where it has a place
+pub comes_in : {F : Type 0} (told : Result ℕ F) (old new : Slab Kept) (x : Kept) (one : Opened) (blocks most : ℕ) (seen : List Kept)
+    → open_in old.slots ≡ seen → x ≡ kept_as one blocks → IfOk told (λ key. get old key ≡ None) → IfOk told (λ key. Updates old new key (Some x))
+    → (HasRoomFor old 1 → IsOk told) → most ≤ old.capacity → length seen < most → ComesIn one seen (open_in new.slots)
+comes_in {F} (Ok key) old new x one blocks most seen is same free updates succeeds places few = (
+  blocks,
+  subst (λ (y : Kept). IsPermutation (open_in new.slots) (y ∷ seen)) same
+      (subst (λ (xs : List Kept). IsPermutation (open_in new.slots) (x ∷ xs)) is
+      (IsPermutation-sym (x ∷ open_in old.slots) (open_in new.slots) (put_in old new key x free updates))),
+)
+comes_in {F} (Err fault) old new x one blocks most seen is same free updates succeeds places few =
+    absurd (let well = succeeds (omega (arith, as_many old seen is, places, few)) in cc)
+
 -- ---- the soonest
 
 come_old : (soonest : Option ℕ) (end now : ℕ) → HasCome soonest now → HasCome (sooner_of soonest (Some end)) now
@@ -70,10 +96,11 @@ nobody_sooner : (soonest : Option ℕ) (slab : Slab Kept) → slab.slots ≡ [] 
 nobody_sooner soonest slab none key one found =
     absurd (let both : None ≡ Some one = sym (ap (λ (slots : List (Option Kept)). slice_index_or slots key None) none) ∙ found in cc)
 
-pub nobody_noted : (soonest : Option ℕ) (slab : Slab Kept) → slab.slots ≡ [] → IsNoted soonest 0 slab
-nobody_noted soonest slab none = record {
+pub nobody_noted : (soonest : Option ℕ) (slab : Slab Kept) → slab.slots ≡ [] → 1000 ≤ slab.capacity → IsNoted soonest 0 slab
+nobody_noted soonest slab none places = record {
   soonest = nobody_sooner soonest slab none;
   counted = sym (ap (λ (slots : List (Option Kept)). blocks_of (open_in slots)) none);
+  places = places;
 }
 
 pub sooner_put : {F : Type 0} (told : Result ℕ F) (before after : Option ℕ) (old new : Slab Kept) (x : Kept) → NoneSooner before old

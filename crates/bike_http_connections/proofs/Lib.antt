@@ -1,5 +1,6 @@
 pub mod Losing
 pub mod Ending
+pub mod Staying
 pub mod Waiting
 pub mod Giving
 pub mod Opening

@@ -1,8 +1,9 @@
 -- When connections end.
-use Rattle.std.specs.Prelude.{◌≡◌, ℕ, ◌-◌, leb, not, List, All, filter, map, Option, Some, None, if◌then◌else◌}
+use Rattle.std.specs.Prelude.{◌≡◌, ℕ, ◌-◌, ◌≤◌, leb, not, List, All, filter, map, Option, Some, None, if◌then◌else◌}
 use Rattle.std.specs.Duration.{as_nanos}
 use Rattle.slab.specs.Slab.{Slab, get, Updates}
 use Rattle.bike_http_connection.specs.Connected.{Connected}
+use Rattle.bike_http_connections.specs.declared.limits.TheConstants.{MOST_OPEN}
 use Rattle.bike_http_connections.specs.Ahead.{open_in}
 use Rattle.bike_http_connections.specs.Kept.{Kept, blocks_in}
 use Rattle.bike_http_connections.specs.Turns.{HasCome}
@@ -44,8 +45,9 @@ ComesFirst moment opened = All (λ one. HasCome moment (as_nanos one.end)) opene
 abbrev pub EndsFirst : Option ℕ → ℕ → List Kept → Type 0
 EndsFirst wait now opened = All (λ one. HasCome wait (as_nanos one.end - now)) opened
 
--- What is noted of those that are kept: a moment no later than any of them is given up, and how many blocks are counted
--- of them.
+-- What is noted of those that are kept: a moment no later than any of them is given up, how many blocks are counted of
+-- them, and that as many as may be open have a place with no more memory.
 pub record IsNoted (moment : Option ℕ) (held : ℕ) (slab : Slab Kept) : Type 0 where
   pub soonest : NoneSooner moment slab
   pub counted : held ≡ blocks_in slab
+  pub places : MOST_OPEN ≤ slab.capacity

@@ -35,6 +35,10 @@ GivesOut one old new = (blocks : ℕ) × IsPermutation old (kept_as one blocks �
 abbrev pub TakesIn : Opened → List Kept → List Kept → Type 0
 TakesIn one old new = (blocks : ℕ) × Loses (kept_as one blocks ∷ old) new
 
+-- this connection comes in as it is, and the others are those that were there, as they were
+abbrev pub ComesIn : Opened → List Kept → List Kept → Type 0
+ComesIn one old new = GivesOut one new old
+
 -- it comes in with no more time than it had
 abbrev pub TakesInBy : Opened → List Kept → List Kept → Type 0
 TakesInBy first old new = (one : Opened) × TakesIn one old new × (as_nanos one.end ≤ as_nanos first.end)

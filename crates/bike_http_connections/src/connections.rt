@@ -3,7 +3,7 @@
 ghost use Rattle.std.specs.Prelude.{◌≡◌, ◌∷◌, ◌-◌, map, IsTrue, IfOk, Some, None, if◌then◌else◌};
 ghost use Rattle.std.specs.Duration.{as_nanos};
 ghost use Rattle.bike_http_connection.specs.Connected.{begun_as, peer_as, answered};
-ghost use Rattle.bike_http_connections.specs.Ahead.{Loses, fresh, ahead_of};
+ghost use Rattle.bike_http_connections.specs.Ahead.{Loses, Stay, StayBut, fresh, ahead_of};
 ghost use Rattle.bike_http_connections.specs.Handed.{Gives, Hands, HandsOver, AreWhole};
 ghost use Rattle.bike_http_connections.specs.Turns.{nanos, sooner_of, time_until};
 ghost use Rattle.bike_http_connections.specs.Ending.{EndsFirst};
@@ -101,9 +101,10 @@ impl<N: Network> Connections<N> {
 
     /// Takes in a connection that was accepted at this moment, and of whose request this came.
     fn take_in(&mut self, socket: N::Socket, moment: Moment, came: &[u8])
-        ensures { IsTrue N.Socket.is_known
+        ensures kept { IsTrue N.Socket.is_known
             → Loses (begun_as N.Socket.input N.Socket.coming N.Socket.taken socket moment came.now ∷ self.old)
             self.new }
+        ensures others { Stay self.old self.new }
     {
         let Ok(connection) = Connection::begin(self.alloc, socket, moment, self.now, came) else {
             return;
@@ -181,7 +182,8 @@ impl<N: Network> Connections<N> {
 
     /// Goes on with one whose socket is ready; whether there was one.
     fn step_one(&mut self) -> bool
-        ensures { IsTrue N.Socket.is_known → Loses self.old self.new }
+        ensures kept { IsTrue N.Socket.is_known → Loses self.old self.new }
+        ensures others { StayBut 1 self.old self.new }
     {
         let Some(key) = self.network.next_ready() else {
             return false;
@@ -193,7 +195,8 @@ impl<N: Network> Connections<N> {
 
     /// Goes on with those whose socket is ready.
     fn step_ready(&mut self)
-        ensures { IsTrue N.Socket.is_known → Loses self.old self.new }
+        ensures kept { IsTrue N.Socket.is_known → Loses self.old self.new }
+        ensures others { StayBut TURN self.old self.new }
     {
         for _turn in 0..TURN {
             if !self.step_one() {
@@ -324,6 +327,7 @@ impl<N: Network> Connections<N> {
         ensures ahead { IsTrue N.Socket.is_known → Loses (ahead_of self.old) (ahead_of self.new) }
         ensures clients { IsTrue N.Socket.is_known
             → Loses (answered (peer_as N.Socket.input N.Socket.taken peer) answer ∷ self.old) self.new }
+        ensures others { Stay self.old self.new }
     {
         let connection = peer.into_answered(answer, is_early);
         self.connections

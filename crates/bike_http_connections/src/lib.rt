@@ -7,7 +7,7 @@
 #![tactic(auto)]
 
 mod connections;
-mod entry;
+mod counted;
 mod limits;
 mod network;
 mod open;

@@ -1,17 +1,18 @@
 //! The connections that are open.
 
-ghost use Rattle.std.specs.Prelude.{◌≡◌, ◌<◌, ◌≤◌, ◌↔◌, ◌+◌, ◌*◌, [], ◌∷◌, length, min, Some};
+ghost use Rattle.std.specs.Prelude.{◌≡◌, ◌<◌, ◌≤◌, ◌↔◌, ◌+◌, ◌-◌, ◌*◌, [], ◌∷◌, length, min, Some};
 ghost use Rattle.std.specs.Prelude.{IsTrue, false, IfOk, IfSome, IfNone};
 ghost use Rattle.std.specs.Duration.{as_nanos, max_nanos};
-ghost use Rattle.bike_http_connections.specs.Ahead.{Loses};
+ghost use Rattle.bike_http_connection.specs.Connected.{IsRequest, handed_as};
+ghost use Rattle.bike_http_connections.specs.Ahead.{Loses, Stay, StayBut};
 ghost use Rattle.bike_http_connections.specs.Handed.{Gives};
 ghost use Rattle.bike_http_connections.specs.Ending.{clients_in, NoneSooner, IsOfOne, EndsLate, EndsLateAt};
 ghost use Rattle.bike_http_connections.specs.Ending.{in_time, ComesFirst, EndsFirst};
-ghost use Rattle.bike_http_connections.specs.Kept.{blocks_in, GivesOut, TakesIn, TakesInBy};
+ghost use Rattle.bike_http_connections.specs.Kept.{blocks_in, GivesOut, TakesIn, TakesInBy, ComesIn};
 ghost use Rattle.bike_http_connections.specs.Turns.{nanos, sooner_of, time_until};
-ghost use Rattle.bike_http_connections.specs.Table.{clients_of, KeepsOpened, HasWork};
+ghost use Rattle.bike_http_connections.specs.Table.{clients_of, queue_of, KeepsOpened, HasTurn, HasWork};
 
-use crate::entry::Entry;
+use crate::counted::CountedConnection;
 use crate::limits::MOST_OPEN;
 use crate::room::Room;
 use crate::times::Deadlines;
@@ -30,7 +31,7 @@ const LINGER: u64 = 200;
 #[derive(Drop)]
 pub(crate) struct Open<S: Socket> {
     alloc: Global,
-    connections: Slab<Entry<S>>,
+    connections: Slab<CountedConnection<S>>,
     queues: Queues,
     room: Room,
     deadlines: Deadlines,
@@ -52,12 +53,13 @@ impl<S: Socket> Model for Open<S> {
       going = o.queues.going.items;
     } };
 
-    // None of them is given up before the soonest of the deadlines, and the room that is taken is that of all of them.
+    // None of them is given up before the soonest of the deadlines, the room that is taken is that of all of them, and
+    // as many as may be open have a place.
     ghost invariant = { λ o. IsNoted (nanos o.deadlines.soonest) o.room.held o.connections };
 }
 
 /// The deadlines of those that are open.
-fn deadlines_of<S: Socket>(connections: &Slab<Entry<S>>) -> Deadlines
+fn deadlines_of<S: Socket>(connections: &Slab<CountedConnection<S>>) -> Deadlines
     ensures all { NoneSooner (nanos result.soonest) connections.now }
     ensures some { IsOfOne (nanos result.soonest) connections.now }
 {
@@ -72,13 +74,14 @@ fn deadlines_of<S: Socket>(connections: &Slab<Entry<S>>) -> Deadlines
 
 /// Ends the connection of this key where its time is over.
 fn end_where_late<S: Socket>(
-    connections: &mut Slab<Entry<S>>,
+    connections: &mut Slab<CountedConnection<S>>,
     room: &mut Room,
     key: usize,
     now: Duration,
 )
     ensures lost { Loses (clients_in connections.old.slots) (clients_in connections.new.slots) }
     ensures late { EndsLateAt (as_nanos now) connections.old connections.new key }
+    ensures places { connections.new.capacity ≡ connections.old.capacity }
     ensures room { room.old.held ≡ blocks_in connections.old → room.new.held ≡ blocks_in connections.new }
 {
     let is_late = match connections.get(key) {
@@ -93,9 +96,10 @@ fn end_where_late<S: Socket>(
 }
 
 /// Ends those whose time is over, and no other.
-fn end_late<S: Socket>(connections: &mut Slab<Entry<S>>, room: &mut Room, now: Duration)
+fn end_late<S: Socket>(connections: &mut Slab<CountedConnection<S>>, room: &mut Room, now: Duration)
     ensures lost { Loses (clients_in connections.old.slots) (clients_in connections.new.slots) }
     ensures late { EndsLate (as_nanos now) connections.old connections.new }
+    ensures places { connections.new.capacity ≡ connections.old.capacity }
     ensures room { room.old.held ≡ blocks_in connections.old → room.new.held ≡ blocks_in connections.new }
 {
     for key in 0..connections.capacity() {
@@ -205,9 +209,7 @@ impl<S: Socket> Open<S> {
         // Those that are open, which stay as they are, and its turn.
         ensures kept { KeepsOpened self.old self.new }
         ensures ended { step ≡ Step.Over → result ≡ false }
-        ensures settles { step ≡ Step.Settled → length self.old.ready < MOST_OPEN
-            → length self.old.feeds < MOST_OPEN → IsTrue result }
-        ensures goes_on { step ≡ Step.GoesOn → length self.old.going < MOST_OPEN → IsTrue result }
+        ensures turn { HasTurn step self.old → IsTrue result }
     {
         match step {
             Step::Waits => connection.watch(registry, key).is_ok(),
@@ -216,6 +218,24 @@ impl<S: Socket> Open<S> {
             Step::Settled => self.queues.add(key, connection.may_be_feed()),
             Step::Sent => self.lingers(key, connection, now),
             Step::Over => false,
+        }
+    }
+
+    /// Keeps a connection that got so far, with its next turn; it ends where it is over, or has no room.
+    fn keep(&mut self, registry: &S::Registry, connection: Connection<S>, step: Step, now: Duration)
+        // The connection: it comes in unless it is over, waits for a socket, was sent, or has no room.
+        ensures kept { Loses (connection.who ∷ clients_of self.old) (clients_of self.new) }
+        ensures time { TakesInBy connection self.old.opened self.new.opened }
+        ensures comes_in { HasTurn step self.old → length self.old.opened < MOST_OPEN
+            → ComesIn connection self.old.opened self.new.opened }
+        ensures ended { step ≡ Step.Over → self.new.opened ≡ self.old.opened }
+        // The others.
+        ensures others { Stay self.old.opened self.new.opened }
+    {
+        let mut connection = connection;
+        let key = self.connections.vacant_key();
+        if self.is_kept(registry, key, &mut connection, step, now) {
+            self.put_back(connection);
         }
     }
 
@@ -228,12 +248,10 @@ impl<S: Socket> Open<S> {
     )
         ensures kept { IsTrue S.is_known → Loses (connection.who ∷ clients_of self.old) (clients_of self.new) }
         ensures time { TakesInBy connection self.old.opened self.new.opened }
+        ensures others { Stay self.old.opened self.new.opened }
     {
-        let (mut connection, step) = connection.step();
-        let key = self.connections.vacant_key();
-        if self.is_kept(registry, key, &mut connection, step, now) {
-            self.put_back(connection);
-        }
+        let (connection, step) = connection.step();
+        self.keep(registry, connection, step, now);
     }
 
     /// Takes a connection out.
@@ -242,6 +260,7 @@ impl<S: Socket> Open<S> {
             Loses (clients_of self.old) (connection.who ∷ clients_of self.new)) }
         ensures whole { IfSome result (λ connection. GivesOut connection self.old.opened self.new.opened) }
         ensures none { IfNone result (self.new ≡ self.old) }
+        ensures noted { self.new ≡ record self.old { opened = self.new.opened } }
     {
         let entry = self.connections.try_remove(key)?;
         self.room.give_back(entry.counted());
@@ -250,13 +269,18 @@ impl<S: Socket> Open<S> {
 
     /// Puts a connection in as it is, and notes when it is given up.
     fn put_back(&mut self, connection: Connection<S>)
+        // Those that are open: it comes in where it has a place, and the others stay.
         ensures kept { Loses (connection.who ∷ clients_of self.old) (clients_of self.new) }
         ensures whole { TakesIn connection self.old.opened self.new.opened }
+        ensures others { Stay self.old.opened self.new.opened }
+        ensures comes_in { length self.old.opened < MOST_OPEN → ComesIn connection self.old.opened self.new.opened }
+        // What is noted of them.
         ensures noted { self.new.soonest ≡ sooner_of self.old.soonest (Some (as_nanos connection.end)) }
+        ensures turns { self.new ≡ record self.old { opened = self.new.opened; soonest = self.new.soonest } }
     {
         self.deadlines.note(connection.end());
         let blocks = self.room.take(connection.blocks());
-        let entry = Entry::new(connection, blocks);
+        let entry = CountedConnection::new(connection, blocks);
         if self.connections.insert(entry).is_err() {
             self.room.give_back(blocks);
         }
@@ -264,7 +288,8 @@ impl<S: Socket> Open<S> {
 
     /// Goes on with a connection whose socket may be ready.
     pub(crate) fn step(&mut self, registry: &S::Registry, key: usize, now: Duration)
-        ensures { IsTrue S.is_known → Loses (clients_of self.old) (clients_of self.new) }
+        ensures kept { IsTrue S.is_known → Loses (clients_of self.old) (clients_of self.new) }
+        ensures others { StayBut 1 self.old.opened self.new.opened }
     {
         if let Some(connection) = self.remove(key) {
             self.insert(registry, connection, now);
@@ -273,7 +298,8 @@ impl<S: Socket> Open<S> {
 
     /// Goes on with one of those that were put off.
     fn go_on_with(&mut self, registry: &S::Registry, key: usize, now: Duration)
-        ensures { IsTrue S.is_known → Loses (clients_of self.old) (clients_of self.new) }
+        ensures kept { IsTrue S.is_known → Loses (clients_of self.old) (clients_of self.new) }
+        ensures others { StayBut 1 self.old.opened self.new.opened }
     {
         if let Some(mut connection) = self.remove(key) {
             connection.set_going(false);
@@ -283,13 +309,41 @@ impl<S: Socket> Open<S> {
 
     /// Goes on with those that were put off.
     pub(crate) fn go_on(&mut self, registry: &S::Registry, now: Duration)
-        ensures { IsTrue S.is_known → Loses (clients_of self.old) (clients_of self.new) }
+        ensures kept { IsTrue S.is_known → Loses (clients_of self.old) (clients_of self.new) }
+        ensures others { StayBut (length self.old.going) self.old.opened self.new.opened }
     {
         for _turn in 0..self.queues.count_put_off() {
             let Some(key) = self.queues.next_put_off() else {
                 return;
             };
             self.go_on_with(registry, key, now);
+        }
+    }
+
+    /// Takes a connection out that asks for this kind of answer, and whose request is there. Another stays.
+    fn take_request(&mut self, key: usize, is_feed: bool) -> Option<Exchange<S>>
+        // The connection, or none.
+        ensures taken { IfSome result (λ exchange. Loses (clients_of self.old)
+            (handed_as S.input S.coming S.taken exchange ∷ clients_of self.new)) }
+        ensures whole { IfSome result (λ exchange. IsRequest S.is_known S.coming exchange) }
+        ensures lost { IfNone result (Loses (clients_of self.old) (clients_of self.new)) }
+        ensures stay { length self.old.opened ≤ MOST_OPEN
+            → IfNone result (Stay (clients_of self.old) (clients_of self.new)) }
+        // The others.
+        ensures others { StayBut 1 self.old.opened self.new.opened }
+        ensures turns { self.new ≡ record self.old { opened = self.new.opened; soonest = self.new.soonest } }
+    {
+        let connection = self.remove(key)?;
+        if connection.may_be_feed() != is_feed {
+            self.put_back(connection);
+            return None;
+        }
+        match connection.into_exchange() {
+            Ok(exchange) => Some(exchange),
+            Err(connection) => {
+                self.put_back(connection);
+                None
+            }
         }
     }
 
@@ -301,29 +355,23 @@ impl<S: Socket> Open<S> {
         is_feed: bool,
         blocks: usize,
     ) -> Option<(Exchange<S>, ResponseBuffer)>
-        ensures { Gives S.is_known S.input S.coming S.taken (clients_of self.old) (clients_of self.new) result }
+        ensures gives { Gives S.is_known S.input S.coming S.taken (clients_of self.old) (clients_of self.new) result }
+        ensures others { StayBut 1 self.old.opened self.new.opened }
+        ensures turns { self.new ≡ record self.old { opened = self.new.opened; soonest = self.new.soonest } }
     {
-        let connection = self.remove(key)?;
-        if connection.may_be_feed() != is_feed {
-            self.put_back(connection);
-            return None;
-        }
-        match connection.into_exchange() {
-            Ok(exchange) => match ResponseBuffer::new(self.alloc, blocks.saturating_mul(BLOCK)) {
-                Ok(answer) => Some((exchange, answer)),
-                Err(AllocError) => None,
-            },
-            Err(connection) => {
-                self.put_back(connection);
-                None
-            }
+        let exchange = self.take_request(key, is_feed)?;
+        match ResponseBuffer::new(self.alloc, blocks.saturating_mul(BLOCK)) {
+            Ok(answer) => Some((exchange, answer)),
+            Err(AllocError) => None,
         }
     }
 
     /// The next of those that may ask for a feed, or of the others. A feed is handed out where there is room for the
     /// longest.
     pub(crate) fn next(&mut self, is_feed: bool) -> Option<(Exchange<S>, ResponseBuffer)>
-        ensures { Gives S.is_known S.input S.coming S.taken (clients_of self.old) (clients_of self.new) result }
+        ensures gives { Gives S.is_known S.input S.coming S.taken (clients_of self.old) (clients_of self.new) result }
+        ensures others { StayBut (length (queue_of is_feed self.old) - length (queue_of is_feed self.new))
+            self.old.opened self.new.opened }
     {
         if is_feed && !self.room.fits_feed() {
             return None;

@@ -126,8 +126,8 @@ impl Queues {
         }
     }
 
-    /// One more goes on in the next turn; false where memory is refused. None is asked for before as many wait as may be
-    /// open.
+    /// One more goes on in the next turn; false where memory is refused. None is asked for before as many wait as may
+    /// be open.
     pub(crate) fn put_off(&mut self, key: usize) -> bool
         ensures going { self.new.going.items
             ≡ (if result then self.old.going.items ++ key ∷ [] else self.old.going.items) }

@@ -29,4 +29,4 @@ returns g c known =
     c.in-Some.is (c.in_ok-accepted.ensures.accepts known))
     (subst (λ (told : _). IfSome told (λ one. IsFresh g.N.Socket.Socket.coming g.N.Socket.Socket.input g.N.Socket.Socket.taken (take one.2 c.accept_alone.new.piece) one.0))
     c.in-Some.is (c.in_ok-accepted.ensures.fresh known))
-    (into_seen _ _ c.take_in.new.self c.read_clock.ensures (c.take_in.ensures known))
+    (into_seen _ _ c.take_in.new.self c.read_clock.ensures (c.take_in.ensures.kept known))

@@ -15,7 +15,7 @@ returns-in-One g c known =
     (subst (λ (told : _). Picks g.N.Socket.Socket.coming (g.N.Network.ahead c.self.inside.network) (g.N.Network.ahead c.accept.new.self) told)
     c.in-One.is (c.in_ok-socket.ensures.accepts known))
     (subst (λ (told : _). IsFreshOne g.N.Socket.Socket.coming g.N.Socket.Socket.input g.N.Socket.Socket.taken told) c.in-One.is (c.in_ok-socket.ensures.fresh known))
-    (c.take_in.ensures known)
+    (c.take_in.ensures.kept known)
 
 pub returns-in-Lost : goal.returns-in-Lost
 returns-in-Lost g c known =

@@ -1,6 +1,7 @@
-use Rattle.std.proofs.Common.{◌≡◌, true, false, List, ap, subst, sym, ◌∙◌}
+use Rattle.std.proofs.Common.{ℕ, ◌≤◌, ◌≡◌, true, false, List, ap, subst, sym, ◌∙◌}
 use Rattle.std.specs.Duration.{as_nanos}
 use Rattle.bike_http_connection.specs.Connected.{Connected}
+use Rattle.bike_http_connections.specs.declared.limits.TheConstants.{MOST_OPEN}
 use Rattle.bike_http_connections.specs.Ahead.{Loses}
 use Rattle.bike_http_connections.specs.Turns.{nanos}
 use Rattle.bike_http_connections.specs.Ending.{clients_in}
@@ -12,6 +13,7 @@ pub invariant_of-self : goal.invariant_of-self
 invariant_of-self g c = record {
   soonest = c.deadlines_of-self-inside.ensures.all;
   counted = c.end_late.ensures.room c.self.invariant.counted;
+  places = subst (λ (n : ℕ). MOST_OPEN ≤ n) (sym c.end_late.ensures.places) c.self.invariant.places;
 }
 
 pub returns-clause-late : goal.returns-clause-late

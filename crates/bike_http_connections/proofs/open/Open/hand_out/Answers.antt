@@ -1,30 +1,15 @@
-use Rattle.std.proofs.Common.{subst, sym, refl, ap}
-use Rattle.bike_http_connection.specs.Connected.{Opened}
+use Rattle.std.proofs.Common.{subst, sym}
 use Rattle.bike_http_connections.specs.Handed.{Gives}
-use Rattle.bike_http_connections.proofs.Losing.{back_again, ends_there}
-use Rattle.bike_http_connections.proofs.Giving.{gives_taken}
+use Rattle.bike_http_connection.specs.Connected.{handed_as}
+use Rattle.bike_http_connections.proofs.Losing.{ends_there}
 use Rattle.bike_http_connections.specs.Table.{clients_of}
 use Rattle.bike_http_connections.proofs.open.Open.hand_out.Goals as goal
-use Rattle.bike_http_connections.proofs.open.Open.hand_out.Goals.{in-Ok-new, in-Err-new}
+use Rattle.bike_http_connections.proofs.open.Open.hand_out.Goals.{in-Ok, in-Err}
 
-pub returns-then-may_be_feed-is_feed : goal.returns-then-may_be_feed-is_feed
-returns-then-may_be_feed-is_feed g c =
-    back_again (clients_of c.args.self.now) (clients_of c.remove.new.self) _ (clients_of c.put_back.new.self) c.in_ok-connection.connection.who _ refl refl
-    c.in_ok-connection.ensures.taken c.put_back.ensures.kept
-
-pub returns-after-new : goal.returns-after-new
-returns-after-new g c = elim c.match-new.branch [
-  | in-Ok-new w ↦ subst (λ (given : _). Gives g.S.Socket.is_known g.S.Socket.input g.S.Socket.coming g.S.Socket.taken (clients_of c.args.self.now) (clients_of c.remove.new.self) given) (sym w.result-is) (
-    gives_taken g.S.Socket.is_known g.S.Socket.input g.S.Socket.coming g.S.Socket.taken (clients_of c.args.self.now) (clients_of c.remove.new.self) c.in_ok-connection.connection.who c.in-Ok.exchange
-        c.in_ok-connection.ensures.taken c.in-Ok.ensures.handed,
-    w.in-Ok-new.ensures,
-    c.in-Ok.ensures.whole,
-  )
-  | in-Err-new w ↦ subst (λ (given : _). Gives g.S.Socket.is_known g.S.Socket.input g.S.Socket.coming g.S.Socket.taken (clients_of c.args.self.now) (clients_of c.remove.new.self) given) (sym w.result-is)
-      (ends_there (clients_of c.args.self.now) (clients_of c.remove.new.self) c.in_ok-connection.connection.who c.in_ok-connection.ensures.taken)
+pub returns-clause-gives : goal.returns-clause-gives
+returns-clause-gives g c = elim c.match-new.branch [
+  | in-Ok w ↦ subst (λ (given : _). Gives g.S.Socket.is_known g.S.Socket.input g.S.Socket.coming g.S.Socket.taken (clients_of c.args.self.now) (clients_of c.take_request.new.self) given) (sym w.result-is)
+      (c.in_ok-exchange.ensures.taken, w.in-Ok.ensures, c.in_ok-exchange.ensures.whole)
+  | in-Err w ↦ subst (λ (given : _). Gives g.S.Socket.is_known g.S.Socket.input g.S.Socket.coming g.S.Socket.taken (clients_of c.args.self.now) (clients_of c.take_request.new.self) given) (sym w.result-is)
+      (ends_there (clients_of c.args.self.now) (clients_of c.take_request.new.self) (handed_as g.S.Socket.input g.S.Socket.coming g.S.Socket.taken c.in_ok-exchange.exchange) c.in_ok-exchange.ensures.taken)
 ]
-
-pub returns-in-Err : goal.returns-in-Err
-returns-in-Err g c =
-    back_again (clients_of c.args.self.now) (clients_of c.remove.new.self) _ (clients_of c.put_back-in-Err.new.self) c.in_ok-connection.connection.who _ refl (ap (λ (one : Opened). one.who) c.in-Err.ensures.kept)
-    c.in_ok-connection.ensures.taken c.put_back-in-Err.ensures.kept

@@ -1,5 +1,6 @@
-use Rattle.std.proofs.Common.{ℕ, ◌∷◌, ◌-◌, ap, subst, sym, ◌∙◌}
+use Rattle.std.proofs.Common.{ℕ, ◌≤◌, ◌∷◌, ◌-◌, ap, subst, sym, ◌∙◌}
 use Rattle.bike_http_connection.specs.Connected.{Connected, Opened}
+use Rattle.bike_http_connections.specs.declared.limits.TheConstants.{MOST_OPEN}
 use Rattle.bike_http_connections.specs.Ahead.{Loses}
 use Rattle.bike_http_connections.specs.Ending.{clients_in}
 use Rattle.bike_http_connections.specs.Table.{Table, clients_of}
@@ -14,6 +15,7 @@ invariant_of-self-2 g c = record {
   counted = blocks_taken c.self.inside.connections c.try_remove.new.self c.args.key c.self.inside.room.held c.give_back.new.self.held c.in_ok-entry.entry
       c.in_ok-entry.ensures.value c.in_ok-entry.ensures.slots c.self.invariant.counted
       (c.give_back.ensures ∙ ap (λ (n : ℕ). c.self.inside.room.held - n) c.counted.ensures);
+  places = subst (λ (n : ℕ). MOST_OPEN ≤ n) (sym c.in_ok-entry.ensures.capacity) c.self.invariant.places;
 }
 
 pub returns-clause-taken : goal.returns-clause-taken

@@ -9,12 +9,12 @@ use std::time::Duration;
 
 /// A connection that is open, and how many blocks are counted as those of its answer.
 #[derive(Drop)]
-pub(crate) struct Entry<S: Socket> {
+pub(crate) struct CountedConnection<S: Socket> {
     connection: Connection<S>,
     blocks: usize,
 }
 
-impl<S: Socket> Model for Entry<S> {
+impl<S: Socket> Model for CountedConnection<S> {
     ghost use Rattle.bike_http_connections.specs.Kept.{Kept, kept_as};
 
     ghost Value = { Kept };
@@ -22,12 +22,12 @@ impl<S: Socket> Model for Entry<S> {
     ghost view = { λ e. kept_as e.connection e.blocks };
 }
 
-impl<S: Socket> Entry<S> {
+impl<S: Socket> CountedConnection<S> {
     /// A connection of which so many blocks are counted.
-    pub(crate) fn new(connection: Connection<S>, blocks: usize) -> Entry<S>
+    pub(crate) fn new(connection: Connection<S>, blocks: usize) -> CountedConnection<S>
         ensures { result ≡ kept_as connection blocks }
     {
-        Entry { connection, blocks }
+        CountedConnection { connection, blocks }
     }
 
     /// When the connection is given up.
