@@ -32,13 +32,13 @@ AreCallsOf [] = Unit {0}
 AreCallsOf (x ∷ xs) = AreCalls x.calls × AreCallsOf xs
 
 -- the requests that act, session after session
-abbrev pub history : List Session → List Call
-history [] = []
-history (x ∷ xs) = take x.acting x.calls ++ history xs
+abbrev pub all_calls : List Session → List Call
+all_calls [] = []
+all_calls (x ∷ xs) = take x.acting x.calls ++ all_calls xs
 
 -- the operator after the sessions
 abbrev pub after_sessions : Operator → List Session → Operator
-after_sessions s xs = after s (history xs)
+after_sessions s xs = after s (all_calls xs)
 
 -- what was answered, session by session: each is served by the operator which those before it leave
 abbrev pub answers_given : Operator → List Session → List (List Reply)
@@ -47,13 +47,13 @@ answers_given s (x ∷ xs) = take x.answered (replies s x.calls) ∷ answers_giv
 
 -- of all requests with one caller and key, in whichever sessions they come, at most one is accepted
 abbrev pub AcceptsOnce : Operator → List Session → Type 0
-AcceptsOnce s xs = (key : Key) → times_accepted s key (history xs) ≤ 1
+AcceptsOnce s xs = (key : Key) → times_accepted s key (all_calls xs) ≤ 1
 
 -- once a request was accepted, one with its caller and key and
 -- an equal command is answered as it was, and changes nothing
 abbrev pub AnswersAgain : Operator → List Session → Type 0
 AnswersAgain s xs = (before between later : List Call) (c d : Call)
-    → history xs ≡ before ++ (c ∷ between) ++ later → is_accepted (after s before) c.1 ≡ true → key_in d.1 ≡ key_in c.1
+    → all_calls xs ≡ before ++ (c ∷ between) ++ later → is_accepted (after s before) c.1 ≡ true → key_in d.1 ≡ key_in c.1
     → is_same c.1.command d.1.command ≡ true
     → step (after s (before ++ c ∷ between)) d.0 d.1
     ≡ ((step (after s before) c.0 c.1).0, after s (before ++ c ∷ between))
@@ -61,10 +61,10 @@ AnswersAgain s xs = (before between later : List Call) (c d : Call)
 -- and one with its caller and key and another command is refused, and changes nothing
 abbrev pub RefusesOthers : Operator → List Session → Type 0
 RefusesOthers s xs = (before between later : List Call) (c d : Call)
-    → history xs ≡ before ++ (c ∷ between) ++ later → is_accepted (after s before) c.1 ≡ true → key_in d.1 ≡ key_in c.1
+    → all_calls xs ≡ before ++ (c ∷ between) ++ later → is_accepted (after s before) c.1 ≡ true → key_in d.1 ≡ key_in c.1
     → is_same c.1.command d.1.command ≡ false
     → step (after s (before ++ c ∷ between)) d.0 d.1 ≡ (Refused KeyReused, after s (before ++ c ∷ between))
 
 -- requests whose caller and key are kept when they come can be left out of all sessions
 abbrev pub LeavesRetriesOut : Operator → List Session → Type 0
-LeavesRetriesOut s xs = after s (without_retries s (history xs)) ≡ after_sessions s xs
+LeavesRetriesOut s xs = after s (without_retries s (all_calls xs)) ≡ after_sessions s xs

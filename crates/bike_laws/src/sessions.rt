@@ -1,12 +1,11 @@
-//! The laws. What acts in a list of sessions is one list of requests, their history, so what holds of each list holds
-//! of it.
+//! The laws. What acts in a list of sessions is one list of requests, so what holds of each list holds of it.
 
 ghost use Rattle.std.specs.Prelude.{◌≡◌, ◌++◌, ◌∷◌, List, length, take, drop};
 ghost use Rattle.bike_operator.specs.Operator.{Operator, no_operator};
 ghost use Rattle.bike_operator.specs.Sound.{IsSound};
 ghost use Rattle.bike_operator.specs.Runs.{Call, after, replies};
 ghost use Rattle.bike_laws.specs.History.{accepted_of, last_moment_of, IsInOrder, IsServedAgain, IsMadeAgain};
-ghost use Rattle.bike_laws.specs.Sessions.{Session, IsSession, AreCallsOf, history, after_sessions, AcceptsOnce};
+ghost use Rattle.bike_laws.specs.Sessions.{Session, IsSession, AreCallsOf, all_calls, after_sessions, AcceptsOnce};
 ghost use Rattle.bike_laws.specs.Sessions.{AnswersAgain, RefusesOthers, LeavesRetriesOut};
 
 /// The law of acceptance: of all requests with one caller and key, in whichever sessions they come, at most one is
@@ -29,12 +28,12 @@ pub fn without_retries_law()
     ensures { (s : Operator) (xs : List Session) → LeavesRetriesOut s xs }
 {}
 
-/// The law of answers: what was answered in a session are the replies to its first requests in the history of all
+/// The law of answers: what was answered in a session are the replies to its first requests among those of all
 /// sessions.
 pub fn answers_law()
     ensures { (s : Operator) (xs ys : List Session) (x : Session) → IsSession x
         → take x.answered (replies (after_sessions s xs) x.calls)
-        ≡ take x.answered (drop (length (history xs)) (replies s (history (xs ++ x ∷ ys)))) }
+        ≡ take x.answered (drop (length (all_calls xs)) (replies s (all_calls (xs ++ x ∷ ys)))) }
 {}
 
 /// The law of the history: a list adds to an operator's history the requests that are accepted, in order. Served at the
