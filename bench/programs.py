@@ -8,7 +8,9 @@ import re
 import shlex
 import signal
 import subprocess
+import tempfile
 import time
+from pathlib import Path
 
 SUBREAPER = 36  # of prctl: this process becomes the parent of its children's children
 PIPE_SIZE = 1 << 20  # bytes
@@ -18,6 +20,12 @@ PATIENCE = 600  # seconds without an answer
 # child of this process. So the greatest memory that the system tells of it is its own. Of a direct child it would be at
 # least this process's.
 START = """exec 3<&0; sh -c 'echo $$ >&2; exec "$@"' sh "$@" <&3 3<&- &"""
+# Without the limits memset and memcpy of a page are `rep stosb` and `rep movsb`, which callgrind counts once a byte.
+COUNTING = [
+    "env", "PYTHONHASHSEED=0",
+    "GLIBC_TUNABLES=" + ":".join(f"glibc.cpu.x86_rep_{it}_threshold=1000000000" for it in ("stosb", "movsb")),
+    "valgrind", "-q", "--tool=callgrind", "--trace-children=yes",
+]
 
 
 class Failed(Exception):
@@ -34,6 +42,37 @@ class Program:
             os.path.abspath(it) if os.path.exists(it) else it for it in shlex.split(command if named else text)
         ]
         self.name = name if named else os.path.basename(self.words[-1])
+
+
+class Counted:
+    """A program under callgrind, which counts the instructions of its processes in user mode."""
+
+    def __init__(self, program, folder):
+        """Takes the program, and a folder for what callgrind writes."""
+        self.name, self.folder = program.name, Path(tempfile.mkdtemp(prefix="counted-", dir=folder))
+        self.pipes = f"--vgdb-prefix={self.folder}-vgdb"
+        self.words = [*COUNTING, self.pipes, f"--callgrind-out-file={self.folder}/%p", *program.words]
+
+    def instructions(self, process=None):
+        """How many were counted since the last call, up to the end of the runs, or up to now of a process that
+        waits."""
+        if process:
+            words = ["timeout", "60", "vgdb", self.pipes, f"--pid={process.number}", "dump"]
+            told = subprocess.run(words, stdin=subprocess.DEVNULL, capture_output=True, text=True, check=False)
+            if told.returncode:
+                raise Failed(f"{self.name}: vgdb: status {told.returncode}; it said {told.stderr.strip()[-200:]}")
+        files = list(self.folder.iterdir())
+        totals = [total_of(it.read_text(encoding="utf-8", errors="replace")) for it in files]
+        for it in files:
+            it.unlink()
+        if not sum(totals):
+            raise Failed(f"{self.name}: callgrind counted nothing")
+        return sum(totals)
+
+
+def total_of(counted):
+    """The instructions in all of what callgrind wrote, or none where it wrote no sum."""
+    return sum(int(it) for it in re.findall(r"^totals: (\d+)$", counted, re.M))
 
 
 class Usage:

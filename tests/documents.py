@@ -7,6 +7,8 @@ import math
 import os
 import re
 import sqlite3
+import subprocess
+import sys
 
 import days
 import feeds
@@ -92,6 +94,30 @@ def test_tables_of_figures(program):
     assert tables.shown([0.094, 0.996, 9.96, 99.6, 1036.4], 2) == "0.09; 1.0; 10; 100; 1,036"
     assert tables.shown([0.996, 9.996, 99.96, 5], 3) == "1.00; 10.0; 100; 5.00"
     assert tables.shown([2.76, 2.84], 2) == "2.8"
+
+
+def test_instructions_are_counted(program):
+    """bench/run --instructions says in a line which tool is missing. The sums of all that callgrind wrote are read
+    once; that nothing was counted is a fault; and glibc fills and copies without what is counted a byte at a time."""
+    asked = [sys.executable, TOP / "bench/run", "--instructions", "none=/bin/true"]
+    ran = subprocess.run(asked, env={"PATH": program.folder}, capture_output=True, text=True, check=False)
+    assert ran.returncode == 2 and not ran.stdout, ran
+    assert re.fullmatch(r"instructions are counted by valgrind, .*: there is no valgrind\n", ran.stderr), ran.stderr
+    programs = loaded(TOP / "bench/programs.py")
+    counted = programs.Counted(programs.Program("none=/bin/true --plain"), program.folder)
+    assert counted.words[-2:] == ["/bin/true", "--plain"] and counted.name == "none", counted.words
+    for it in "stosb", "movsb":
+        assert f"glibc.cpu.x86_rep_{it}_threshold=1000000000" in counted.words[2], counted.words
+    for name, count in ("7", 40), ("7.1", 2):
+        (counted.folder / name).write_text(f"events: Ir\nsummary: {count}\n\ntotals: {count}\n", encoding="utf-8")
+    assert counted.instructions() == 42
+    try:
+        counted.instructions()
+    except programs.Failed as fault:
+        assert str(fault) == "none: callgrind counted nothing", fault
+    else:
+        raise AssertionError("nothing was counted, and a sum was told")
+    assert "bench/run --instructions " in (TOP / "bench/README.md").read_text(encoding="utf-8")
 
 
 def test_wrong_bodies(program):
