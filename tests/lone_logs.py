@@ -24,7 +24,8 @@ from shared import (
     killed, office, put, quickly, removed, taken, told_with,
 )
 
-LEAST_LOG = 32 + 24 + 512
+# What holds a commit, and what the engine takes for a log beside a FILE of one byte, whose pages aren't its own.
+LEAST_LOG, LEAST_HEAD = 32 + 24 + 512, 32 + 24
 LINES, ANSWERS = asked().splitlines(keepends=True), told().splitlines(keepends=True)
 BEGUN = 30
 OTHER_WORDS = [it for it in EACH_WORD if it[0] not in ("check", "serve")]
@@ -73,16 +74,18 @@ def test_no_word_begins_anew_over_a_log(program):
 
 @quickly
 def test_the_least_log(program):
-    """A shorter log holds no commit, and doesn't keep a FILE from being made."""
+    """A shorter log holds no commit, and doesn't keep a FILE from being made. Beside a FILE of one byte one of 56 bytes
+    does, by its whole header."""
     log = left(program.file, True)[0]["-wal"]
-    for rest in {}, {"": b""}:
-        put({**rest, "-wal": log[:LEAST_LOG]}, program.folder, "city.db")
-        before = beside(program)
-        assert program.run("init", "city.db") == STORE_FAILED
-        assert beside(program) == before
-        put({**rest, "-wal": log[: LEAST_LOG - 1]}, program.folder, "city.db")
-        assert program.run("init", "city.db") == READY
-        assert program.run("check", "city.db") == SOUND
+    for rest, least in ({}, LEAST_LOG), ({"": b""}, LEAST_LOG), ({"": b"S"}, LEAST_HEAD):
+        for size in (it for it in (LEAST_HEAD, LEAST_LOG - 1, LEAST_LOG) if it >= least):
+            put({**rest, "-wal": log[:size]}, program.folder, "city.db")
+            before = beside(program)
+            assert program.run("init", "city.db") == STORE_FAILED, (rest, size)
+            assert beside(program) == before, (rest, size)
+        put({**rest, "-wal": log[: least - 1]}, program.folder, "city.db")
+        assert program.run("init", "city.db") == READY, (rest, least)
+        assert program.run("check", "city.db") == SOUND, (rest, least)
 
 
 def damages(main):

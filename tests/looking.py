@@ -17,8 +17,8 @@ import adoption
 import lone_logs
 from days import ENTRIES, RENTALS
 from shared import (
-    DISTURBED, DONE, FOREIGN, HEADER, NO_SYSTEM, READY, SOUND, STORE_FAILED, Server, at_once, changed, city, held,
-    office, put, quickly, removed, rows_of, taken, told_with,
+    CITY, DISTURBED, DONE, FOREIGN, HEADER, NO_SYSTEM, READY, SOUND, STORE_FAILED, Server, at_once, changed, city, held,
+    killed, office, put, quickly, removed, requests_of, rows_of, taken, told_with,
 )
 
 LOOKS = {
@@ -308,17 +308,15 @@ def test_a_foreign_file_gets_no_log_from_other_words(program):
 
 # ---- Looks and other programs at one time
 
+# Of a FILE of at most so many bytes a look has a copy.
+COPIED = 65_536
 ROWS = HEADER.encode() + b"".join(b"s%d,Station %d,45.%06d,9.1,10\n" % (it, it, it) for it in range(2000))
 
 
-@quickly
-def test_a_look_holds_its_file(program):
-    """While a look isn't done, since nobody reads what it writes, no other program opens FILE. Then it is as whole as
-    ever."""
-    city(program)
-    ended = program.run("import", "city.db", "spring", given=ROWS)
-    assert ended == (0, b"rows 2000\n", b""), ended
-    before, words = beside(program), ["feed", "city.db", "station_information", "--at", "1700000000"]
+def holds_its_file(program, name):
+    """While a look at this feed isn't done, since nobody reads what it writes, no other program opens FILE. Then it is
+    as whole as ever."""
+    before, words = beside(program), ["feed", "city.db", name, "--at", "1700000000"]
     wanted = program.run(*words)
     assert wanted[0] == 0 and len(wanted[1]) > 200000, len(wanted[1])
     with program.started(*words) as looking:
@@ -330,6 +328,26 @@ def test_a_look_holds_its_file(program):
         out, said = looking.communicate(timeout=DISTURBED)
     assert (looking.returncode, first + out, said) == wanted
     assert beside(program) == before
+
+
+@quickly
+def test_a_look_holds_its_file(program):
+    city(program)
+    ended = program.run("import", "city.db", "spring", given=ROWS)
+    assert ended == (0, b"rows 2000\n", b""), ended
+    assert Path(program.folder, "city.db").stat().st_size > COPIED
+    holds_its_file(program, "station_information")
+
+
+@quickly
+def test_a_look_holds_a_file_that_it_copied(program):
+    """A young city that was killed: all but the first page is in the log, and of both files a look has a copy."""
+    commands = [f"add-type\tt{at:035}\tT\tbicycle\thuman\t0\tbasic" for at in range(31)]
+    commands += [f"add-station\ts{at:035}\tS\t1.0\t2.0\t1" for at in range(120)]
+    answers = killed(program, requests_of([*CITY, *commands]))
+    assert b"refused" not in answers and answers.endswith(b"ok\n" * len(commands)), answers[-300:]
+    assert Path(program.folder, "city.db").stat().st_size <= COPIED
+    holds_its_file(program, "station_status")
 
 
 @quickly

@@ -7,6 +7,7 @@ Each wanted answer is written by hand from docs/FORMATS.md, sections 5 and 6.
 import contextlib
 import json
 import os
+import random
 import re
 import resource
 import select
@@ -713,16 +714,25 @@ def test_what_is_refused_changes_nothing(program):
     assert '"last_reported":"2023-11-14T22:00:00Z"' in feed(program, "station_status")
 
 
+def low_ports():
+    """A free port below 1,024; none where this process may listen at none, as any but root mostly."""
+    for port in random.sample(range(1, 1024), 20):
+        with contextlib.suppress(OSError), socket.create_server(("127.0.0.1", port)):
+            return [port]
+    return []
+
+
 def test_a_port_of_choice(program):
     city(program)
-    port = free_port()
-    with program.started("serve", "city.db", "--port", str(port), "--count", "1") as child:
-        assert child.stdout.readline() == f"listening 127.0.0.1:{port}\n".encode()
-        with socket.create_connection(("127.0.0.1", port), timeout=SECONDS) as client:
-            client.sendall(get("/riders/17"))
-            assert rest(client) == NOT_RIDING
-        out, said = child.communicate(timeout=SECONDS)
-        assert (child.returncode, out, said) == (0, b"", b""), (child.returncode, out, said)
+    for port in free_port(), *low_ports():
+        with program.started("serve", "city.db", "--port", str(port), "--count", "1") as child:
+            line = line_of(child)
+            assert line == f"listening 127.0.0.1:{port}\n".encode(), (port, line)
+            with socket.create_connection(("127.0.0.1", port), timeout=SECONDS) as client:
+                client.sendall(get("/riders/17"))
+                assert rest(client) == NOT_RIDING, port
+            out, said = child.communicate(timeout=SECONDS)
+            assert (child.returncode, out, said) == (0, b"", b""), (port, child.returncode, out, said)
 
 
 def test_a_server_that_is_killed(program):
@@ -818,6 +828,8 @@ def test_descriptors_that_it_was_given(program):
             words = ["serve", "city.db", "--port", "0"]
             child = closing.enter_context(program.started(*words, pass_fds=given, preexec_fn=limited(1024)))
             listens = re.fullmatch(rb"listening 127\.0\.0\.1:([0-9]+)\n", line_of(child))
+            # Of these only eight leave room for 1,000 clients and for what is its own.
+            assert bool(listens) == (count == 8), f"given {count} it {'listens' if listens else 'ends'}"
             if not listens:
                 out, said = child.communicate(timeout=SECONDS)
                 assert (child.returncode, out, said) == READ_FAILED, (count, child.returncode, out, said)

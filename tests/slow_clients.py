@@ -13,7 +13,9 @@ import resource
 import signal
 import socket
 import time
+from pathlib import Path
 
+from newest import processor
 from shared import (
     DONE, EIO, FAULTS, START, STARTED, UNAVAILABLE, Server, answer, ask, at_once, body_of, city, environment, error,
     feed, get, get_feed, is_sound, nothing_is, office, post, put, quickly, request, rest, rows_of, taken, told,
@@ -445,6 +447,50 @@ def test_more_clients_than_may_wait(program):
     assert set(found) == {DONE}, set(found)
     assert riders(program) == before + count
     is_sound(program)
+
+
+def is_at_rest(child):
+    """Whether a program waits for something to happen."""
+    return Path(f"/proc/{child.pid}/stat").read_text(encoding="ascii").rsplit(")", 1)[1].split()[0] == "S"
+
+
+# How many bytes of a head come at once, how many come one by one behind them, and of how many clients.
+SHORT_HEAD, LONG_HEAD, BYTES, SENDERS = 100, 8000, 50, 100
+
+
+def cost_of_bytes(server, length):
+    """The nanoseconds of a processor that bytes take which come one by one behind so many of a head."""
+    front = b"GET /riders/9 HTTP/1.1\r\nX: "
+    clients = begin(server, [server.connect] * SENDERS)
+    for client in clients:
+        client.sendall(front.ljust(length, b"x"))
+    until(lambda: is_at_rest(server.child), SOON, "the server waits for more")
+    before = processor(server.child)
+    for _ in range(BYTES):
+        # It is stopped meanwhile, so that it finds them all at once.
+        os.kill(server.child.pid, signal.SIGSTOP)
+        for client in clients:
+            client.sendall(b"x")
+        os.kill(server.child.pid, signal.SIGCONT)
+        until(lambda: is_at_rest(server.child), SOON, "the server waits for more")
+    took = processor(server.child) - before
+    for client in clients:
+        client.sendall(b"\r\n\r\n")
+        found = rest(client)
+        assert found == error(404), found
+        client.close()
+    return took
+
+
+def test_a_long_head_that_comes_byte_by_byte(program):
+    """It isn't looked at anew for each byte: one of a long head costs no more than one of a short head."""
+    city(program)
+    costs = {SHORT_HEAD: [], LONG_HEAD: []}
+    with Server(program) as server:
+        for length in 2 * list(costs):
+            costs[length].append(cost_of_bytes(server, length))
+    short, long = (min(it) / BYTES / SENDERS for it in costs.values())
+    assert long < 2 * short, f"a byte behind {LONG_HEAD} took {long:.0f} ns, and {short:.0f} ns behind {SHORT_HEAD}"
 
 
 def test_clients_that_send_on(program):

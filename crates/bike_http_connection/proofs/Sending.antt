@@ -1,10 +1,11 @@
 -- Answers that are sent in parts.
 use Rattle.std.proofs.Common.{◌≡◌, ℕ, ◌+◌, ◌-◌, ◌≤◌, List, [], ◌∷◌, ◌++◌, ◌<◌, length, length-drop, take, take_all, drop, map, slice_index_or, Option, Some, None, refl, sym, ap, ◌∙◌, subst, arith}
-use Rattle.std.proofs.Common.{append_assoc, append-nil}
+use Rattle.std.proofs.Common.{append_assoc, append-nil, inl, inr}
+use Rattle.std.proofs.lemmas.Bool.{cases_lt}
 use Rattle.std.proofs.lemmas.List.{take-append-drop, drop-append-le, drop-drop, map-append}
 use Rattle.std.proofs.Math.Seq.{drop-append-add}
 use Rattle.std.specs.Io.KnownBytes.{Appends, Keeps}
-use Rattle.bike_http_connection.specs.Answers.{concat, bytes_in, left_of, BeginsWith, Sends}
+use Rattle.bike_http_connection.specs.Answers.{concat, bytes_in, left_of, BeginsWith, FreesTaken, Sends}
 
 -- one block more
 concat-push : (blocks : List (List ℕ)) (block : List ℕ) → concat (blocks ++ block ∷ []) ≡ concat blocks ++ block
@@ -58,14 +59,17 @@ first_in bytes (b ∷ blocks) block last some is =
     subst (λ (x : _). BeginsWith (bytes_in (map bytes (b ∷ blocks)) last) (bytes x)) (sym is)
     (concat (map bytes blocks) ++ last, append_assoc (bytes b) (concat (map bytes blocks)) last)
 
--- .. which is taken, and freed
-pub freed_is : {X : Type 0} (bytes : X → List ℕ) (blocks : List X) (block : X) (last : List ℕ) (taken : ℕ) → 0 < length blocks
-    → block ≡ slice_index_or blocks 0 block → length (bytes block) ≤ taken
-    → left_of (taken - length (bytes block)) (map bytes (drop 1 blocks)) last ≡ left_of taken (map bytes blocks) last
-freed_is bytes [] block last taken some is over = absurd (omega (arith, some))
-freed_is bytes (b ∷ blocks) block last taken some is over =
-    subst (λ (x : _). length (bytes x) ≤ taken → left_of (taken - length (bytes x)) (map bytes blocks) last ≡ left_of taken (map bytes (b ∷ blocks)) last) (sym is)
-    (λ long. sym (left_freed taken (bytes b) (map bytes blocks) last long)) over
+-- what is left stays as it was
+pub freed_is : (full : List (List ℕ)) (taken : ℕ) (left : List (List ℕ)) (after : ℕ) (last : List ℕ) → FreesTaken full taken left after
+    → left_of after left last ≡ left_of taken full last
+freed_is [] taken left after last frees = rw (frees.0, frees.1) refl
+freed_is (block ∷ blocks) taken left after last frees = elim (cases_lt taken (length block)) [
+  | inl less ↦ rw ((frees.1 less).0, (frees.1 less).1) refl
+  | inr over ↦
+      let sum = (frees.0 over).1 in
+      let rest : after ≡ taken - length block = omega (arith, sum) in
+      rw ((frees.0 over).0, rest) (sym (left_freed taken block blocks last over))
+]
 
 -- one block more, behind one that is full
 pub pushed_is : {X : Type 0} (bytes : X → List ℕ) (old new : List X) (full : X) (block more : List ℕ) → new ≡ old ++ full ∷ [] → block ≡ more

@@ -5,6 +5,8 @@ use Rattle.bike_http_connection.specs.declared.peer.Peer.{Peer}
 use Rattle.bike_http_connection.specs.declared.connection.State.{State}
 use Rattle.bike_http_connection.specs.declared.connection.State.TheVariants.{Gathering, Ready, Sending, Lingering}
 use Rattle.bike_http_connection.specs.declared.exchange.Exchange.{Exchange}
+use Rattle.bike_http_connection.specs.declared.socket.Wants.{Wants}
+use Rattle.bike_http_connection.specs.declared.socket.Wants.TheVariants.{Reads, Writes}
 use Rattle.bike_http_connection.specs.Asking.{Coming, ahead_as, coming_from, unread}
 use Rattle.bike_http_connection.specs.Settled.{IsComplete}
 use Rattle.bike_http_connection.specs.Awaiting.{shows_feed}
@@ -36,6 +38,13 @@ left_in (Gathering gathering) = []
 left_in (Ready gathering) = []
 left_in (Sending answer is_early) = answer
 left_in (Lingering pieces) = []
+
+-- what its socket is to be ready for
+abbrev pub awaited_in : State → Wants
+awaited_in (Gathering gathering) = Reads
+awaited_in (Ready gathering) = Reads
+awaited_in (Sending answer is_early) = Writes
+awaited_in (Lingering pieces) = Reads
 
 -- its request is there, and may ask for a feed
 abbrev pub asks_feed : State → Bool

@@ -1,7 +1,7 @@
 //! Answers that go out as their clients take them.
 
 ghost use Rattle.std.specs.Prelude.{◌≡◌, ◌≤◌, ◌++◌, [], length, take, map, vec_items, Some, IfOk, OnErr, IsTrue};
-ghost use Rattle.bike_http_connection.specs.Answers.{bytes_in, BeginsWith, Sends};
+ghost use Rattle.bike_http_connection.specs.Answers.{bytes_in, BeginsWith, FreesTaken, Sends};
 
 use crate::connection::Step;
 use crate::limits::MOST_CALLS;
@@ -52,6 +52,22 @@ fn first_block<'a>(full: &'a VecDeque<Vec<u8>>, last: &'a Vec<u8>) -> &'a [u8]
     }
 }
 
+/// Frees the first full block where so many bytes are taken that none of it is left; how many bytes are taken of what
+/// follows.
+fn free_taken(full: &mut VecDeque<Vec<u8>>, taken: usize) -> usize
+    ensures { FreesTaken (map vec_items full.old.items) taken (map vec_items full.new.items) result }
+{
+    let Some(first) = full.front() else {
+        return taken;
+    };
+    let length = first.len();
+    if taken < length {
+        return taken;
+    }
+    drop(full.pop_front());
+    taken - length
+}
+
 impl ResponseBuffer {
     /// No byte yet, and so many at most. It takes the memory for the first 1,024.
     pub fn new(alloc: Global, room: usize) -> Result<ResponseBuffer, AllocError>
@@ -96,14 +112,7 @@ impl ResponseBuffer {
     fn free(&mut self)
         ensures { self.new ≡ self.old }
     {
-        let Some(first) = self.full.front() else {
-            return;
-        };
-        let length = first.len();
-        if self.taken >= length {
-            self.taken -= length;
-            drop(self.full.pop_front());
-        }
+        self.taken = free_taken(&mut self.full, self.taken);
     }
 
     /// Whether all of it is sent.

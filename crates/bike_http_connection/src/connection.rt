@@ -2,7 +2,7 @@
 
 ghost use Rattle.std.specs.Prelude.{◌≡◌, ◌++◌, ◌+◌, ◌*◌, [], min, IsTrue, IsFalse, IfOk, IfErr};
 ghost use Rattle.std.specs.Duration.{as_nanos, max_nanos};
-ghost use Rattle.bike_http_connection.specs.Connected.{left_in, IsUnderWay, IsReady, IsRequest};
+ghost use Rattle.bike_http_connection.specs.Connected.{left_in, awaited_in, IsUnderWay, IsReady, IsRequest};
 ghost use Rattle.bike_http_connection.specs.Connected.{connected_as, opened_as, begun_as, handed_as};
 ghost use Rattle.bike_http_connection.specs.Asking.{AsksAs, unread, coming_from};
 
@@ -12,7 +12,7 @@ use crate::gathering::Gathering;
 use crate::limits::{MOST_CALLS, PATIENCE, PIECE};
 use crate::peer::Peer;
 use crate::request::RequestReader;
-use crate::socket::Socket;
+use crate::socket::{Socket, Wants};
 use bike_fixed::Moment;
 use std::alloc::{AllocError, Global};
 use std::io;
@@ -87,6 +87,16 @@ fn is_sent(state: &State) -> bool
     match state {
         State::Sending { answer, .. } => answer.is_sent(),
         State::Gathering(_) | State::Ready(_) | State::Lingering { .. } => true,
+    }
+}
+
+/// What the socket is to be ready for: writes while an answer goes out, else reads.
+fn awaited(state: &State) -> Wants
+    ensures { result ≡ awaited_in state.now }
+{
+    match state {
+        State::Sending { .. } => Wants::Writes,
+        State::Gathering(_) | State::Ready(_) | State::Lingering { .. } => Wants::Reads,
     }
 }
 
@@ -337,11 +347,6 @@ impl<S: Socket> Connection<S> {
     pub fn watch(&mut self, registry: &S::Registry, key: usize) -> io::Result<()>
         ensures { self.new ≡ self.old }
     {
-        match &self.state {
-            State::Sending { .. } => self.peer.watch_writes(registry, key),
-            State::Gathering(_) | State::Ready(_) | State::Lingering { .. } => {
-                self.peer.watch_reads(registry, key)
-            }
-        }
+        self.peer.watch(registry, key, awaited(&self.state))
     }
 }

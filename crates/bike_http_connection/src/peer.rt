@@ -1,6 +1,6 @@
 //! The client of a connection.
 
-ghost use Rattle.std.specs.Prelude.{◌≡◌, ◌+◌, ◌*◌, min};
+ghost use Rattle.std.specs.Prelude.{◌≡◌, ◌+◌, ◌*◌, min, OnOk};
 ghost use Rattle.std.specs.Duration.{as_nanos, max_nanos};
 ghost use Rattle.bike_http_connection.specs.Connected.{peer_as, answered};
 
@@ -12,12 +12,12 @@ use bike_fixed::Moment;
 use std::io;
 use std::time::Duration;
 
-/// What the system tells of a socket, by which key.
+/// What the system tells of a socket.
 #[derive(Clone, Copy, PartialEq, Eq)]
 enum Interest {
     Nothing,
-    Reads(usize),
-    Writes(usize),
+    /// When it is ready for this, by this key.
+    Ready(Wants, usize),
 }
 
 /// A client's socket, the moment at which its connection was accepted, and when it is given up, since this began.
@@ -76,20 +76,23 @@ impl<S: Socket> Peer<S> {
         }
     }
 
-    /// Has the system tell what is wanted from now on.
-    fn watch(
+    /// Has the system tell by this key when the socket is ready for what is wanted from now on.
+    pub(crate) fn watch(
         &mut self,
         registry: &S::Registry,
         key: usize,
-        wanted: Interest,
         wants: Wants,
     ) -> io::Result<()>
+        // What the system is to tell.
+        ensures told { OnOk result (self.new.watched ≡ Interest.Ready wants key) }
+        // Who it is, what it sends and took, and when it is given up, stays.
         ensures kept { S.coming self.new.socket ≡ S.coming self.old.socket }
         ensures moment { self.new.moment ≡ self.old.moment }
         ensures end { self.new.end ≡ self.old.end }
         ensures own { S.input self.new.socket ≡ S.input self.old.socket }
         ensures taken { S.taken self.new.socket ≡ S.taken self.old.socket }
     {
+        let wanted = Interest::Ready(wants, key);
         let before = self.watched;
         if before == wanted {
             return Ok(());
@@ -97,27 +100,5 @@ impl<S: Socket> Peer<S> {
         self.watched = wanted;
         self.socket
             .watch(registry, key, wants, before == Interest::Nothing)
-    }
-
-    /// Has the system tell when it can be read.
-    pub(crate) fn watch_reads(&mut self, registry: &S::Registry, key: usize) -> io::Result<()>
-        ensures kept { S.coming self.new.socket ≡ S.coming self.old.socket }
-        ensures moment { self.new.moment ≡ self.old.moment }
-        ensures end { self.new.end ≡ self.old.end }
-        ensures own { S.input self.new.socket ≡ S.input self.old.socket }
-        ensures taken { S.taken self.new.socket ≡ S.taken self.old.socket }
-    {
-        self.watch(registry, key, Interest::Reads(key), Wants::Reads)
-    }
-
-    /// Has the system tell when it can be written.
-    pub(crate) fn watch_writes(&mut self, registry: &S::Registry, key: usize) -> io::Result<()>
-        ensures kept { S.coming self.new.socket ≡ S.coming self.old.socket }
-        ensures moment { self.new.moment ≡ self.old.moment }
-        ensures end { self.new.end ≡ self.old.end }
-        ensures own { S.input self.new.socket ≡ S.input self.old.socket }
-        ensures taken { S.taken self.new.socket ≡ S.taken self.old.socket }
-    {
-        self.watch(registry, key, Interest::Writes(key), Wants::Writes)
     }
 }

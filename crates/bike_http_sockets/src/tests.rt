@@ -252,6 +252,45 @@ fn answered_after_failures(alloc: Global) -> Option<u64> {
     Some(MOST_FAILURES)
 }
 
+/// Whether a client takes its answer that sends and takes by these steps, one in each turn, and then all; none where it
+/// takes a part.
+fn is_answered(alloc: Global, sends: &[u8], takes: &[u8]) -> Option<bool> {
+    let mut taken = Vec::new(alloc);
+    let moment = Moment::new(1_700_000_000)?;
+    let mut clients = VecDeque::with_capacity(alloc, 1).ok()?;
+    clients
+        .push_back(Client {
+            wait: 0,
+            moment,
+            input: b"G /r1 HTTP/1.1\r\n\r\n",
+            sends,
+            takes,
+            is_silent: false,
+            taken: &mut taken,
+        })
+        .ok()?;
+    let mut connections = Connections::new(alloc, SimulatedNetwork::new(clients)).ok()?;
+    answer_all(&mut connections)?;
+    drop(connections);
+    if taken.is_empty() {
+        return Some(false);
+    }
+    if taken.as_slice() == b"G /r1 HTTP/1.1\r\n\r\n".as_slice() {
+        Some(true)
+    } else {
+        None
+    }
+}
+
+/// A turn takes a hundredth of a second.
+#[test]
+fn a_client_has_ten_seconds(rt: HostRuntime) {
+    assert_eq!(rt; is_answered(rt.alloc(), &[PAUSE; 990], &[]), Some(true));
+    assert_eq!(rt; is_answered(rt.alloc(), &[PAUSE; 1010], &[]), Some(false));
+    assert_eq!(rt; is_answered(rt.alloc(), &[], &[PAUSE; 990]), Some(true));
+    assert_eq!(rt; is_answered(rt.alloc(), &[], &[PAUSE; 1010]), Some(false));
+}
+
 #[test]
 fn three_exchanges_where_accepting_fails_first(rt: HostRuntime) {
     assert_eq!(rt; answered_after_failures(rt.alloc()), Some(MOST_FAILURES));

@@ -6,3 +6,4 @@ pub mod Answering
 pub mod Serving
 pub mod Listening
 pub mod Files
+pub mod Early

@@ -1,5 +1,9 @@
 //! The connections of a network, as they are served.
 
+ghost use Rattle.std.specs.Prelude.{◌≡◌, ◌*◌, ◌↔◌, IsTrue, IsFalse};
+ghost use Rattle.std.specs.Duration.{as_nanos};
+ghost use Rattle.bike_server.specs.Early.{MayBeEarly};
+
 use crate::arrivals::{AcceptFault, Arrival, Arrivals};
 use bike_http::{ServeFault, Served};
 use bike_http_connection::{Peer, RequestReader, ResponseBuffer};
@@ -13,12 +17,17 @@ const PATIENCE_STOPPED: u64 = 1;
 const PATIENCE_DONE: u64 = 10;
 
 /// Whether the answer may have come before the whole request was read.
-fn may_be_early(served: Result<Served, ServeFault>) -> bool {
+fn may_be_early(served: Result<Served, ServeFault>) -> bool
+    ensures { IsTrue result ↔ MayBeEarly served }
+{
     matches!(served, Ok(Served::Status(400 | 404 | 405 | 413)))
 }
 
 /// For how long the answers under way are still sent: for a second where serving ended early.
-pub(crate) fn closing_time(is_done: bool) -> Duration {
+pub(crate) fn closing_time(is_done: bool) -> Duration
+    ensures done { IsTrue is_done → as_nanos result ≡ PATIENCE_DONE * 1_000_000_000 }
+    ensures stopped { IsFalse is_done → as_nanos result ≡ PATIENCE_STOPPED * 1_000_000_000 }
+{
     let seconds = if is_done {
         PATIENCE_DONE
     } else {

@@ -1,6 +1,7 @@
 //! HTTP/1.1 on the loopback address: one request a connection, one request after the other.
 
-ghost use Rattle.std.specs.Prelude.{◌≡◌, ◌≤◌, ◌⊎◌, ℕ, List, [], Some, IfSome, IsSomeAnd, IfErr, false, IsTrue, Err};
+ghost use Rattle.std.specs.Prelude.{◌≡◌, ◌≤◌, ◌-◌, ◌^◌, ◌⊎◌, ℕ, List, [], false, IsTrue};
+ghost use Rattle.std.specs.Prelude.{Some, Err, IfSome, IsNone, IsSomeAnd, IfErr};
 ghost use Rattle.sqlite.specs.State.{HasCleanDisk};
 ghost use Rattle.sqlite.specs.Held.{state};
 ghost use Rattle.sqlite_trees.specs.View.{doubt};
@@ -142,6 +143,17 @@ fn begin<'a, W: Write>(
     Ok(connections)
 }
 
+/// How many connections are served: so many, or more than ever come.
+fn count_of(count: Option<u32>) -> u64
+    ensures given { IfSome count (λ given. result ≡ given) }
+    ensures endless { IsNone count → result ≡ 2 ^ 64 - 1 }
+{
+    match count {
+        Some(count) => u64::from(count),
+        None => u64::MAX,
+    }
+}
+
 /// Listens on this port of 127.0.0.1 and tells it, and serves so many connections, or without end; then it sends the
 /// answers under way.
 fn listen_at<S: Alter, W: Write>(
@@ -155,10 +167,7 @@ fn listen_at<S: Alter, W: Write>(
     ensures clean { doubt (desk_state S.Store desk.old).is_clean ≤ doubt (desk_state S.Store desk.new).is_clean }
     ensures kept { OfOperator S.Store desk.old desk.new (λ s. ServesRequests S.Store desk.new s) }
 {
-    let count = match count {
-        Some(count) => u64::from(count),
-        None => u64::MAX,
-    };
+    let count = count_of(count);
     let mut connections = begin(rt, port, count, writer)?;
     let served = serve_count(rt.alloc(), desk, routes, &mut connections, count);
     let _ = connections.close(closing_time(served.is_ok()));
