@@ -9,8 +9,8 @@ import sqlite3
 from pathlib import Path
 
 from shared import (
-    BY_KEY, FOREIGN, HERE, KEYED, READY, SOUND, STORE_FAILED, UNKEYED, changed, held, is_keyed, laid_out, removed,
-    rows_of, told_with,
+    BY_KEY, FOREIGN, HERE, HISTORY, KEYED, READY, SOUND, STORE_FAILED, changed, held, laid_out, removed, rows_of,
+    told_with, with_kept,
 )
 
 NOW = 1700003000
@@ -68,6 +68,8 @@ CHANGES = [
     ("UPDATE meta SET revenue = revenue - 1", "unsound meta 1"),
     ("UPDATE meta SET now = -1", "unsound meta 1"),
     ("UPDATE meta SET now = 1600000000", "unsound stations_3 a1"),
+    ("UPDATE meta SET now = now - 1", "unsound history 37"),
+    ("UPDATE meta SET now = now + 1", None),
     ("UPDATE meta SET app = 'other'", "foreign"),
     ("UPDATE meta SET app = 'other', version = 1", "foreign"),
     ("UPDATE meta SET version = 0", "foreign"),
@@ -79,13 +81,15 @@ CHANGES = [
     ("UPDATE meta SET version = 1, cash = cash + 1", "older 1"),
     ("UPDATE meta SET version = 1; DROP TABLE counts", "older 1"),
     ("UPDATE meta SET version = 1; DROP TABLE regions; DELETE FROM riders", "older 1"),
-    ("UPDATE meta SET version = 4", "newer 4"),
-    ("UPDATE meta SET version = 4; DROP TABLE counts", "newer 4"),
+    ("UPDATE meta SET version = 3", "older 3"),
+    ("UPDATE meta SET version = 3; DROP TABLE history", "older 3"),
+    ("UPDATE meta SET version = 5", "newer 5"),
+    ("UPDATE meta SET version = 5; DROP TABLE counts", "newer 5"),
     ("UPDATE meta SET version = 9", "newer 9"),
     ("DELETE FROM meta", "unsound meta 1"),
     ("DELETE FROM meta; DROP TABLE regions", "foreign"),
     ("DELETE FROM meta; DROP TABLE more_names", "foreign"),
-    ("INSERT INTO meta VALUES (2, 'bikeshare', 3, 0, 0, 0)", "unsound meta 2"),
+    ("INSERT INTO meta VALUES (2, 'bikeshare', 4, 0, 0, 0)", "unsound meta 2"),
     ("UPDATE system SET ttl = 86401", "unsound system 1"),
     ("UPDATE system SET currency = 'eur'", "unsound system 1"),
     ("UPDATE system SET system_id = ''", 'unsound system 1'),
@@ -331,19 +335,19 @@ CHANGES = [
         " UPDATE riders SET balance = balance - 125 WHERE rider = 17",
         "unsound entries 5",
     ),
-    ("UPDATE kept SET reply = 'refused\t4\tunknown_rider' WHERE req_key = 'k2'", "unsound kept office/k2"),
-    ("UPDATE kept SET command = 'add-rider\t017' WHERE req_key = 'k2'", "unsound kept office/k2"),
-    ("UPDATE kept SET caller = 'rider:0' WHERE req_key = 'k2'", "unsound kept rider:0/k2"),
-    ("UPDATE kept SET req_key = '' WHERE req_key = 'k2'", 'unsound kept office/'),
-    ("UPDATE kept SET req_key = 'k 2' WHERE req_key = 'k2'", 'unsound kept office/k 2'),
-    ("UPDATE kept SET command = 'set-region\tb2\t*' WHERE req_key = 'k2'", None),
-    ("UPDATE kept SET command = 'set-region\tb2\tNorth' WHERE req_key = 'k2'", "unsound kept office/k2"),
-    ("UPDATE kept SET command = 'add-region\tnorth\t' WHERE req_key = 'k2'", "unsound kept office/k2"),
-    ("UPDATE kept SET command = 'move-station\tzz\t-0.500000\t180.000000' WHERE req_key = 'k2'", None),
-    ("UPDATE kept SET command = 'change-system\tM\t24/7\tc\tUTC\thttps://x\t86400' WHERE req_key = 'k2'", None),
-    ("UPDATE kept SET command = 'add-docks\tzz\t500' WHERE req_key = 'k2'", None),
+    ("UPDATE history SET reply = 'refused\t4\tunknown_rider' WHERE req_key = 'k2'", "unsound history 3"),
+    ("UPDATE history SET command = 'add-rider\t017' WHERE req_key = 'k2'", "unsound history 3"),
+    ("UPDATE history SET caller = 'rider:0' WHERE req_key = 'k2'", "unsound history 3"),
+    ("UPDATE history SET req_key = '' WHERE req_key = 'k2'", "unsound history 3"),
+    ("UPDATE history SET req_key = 'k 2' WHERE req_key = 'k2'", "unsound history 3"),
+    ("UPDATE history SET command = 'set-region\tb2\t*' WHERE req_key = 'k2'", None),
+    ("UPDATE history SET command = 'set-region\tb2\tNorth' WHERE req_key = 'k2'", "unsound history 3"),
+    ("UPDATE history SET command = 'add-region\tnorth\t' WHERE req_key = 'k2'", "unsound history 3"),
+    ("UPDATE history SET command = 'move-station\tzz\t-0.500000\t180.000000' WHERE req_key = 'k2'", None),
+    ("UPDATE history SET command = 'change-system\tM\t24/7\tc\tUTC\thttps://x\t86400' WHERE req_key = 'k2'", None),
+    ("UPDATE history SET command = 'add-docks\tzz\t500' WHERE req_key = 'k2'", None),
     *(
-        (f"UPDATE kept SET command = '{text}' WHERE req_key = 'k2'", "unsound kept office/k2")
+        (f"UPDATE history SET command = '{text}' WHERE req_key = 'k2'", "unsound history 3")
         for text in (
             "add-docks\tb2\t0", "add-docks\tb2\t501", "add-docks\tb2\t01", "add-docks\tb2", "add-docks\tB2\t1",
             "move-station\tb2\t-0.5\t180.000000", "move-station\tb2\t90.000001\t0.000000", "move-station\tb2\t0.000000",
@@ -352,8 +356,8 @@ CHANGES = [
             "change-system\tmetro\ten\tM\t24/7\tc\tUTC\tEUR\thttps://x\t60",
         )
     ),
-    ("UPDATE kept SET reply = 'refused\t37\tunknown_region' WHERE req_key = 'k2'", "unsound kept office/k2"),
-    ("DELETE FROM kept", None),
+    ("UPDATE history SET reply = 'refused\t37\tunknown_region' WHERE req_key = 'k2'", "unsound history 3"),
+    ("DELETE FROM history", None),
     ("UPDATE counts SET available = available + 1 WHERE station_id = 'b2'", "unsound counts b2/city"),
     ("UPDATE counts SET disabled = 1 WHERE station_id = 'b2'", "unsound counts b2/city"),
     ("DELETE FROM counts WHERE station_id = 'b2'", "unsound counts b2/city"),
@@ -431,32 +435,32 @@ CHANGES = [
     ("DELETE FROM more_names WHERE language = 'de'", None),
     ("DROP INDEX more_names_by_language", None),
     ("DROP INDEX more_names_by_thing", None),
-    ("UPDATE kept SET command = 'add-name\tstation\tb2\tit\tPonte' WHERE req_key = 'k2'", None),
-    ("UPDATE kept SET command = 'add-name\tsystem\tother\tit\tPonte' WHERE req_key = 'k2'", None),
-    ("UPDATE kept SET command = 'add-name\tbike\tb2\tit\tPonte' WHERE req_key = 'k2'", "unsound kept office/k2"),
-    ("UPDATE kept SET command = 'add-name\tstation\tb2\ti\tPonte' WHERE req_key = 'k2'", "unsound kept office/k2"),
+    ("UPDATE history SET command = 'add-name\tstation\tb2\tit\tPonte' WHERE req_key = 'k2'", None),
+    ("UPDATE history SET command = 'add-name\tsystem\tother\tit\tPonte' WHERE req_key = 'k2'", None),
+    ("UPDATE history SET command = 'add-name\tbike\tb2\tit\tPonte' WHERE req_key = 'k2'", "unsound history 3"),
+    ("UPDATE history SET command = 'add-name\tstation\tb2\ti\tPonte' WHERE req_key = 'k2'", "unsound history 3"),
     *(
-        (f"UPDATE kept SET command = '{text}' WHERE req_key = 'k2'", None)
+        (f"UPDATE history SET command = '{text}' WHERE req_key = 'k2'", None)
         for text in (
             "set-name\tstation\tb2\tit\tPonte", "set-name\tsystem\tother\ten\tPonte", "remove-name\tplan\tgold\tde",
             "remove-name\tstation\tb2\ten",
         )
     ),
     *(
-        (f"UPDATE kept SET command = '{text}' WHERE req_key = 'k2'", "unsound kept office/k2")
+        (f"UPDATE history SET command = '{text}' WHERE req_key = 'k2'", "unsound history 3")
         for text in (
             "set-name\tbike\tb2\tit\tPonte", "set-name\tstation\tb2\ti\tPonte", "set-name\tstation\tb2\tit",
             "set-name\tstation\tb2\tit\t", "set-name\tstation\tB2\tit\tPonte", "remove-name\tstation\tb2\tit\tPonte",
             "remove-name\tstation\tb2", "remove-name\tstation\tb2\ti_t", "remove-name\ttruck\t3\tit",
         )
     ),
-    ("UPDATE kept SET reply = 'refused\t39\tunknown_name' WHERE req_key = 'k2'", "unsound kept office/k2"),
-    ("UPDATE kept SET command = 'add-station\tz9\tNew\t0.000000\t0.000000\t500' WHERE req_key = 'k2'", None),
+    ("UPDATE history SET reply = 'refused\t39\tunknown_name' WHERE req_key = 'k2'", "unsound history 3"),
+    ("UPDATE history SET command = 'add-station\tz9\tNew\t0.000000\t0.000000\t500' WHERE req_key = 'k2'", None),
     (
-        "UPDATE kept SET command = 'add-station\tz9\tNew\t0.000000\t0.000000\t501' WHERE req_key = 'k2'",
-        "unsound kept office/k2",
+        "UPDATE history SET command = 'add-station\tz9\tNew\t0.000000\t0.000000\t501' WHERE req_key = 'k2'",
+        "unsound history 3",
     ),
-    ("UPDATE kept SET reply = 'refused\t38\tsystem_missing' WHERE req_key = 'k2'", "unsound kept office/k2"),
+    ("UPDATE history SET reply = 'refused\t38\tsystem_missing' WHERE req_key = 'k2'", "unsound history 3"),
     ("DROP TABLE counts", "foreign"),
     ("DROP TABLE more_names", "foreign"),
     ("ALTER TABLE more_names RENAME COLUMN language TO lang", "foreign"),
@@ -472,6 +476,12 @@ CHANGES = [
     ("CREATE TABLE helmets (rider INTEGER REFERENCES riders)", "foreign"),
     ("CREATE TABLE offices (region TEXT REFERENCES regions)", "foreign"),
     ("CREATE TABLE stations (station TEXT); CREATE TABLE stations_2 (station TEXT)", None),
+    ("CREATE TABLE kept (key TEXT UNIQUE); INSERT INTO kept VALUES ('k2')", None),
+    ("DROP TABLE history", "foreign"),
+    ("ALTER TABLE history RENAME TO kept", "foreign"),
+    ("ALTER TABLE history RENAME COLUMN moment TO at", "foreign"),
+    ("ALTER TABLE history ADD COLUMN more TEXT", "foreign"),
+    ("CREATE TABLE helmets (request INTEGER REFERENCES history)", "foreign"),
     (
         "DROP TABLE meta; CREATE TABLE meta (one INTEGER PRIMARY KEY, app TEXT NOT NULL, version TEXT NOT NULL, now "
         "INTEGER NOT NULL, cash INTEGER NOT NULL, revenue INTEGER NOT NULL) STRICT; "
@@ -485,70 +495,119 @@ CHANGES = [
     ("CREATE INDEX by_half ON riders (balance / 2)", "foreign"),
     # What a key refuses already.
     ("CREATE UNIQUE INDEX again ON plans (plan_id ASC)", None),
-    ("CREATE UNIQUE INDEX again ON kept (req_key, caller)", "foreign"),
-    ("CREATE UNIQUE INDEX again ON kept (caller, req_key COLLATE NOCASE)", "foreign"),
-    ("CREATE UNIQUE INDEX again ON kept (caller, req_key DESC)", "foreign"),
+    ("CREATE UNIQUE INDEX again ON history (number)", "foreign"),
+    ("CREATE UNIQUE INDEX again ON history (caller, req_key)", "foreign"),
+    ("CREATE UNIQUE INDEX again ON docks (station_id, dock)", None),
+    ("CREATE UNIQUE INDEX again ON docks (dock, station_id)", "foreign"),
+    ("CREATE UNIQUE INDEX again ON docks (station_id COLLATE NOCASE, dock)", "foreign"),
+    ("CREATE UNIQUE INDEX again ON docks (station_id, dock DESC)", "foreign"),
     ("CREATE INDEX by_balance ON riders (balance); CREATE INDEX by_name ON stations_3 (name COLLATE NOCASE)", None),
     ("CREATE TABLE notes (note TEXT, size INTEGER UNIQUE); CREATE UNIQUE INDEX one_note ON notes (note)", None),
     ("CREATE TABLE stations (name TEXT); CREATE UNIQUE INDEX one_name ON stations (name)", None),
     # It is told before the version and the rows are looked at.
     ("UPDATE meta SET version = 1; CREATE UNIQUE INDEX one_balance ON riders (balance)", "foreign"),
-    ("UPDATE meta SET version = 4; CREATE UNIQUE INDEX one_balance ON riders (balance)", "foreign"),
+    ("UPDATE meta SET version = 5; CREATE UNIQUE INDEX one_balance ON riders (balance)", "foreign"),
     ("UPDATE riders SET balance = balance + 1; CREATE UNIQUE INDEX one_balance ON riders (balance)", "foreign"),
     ("CREATE UNIQUE INDEX one_balance ON riders (balance); DROP INDEX one_balance", None),
 ]
 
-AGAIN = "INSERT INTO kept SELECT * FROM kept WHERE req_key = 'k2'"
-# Beside these, where `kept` has no PRIMARY KEY: two of its rows may have one key, which is told before all else.
-WITHOUT_A_KEY = [
-    (AGAIN, "unsound kept office/k2"),
-    ("INSERT INTO kept VALUES ('office', 'k2', 'add-rider\t99', 'ok')", "unsound kept office/k2"),
-    ("UPDATE kept SET req_key = 'k3' WHERE req_key = 'k2'", "unsound kept office/k3"),
-    ("UPDATE kept SET req_key = 'k3' WHERE req_key IN ('k1', 'k2')", "unsound kept office/k3"),
-    (f"{AGAIN}; INSERT INTO kept SELECT * FROM kept WHERE req_key = 'k10'", "unsound kept office/k10"),
-    ("INSERT INTO kept SELECT * FROM kept", "unsound kept office/k0"),
-    ("UPDATE kept SET caller = 'x', req_key = ''", "unsound kept x/"),
+# The 37 requests are numbered as they are asked: k2 is number 3. The first 13 have one moment, and number 37 has `now`.
+AGAIN = f"INSERT INTO history SELECT 38, {NOW}, caller, req_key, command, reply FROM history WHERE req_key = 'k2'"
+HISTORY_CHANGES = [
+    # Numbers.
+    ("DELETE FROM history WHERE number = 37", None),
+    ("DELETE FROM history WHERE number > 3", None),
+    ("DELETE FROM history WHERE number = 1", "unsound history 2"),
+    ("DELETE FROM history WHERE number = 20", "unsound history 21"),
+    ("UPDATE history SET number = 38 WHERE number = 37", "unsound history 38"),
+    ("UPDATE history SET number = 38 WHERE number = 5", "unsound history 6"),
+    ("UPDATE history SET number = 0 WHERE number = 1", "unsound history 0"),
+    ("UPDATE history SET number = -1 WHERE number = 37", "unsound history -1"),
+    ("UPDATE history SET number = -number", "unsound history -37"),
+    ("UPDATE history SET number = -number; UPDATE history SET number = 1 - number", "unsound history 2"),
+    ("UPDATE history SET number = -number; UPDATE history SET number = -1 - number", "unsound history 0"),
+    ("UPDATE history SET number = 9223372036854775807 WHERE number = 37", "unsound history 9223372036854775807"),
+    ("UPDATE history SET number = -9223372036854775808 WHERE number = 37", "unsound history -9223372036854775808"),
+    # Moments.
+    ("UPDATE history SET moment = 0", None),
+    ("UPDATE history SET moment = 0 WHERE number <= 13", None),
+    (f"UPDATE history SET moment = {NOW}", None),
+    ("UPDATE history SET moment = moment - 1 WHERE number = 1", None),
+    ("UPDATE history SET moment = moment - 1 WHERE number = 5", "unsound history 5"),
+    ("UPDATE history SET moment = moment + 1 WHERE number = 5", "unsound history 6"),
+    ("UPDATE history SET moment = moment + 1 WHERE number = 13", None),
+    ("UPDATE history SET moment = moment - 1 WHERE number = 37", None),
+    ("UPDATE history SET moment = moment + 1 WHERE number = 37", "unsound history 37"),
+    ("UPDATE history SET moment = -1 WHERE number = 1", "unsound history 1"),
+    ("UPDATE history SET moment = -9223372036854775808 WHERE number = 1", "unsound history 1"),
+    ("UPDATE history SET moment = 9223372036854775807 WHERE number = 20", "unsound history 20"),
+    ("UPDATE history SET moment = 253402300799 WHERE number = 37", "unsound history 37"),
+    ("UPDATE history SET moment = 253402300799 WHERE number = 37; UPDATE meta SET now = 253402300799", None),
     (
-        "INSERT INTO kept VALUES ('rider:17', 'a', 'x', 'y'), ('crew:3', 'b', 'x', 'y'), ('rider:17', 'a', 'x', 'y'),"
-        " ('crew:3', 'b', 'x', 'y')",
-        "unsound kept crew:3/b",
+        "UPDATE history SET moment = 253402300800 WHERE number = 37; UPDATE meta SET now = 253402300799",
+        "unsound history 37",
     ),
-    # Before a bad row of an earlier table, of the same and of a later one, and a row that is missing.
-    (f"{AGAIN}; UPDATE riders SET balance = balance + 1", "unsound kept office/k2"),
-    (f"{AGAIN}; UPDATE kept SET reply = 'no' WHERE req_key = 'k1'", "unsound kept office/k2"),
-    (f"{AGAIN}; DELETE FROM counts", "unsound kept office/k2"),
-    (f"{AGAIN}; DELETE FROM meta", "unsound kept office/k2"),
-    # Behind what makes the file another program's, or another version's.
+    # A row whose texts spell nothing.
+    ("UPDATE history SET caller = '' WHERE number = 37", "unsound history 37"),
+    ("UPDATE history SET caller = 'office ' WHERE number = 1", "unsound history 1"),
+    (f"UPDATE history SET req_key = '{'k' * 65}' WHERE number = 7", "unsound history 7"),
+    ("UPDATE history SET command = '' WHERE number = 37", "unsound history 37"),
+    ("UPDATE history SET reply = '' WHERE number = 37", "unsound history 37"),
+    ("UPDATE history SET reply = 'refused' WHERE number = 37", "unsound history 37"),
+    # One caller and key twice: the later row is bad.
+    (AGAIN, "unsound history 38"),
+    (f"INSERT INTO history VALUES (38, {NOW}, 'office', 'k2', 'add-rider\t99', 'ok')", "unsound history 38"),
+    ("UPDATE history SET req_key = 'k3' WHERE req_key = 'k2'", "unsound history 4"),
+    ("UPDATE history SET req_key = 'k2' WHERE req_key = 'k3'", "unsound history 4"),
+    ("UPDATE history SET req_key = 'k3' WHERE req_key IN ('k1', 'k2')", "unsound history 3"),
+    ("UPDATE history SET req_key = 'k4' WHERE number = 20; UPDATE history SET req_key = 'k8' WHERE number = 10",
+     "unsound history 10"),
+    ("UPDATE history SET req_key = 'k0' WHERE number = 37; UPDATE history SET req_key = 'k35' WHERE number = 2",
+     "unsound history 36"),
+    ("UPDATE history SET caller = 'crew:3', req_key = 'k'", "unsound history 2"),
+    (
+        f"INSERT INTO history SELECT number + 37, {NOW}, caller, req_key, command, reply FROM history",
+        "unsound history 38",
+    ),
+    # Of two bad rows the first is told, whichever rule it breaks.
+    (f"{AGAIN}; UPDATE riders SET balance = balance + 1", "unsound riders 17"),
+    (f"{AGAIN}; UPDATE history SET reply = 'no' WHERE number = 37", "unsound history 37"),
+    ("UPDATE history SET req_key = 'k2' WHERE number = 9; UPDATE history SET reply = 'no' WHERE number = 10",
+     "unsound history 9"),
+    ("UPDATE history SET req_key = 'k2' WHERE number = 11; UPDATE history SET moment = 0 WHERE number = 10",
+     "unsound history 10"),
+    ("UPDATE history SET req_key = 'k3', reply = 'no' WHERE number = 3", "unsound history 3"),
+    (f"{AGAIN}; DELETE FROM counts", "unsound history 38"),
+    (f"{AGAIN}; DELETE FROM meta", "unsound meta 1"),
+    # Before the rows it is told that the file is another program's, or another version's.
     (f"{AGAIN}; UPDATE meta SET app = 'other'", "foreign"),
     (f"{AGAIN}; DROP TABLE counts", "foreign"),
-    (f"{AGAIN}; DROP TABLE plans", "foreign"),
     (f"{AGAIN}; CREATE UNIQUE INDEX one_balance ON riders (balance)", "foreign"),
-    (f"{AGAIN}; CREATE TABLE helmets (rider INTEGER REFERENCES riders)", "foreign"),
-    (f"{AGAIN}; CREATE TABLE helmets (key TEXT REFERENCES kept)", "foreign"),
-    (f"{AGAIN}; ALTER TABLE kept ADD COLUMN more TEXT", "foreign"),
+    (f"{AGAIN}; CREATE TABLE helmets (key TEXT REFERENCES history)", "foreign"),
+    (f"{AGAIN}; ALTER TABLE history ADD COLUMN more TEXT", "foreign"),
     (f"{AGAIN}; UPDATE meta SET version = 2", "older 2"),
-    (f"{AGAIN}; UPDATE meta SET version = 4", "newer 4"),
+    (f"{AGAIN}; UPDATE meta SET version = 5", "newer 5"),
     # By their bytes these keys are apart, and so are those of two callers.
-    ("INSERT INTO kept SELECT caller, upper(req_key), command, reply FROM kept", None),
-    ("INSERT INTO kept SELECT 'crew:3', req_key, command, reply FROM kept", None),
-    ("INSERT INTO kept SELECT 'import:' || req_key, 'k2', command, reply FROM kept", None),
+    *(
+        (f"INSERT INTO history SELECT number + 37, {NOW}, {caller}, {key}, command, reply FROM history", None)
+        for caller, key in (("caller", "upper(req_key)"), ("'crew:3'", "req_key"), ("'import:' || req_key", "'k2'"))
+    ),
     # The index makes reading fast, and no more.
-    ("DROP INDEX kept_by_key", None),
-    (f"DROP INDEX kept_by_key; {AGAIN}", "unsound kept office/k2"),
-    ("DROP INDEX kept_by_key; CREATE INDEX kept_by_key ON kept (reply)", None),
-    # A key that is no PRIMARY KEY isn't the table's.
-    ("CREATE UNIQUE INDEX again ON kept (caller, req_key)", "foreign"),
-    ("DROP INDEX kept_by_key; CREATE UNIQUE INDEX kept_by_key ON kept (caller, req_key)", "foreign"),
+    ("DROP INDEX history_by_key", None),
+    (f"DROP INDEX history_by_key; {AGAIN}", "unsound history 38"),
+    ("DROP INDEX history_by_key; CREATE INDEX history_by_key ON history (reply)", None),
+    ("DROP INDEX history_by_key; CREATE UNIQUE INDEX history_by_key ON history (caller, req_key)", "foreign"),
 ]
-# And where it has one.
-WITH_A_KEY = [("CREATE UNIQUE INDEX again ON kept (caller, req_key)", None), (BY_KEY, None)]
-# What is no layout of `kept`.
+# What is no layout of `history`.
 OTHERS = [
-    KEYED.replace("caller, req_key)", "req_key, caller)"), KEYED.replace("PRIMARY KEY", "UNIQUE"),
-    KEYED.replace("STRICT", "STRICT, WITHOUT ROWID"), KEYED.replace(" STRICT", ""), UNKEYED.replace(" STRICT", ""),
-    KEYED.replace("(caller, req_key)", "(caller, req_key, command)"), KEYED.replace("(caller, req_key)", "(req_key)"),
-    UNKEYED.replace("caller TEXT NOT NULL, req_key TEXT NOT NULL", "req_key TEXT NOT NULL, caller TEXT NOT NULL"),
-    UNKEYED.replace("reply TEXT NOT NULL", "reply TEXT"), UNKEYED.replace("reply TEXT", "reply ANY"),
+    HISTORY.replace("reply TEXT NOT NULL)", "reply TEXT NOT NULL, UNIQUE (caller, req_key))"),
+    HISTORY.replace("reply TEXT NOT NULL)", "reply TEXT NOT NULL, CHECK (moment > 0))"),
+    HISTORY.replace("PRIMARY KEY", "PRIMARY KEY AUTOINCREMENT"), HISTORY.replace("INTEGER PRIMARY", "INT PRIMARY"),
+    HISTORY.replace("STRICT", "STRICT, WITHOUT ROWID"), HISTORY.replace(" STRICT", ""),
+    HISTORY.replace("number INTEGER PRIMARY KEY", "number INTEGER NOT NULL"),
+    HISTORY.replace("PRIMARY KEY", "NOT NULL").replace("reply TEXT NOT NULL)", "reply TEXT NOT NULL, UNIQUE (number))"),
+    HISTORY.replace("moment INTEGER NOT NULL", "moment INTEGER"), HISTORY.replace("moment INTEGER", "moment ANY"),
+    HISTORY.replace("reply TEXT NOT NULL", "reply TEXT"), HISTORY.replace("reply TEXT", "reply ANY"),
 ]
 
 # UNIQUE indexes that the rows of the small city allow, on each of its tables.
@@ -556,14 +615,14 @@ ADDED = [
     "meta (app)", "system (system_id)", "plans (price)", "segments (rate)", "types (name)", "regions (name)",
     "stations_3 (name)", "docks (station_id)", "bikes (station_id, dock)", "bikes (rental)", "bikes (bike)",
     "trucks (capacity)", "riders (balance)", "riders (rider)", "rentals (start)", "orders (to_end, quantity)",
-    "entries (amount)", "kept (req_key)", "counts (type_id, station_id)", "more_names (name)",
+    "entries (amount)", "history (req_key)", "counts (type_id, station_id)", "more_names (name)",
 ]
 # The indexes of a new file beside those of the keys: the table of each, and its columns.
 INDEXES = {
     "bikes_by_dock": ("bikes", "station_id", "dock"), "bikes_by_truck": ("bikes", "truck"),
     "rentals_by_rider": ("rentals", "rider"), "more_names_by_language": ("more_names", "language"),
     "more_names_by_thing": ("more_names", "kind", "id", "language", "name"),
-    "kept_by_key": ("kept", "caller", "req_key"),
+    "history_by_key": ("history", "caller", "req_key"),
 }
 EACH_WORD = [
     ["init"], ["check"], ["lines"], ["serve", "--port", "0", "--count", "1"], ["feed", "station_status"],
@@ -599,13 +658,6 @@ def checked(program, file, wanted):
     assert file.read_bytes() == before and held(file, whole=False) == rows, "the file was changed"
 
 
-def made_keyed(program, name):
-    """Makes the city as an earlier program did, whose `kept` has a PRIMARY KEY."""
-    file = made(program, name)
-    laid_out(file, KEYED)
-    return file
-
-
 def each_is_found(program, city, changes):
     wrong = []
     for n, (change, wanted) in enumerate(changes):
@@ -621,32 +673,30 @@ def each_is_found(program, city, changes):
 
 
 def test_each_change_of_a_small_city_is_found(program):
-    file = made(program, "city.db")
-    assert not is_keyed(file)
-    each_is_found(program, file.read_bytes(), CHANGES + WITHOUT_A_KEY)
+    each_is_found(program, made(program, "city.db").read_bytes(), CHANGES)
 
 
-def test_each_change_is_found_where_kept_has_a_key(program):
-    file = made_keyed(program, "city.db")
-    assert is_keyed(file)
-    each_is_found(program, file.read_bytes(), [*CHANGES, *WITH_A_KEY])
+def test_each_change_of_a_history_is_found(program):
+    each_is_found(program, made(program, "city.db").read_bytes(), HISTORY_CHANGES)
 
 
-# The plain index becomes that of the key.
+# The plain index of a `kept` of schema 3 becomes that of a key.
 KEY_DECLARED = (
     f"PRAGMA writable_schema = ON; UPDATE sqlite_schema SET sql = '{KEYED}' WHERE name = 'kept'; "
     "UPDATE sqlite_schema SET name = 'sqlite_autoindex_kept_1', sql = NULL WHERE name = 'kept_by_key'"
 )
+KEPT_AGAIN = "INSERT INTO kept SELECT * FROM kept WHERE req_key = 'k2'"
 
 
 def test_two_rows_of_a_key_that_is_declared(program):
     """The index of a PRIMARY KEY with an entry twice is damaged, to SQLite too: no word reads such a file."""
     file = made(program, "city.db")
+    with_kept(file)
     whole = file.read_bytes()
     changed(file, KEY_DECLARED)
-    checked(program, file, None)
+    checked(program, file, "older 3")
     file.write_bytes(whole)
-    changed(file, f"{AGAIN}; {KEY_DECLARED}")
+    changed(file, f"{KEPT_AGAIN}; {KEY_DECLARED}")
     before = file.read_bytes()
     for word, *more in EACH_WORD:
         ended = program.run(word, file.name, *more, given=b"1700000001\toffice\tk2\tadd-rider\t18\n")
@@ -654,14 +704,17 @@ def test_two_rows_of_a_key_that_is_declared(program):
         assert file.read_bytes() == before, word
 
 
-def test_other_layouts_of_kept(program):
+def test_other_layouts_of_history(program):
     file = made(program, "city.db")
     city = file.read_bytes()
-    for kept in OTHERS:
+    for table in OTHERS:
         file.write_bytes(city)
-        laid_out(file, kept)
-        with told_with(kept):
+        laid_out(file, table)
+        with told_with(table):
             checked(program, file, "foreign")
+    file.write_bytes(city)
+    laid_out(file, HISTORY)
+    checked(program, file, None)
 
 
 def test_an_index_that_somebody_added(program):
@@ -697,18 +750,12 @@ def test_a_file_goes_on_where_it_was(program):
     goes_on(program, made(program, "city.db"))
 
 
-def test_a_file_goes_on_with_a_key_of_kept(program):
-    """It keeps the key, and the plain index that it hasn't isn't made."""
-    file = made_keyed(program, "city.db")
-    goes_on(program, file)
-    assert is_keyed(file) and rows_of("SELECT count(*) FROM sqlite_schema WHERE name = 'kept_by_key'", file) == [(0,)]
-
-
-def test_a_file_goes_on_without_an_index_of_kept(program):
+def test_a_file_goes_on_without_an_index_of_history(program):
+    """It isn't made."""
     file = made(program, "city.db")
-    changed(file, "DROP INDEX kept_by_key")
+    changed(file, "DROP INDEX history_by_key")
     goes_on(program, file)
-    assert rows_of("SELECT count(*) FROM sqlite_schema WHERE name = 'kept_by_key'", file) == [(0,)]
+    assert rows_of("SELECT count(*) FROM sqlite_schema WHERE name = 'history_by_key'", file) == [(0,)]
 
 
 def goes_on(program, file):
@@ -745,9 +792,9 @@ def test_a_new_file_gets_the_tables(program):
     ended = program.run("init", "new.db")
     assert ended == READY, ended
     file = Path(program.folder, "new.db")
-    assert rows_of("SELECT * FROM meta", file) == [(1, "bikeshare", 3, 0, 0, 0)]
-    made_so = rows_of("SELECT sql FROM sqlite_schema WHERE tbl_name = 'kept' ORDER BY name", file)
-    assert made_so == [(UNKEYED,), (BY_KEY,)], made_so
+    assert rows_of("SELECT * FROM meta", file) == [(1, "bikeshare", 4, 0, 0, 0)]
+    made_so = rows_of("SELECT sql FROM sqlite_schema WHERE tbl_name = 'history' ORDER BY name", file)
+    assert made_so == [(HISTORY,), (BY_KEY,)], made_so
     assert plain_indexes(file) == INDEXES, plain_indexes(file)
     changed(file)
     checked(program, file, None)

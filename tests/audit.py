@@ -3,14 +3,13 @@ tables, their columns and the bounds of each are those of section 10's table. It
 """
 
 import contextlib
-import itertools
 import re
 import sqlite3
 
 import formats
 from shared import FOREIGN, SOUND, TOP
 
-NEWEST = 3
+NEWEST = 4
 SECTION = (TOP / "docs/FORMATS.md").read_text(encoding="utf-8").split("## 10. Database", 1)[1].split("\n## ", 1)[0]
 # The columns of each table, each with its mark and its bounds as they are written.
 COLUMNS = {
@@ -277,8 +276,11 @@ class Audit:
         )
         return row["kind"] == 3 or (not earlier and row["amount"] == rental["fare"])
 
-    def kept(self, row, at):
-        return True
+    def history(self, row, at):
+        before = [it for it in self.good["history"] if it["number"] < row["number"]]
+        again = any((it["caller"], it["req_key"]) == (row["caller"], row["req_key"]) for it in before)
+        moments = [it["moment"] for it in before[-1:]] + [row["moment"], self.now()]
+        return row["number"] == at + 1 and moments == sorted(moments) and not again
 
     def counts(self, row, at):
         known = row["station_id"] in self.by["stations_3"] and row["type_id"] in self.by["types"]
@@ -324,12 +326,6 @@ def shown(value):
     return value if isinstance(value, bytes) and formats.is_utf8(value) else b"?"
 
 
-def doubled(tables):
-    """The table and key of the first key that two rows of `kept` have, or none. It is told before any bad row."""
-    keys = sorted((it["caller"], it["req_key"]) for it in tables["kept"])
-    return next((("kept", list(key)) for key, after in itertools.pairwise(keys) if key == after), None)
-
-
 def verdict(tables):
     """What `check` has to end with."""
     row = next((it for it in tables["meta"] if it["one"] == 1), None)
@@ -337,7 +333,7 @@ def verdict(tables):
         return FOREIGN
     if row is not None and row["version"] != NEWEST:
         return 5, b"", b"%s %d\n" % (b"newer" if row["version"] > NEWEST else b"older", row["version"])
-    bad = doubled(tables) or Audit(tables).first_bad()
+    bad = Audit(tables).first_bad()
     if bad is None:
         return SOUND
     return 5, b"", b"unsound %s %s\n" % (bad[0].encode(), b"/".join(shown(it) for it in bad[1]))

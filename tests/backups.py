@@ -65,9 +65,9 @@ def rolled_back(city, count):
     entries = [it for it in city["entries"] if it[0] <= count + 1]
     now = max([it[5] for it in entries if it[0] > 1], default=begun)
     riders = [(rider, blocked, 2500 + count) for rider, blocked, _ in city["riders"]]
-    kept = [it for it in city["kept"] if number_of(it[1]) <= count]
+    requests = [it for it in city["history"] if number_of(it[3]) <= count]
     meta = [(one, app, version, now, 2500 + count, revenue)]
-    return city | {"entries": entries, "riders": riders, "kept": kept, "meta": meta}
+    return city | {"entries": entries, "riders": riders, "history": requests, "meta": meta}
 
 
 def finished(words, **how):
@@ -183,7 +183,7 @@ class Loaded(Copies):
         city, count = tables(self.file), self.sender.answered
         assert len(keys_in(self.file)) - count in (0, 1), "the city lacks a request"
         for before, after, found in self.found:
-            count = sum(number_of(it[1]) > 0 for it in found["kept"])
+            count = sum(number_of(it[3]) > 0 for it in found["history"])
             assert before <= count <= after, f"a copy holds {count} requests, and {before} to {after} were answered"
             assert found == rolled_back(city, count), "a copy is another city"
 

@@ -62,7 +62,7 @@ WORDS = {
     "import": Word(IMPORT, "killed", TABLE, (0, b"rows 3\n", b"")),
     "import of a bad row": Word(IMPORT, "killed", TABLE.replace(b"45,9.3", b"91,9.3"), ROW_3),
     "import that nobody is told of": Word(IMPORT, "killed", TABLE, WRITE_FAILED),
-    "raise": Word(["raise", "FILE"], "older", b"", (0, b"version 3\n", b"")),
+    "raise": Word(["raise", "FILE"], "older", b"", raising.DONE),
     "raise that nobody is told of": Word(["raise", "FILE"], "older", b"", WRITE_FAILED),
 }
 
@@ -92,12 +92,12 @@ def ran(word, program, name, env=None):
         return program.run(*[name if it == "FILE" else it for it in word.words], **how)
 
 
-def kept(*where):
-    """How many requests a file with its log keeps. It may have no tables yet, or no whole first page."""
+def requests(*where):
+    """How many requests a file with its log has. It may have no tables yet, or no whole first page."""
     try:
-        return rows_of("SELECT count(*) FROM kept", *where)[0][0]
+        return rows_of("SELECT count(*) FROM history", *where)[0][0]
     except sqlite3.DatabaseError as fault:
-        assert str(fault) in ("no such table: kept", "file is not a database"), fault
+        assert str(fault) in ("no such table: history", "file is not a database"), fault
         return 0
 
 
@@ -109,7 +109,7 @@ class Turns:
         self.parts = begun(program.file, self.word.begins)
         self.ends = collections.Counter()
         put(self.parts, program.folder, "whole.db")
-        self.begun = kept(program.folder, "whole.db") if self.parts else 0
+        self.begun = requests(program.folder, "whole.db") if self.parts else 0
         self.calls = self.disturbed("whole.db").calls
         self.state = held(program.folder, "whole.db")
         removed(program.folder, "whole.db")
@@ -141,8 +141,8 @@ class Turns:
         else:
             answered, most = 3 * (out == b"rows 3\n"), 3
         if self.word.begins != "older":
-            count = kept(self.program.folder, file) - self.begun
-            assert answered <= count <= most, f"{answered} were answered, and the file with its log keeps {count}"
+            count = requests(self.program.folder, file) - self.begun
+            assert answered <= count <= most, f"{answered} were answered, and the file with its log has {count}"
         again = ran(self.word, self.program, file)
         assert again == self.word.wanted, f"again: {again}"
         self.is_whole(file)

@@ -30,9 +30,9 @@ from pathlib import Path
 from adoption import KEY_DECLARED
 from package import sections_of
 from shared import (
-    CITY, FEEDS, FOREIGN, HEADER, KEYED, KILLED, READ_FAILED, READY, SOUND, STORE_FAILED, TOP, UNKEYED, Program,
-    Server, accepted, changed, disturbed, free_port, held, killed, line_of, loaded, needs, office, put, ran,
-    removed, requests_of, rows_of, taken,
+    CITY, FEEDS, FOREIGN, HEADER, HISTORY, KEPT_BY_KEY, KEYED, KILLED, READ_FAILED, READY, SOUND, STORE_FAILED, TOP,
+    UNKEYED, Program, Server, accepted, changed, disturbed, free_port, held, killed, line_of, loaded, needs, office,
+    put, ran, removed, requests_of, rows_of, taken, with_kept,
 )
 
 SCRIPT = TOP / "deploy/bikeshare-doctor"
@@ -115,7 +115,7 @@ def is_alike(program, file, wanted, *hints):
     assert [it.word for it in found] == ([wanted] if wanted else []), (file, wanted, found)
     assert all(it in found[0].text for it in hints), (hints, found)
     ended = program.run("check", str(file))
-    status = {"store failed": 3, "foreign": 5, "older 2": 5, "newer 4": 5, "unsound meta 1": 5}
+    status = {"store failed": 3, "foreign": 5, "older 2": 5, "older 3": 5, "newer 5": 5, "unsound meta 1": 5}
     assert ended == ((status[wanted], b"", wanted.encode() + b"\n") if wanted else SOUND), (file, wanted, ended)
 
 
@@ -174,7 +174,7 @@ ADDED = (
      "DROP TABLE cards"),
     ("CREATE UNIQUE INDEX once ON riders (blocked)", "the table riders has the UNIQUE index once beside its key",
      "DROP INDEX once"),
-    ("CREATE UNIQUE INDEX once ON kept (caller, req_key)", "the table kept has the UNIQUE index once beside its key",
+    ("CREATE UNIQUE INDEX once ON history (caller, req_key)", "the table history has the UNIQUE index once beside its",
      "DROP INDEX once"),
 )
 # A change to the city's file by SQL, what `check` says of it, and a word of the hint.
@@ -185,14 +185,19 @@ CHANGES = (
     ("DROP INDEX bikes_by_dock; CREATE INDEX i ON plans (name DESC, price)", None, ""),
     (TRUCKS + "(truck INTEGER, capacity INT NOT NULL, PRIMARY KEY (truck)) STRICT; INSERT INTO trucks VALUES (3, 9)",
      None, ""),
-    (f"DROP TABLE kept; {KEYED}", None, ""),
-    (f"DROP TABLE kept; {KEYED}; CREATE UNIQUE INDEX twice ON kept (caller, req_key)", None, ""),
-    (f"DROP TABLE kept; {UNKEYED}", None, ""),
-    (f"INSERT INTO kept SELECT * FROM kept LIMIT 1; {KEY_DECLARED}", "store failed", "non-unique entry in index"),
-    (f"DROP TABLE kept; {KEYED.replace('caller, req_key)', 'req_key, caller)')}", "foreign", "column caller is"),
-    (f"DROP TABLE kept; {KEYED.replace('PRIMARY KEY', 'UNIQUE')}", "foreign", "sqlite_autoindex_kept_1 beside its key"),
-    (f"DROP TABLE kept; {KEYED.replace('PRIMARY KEY (caller, req_key)', 'PRIMARY KEY (req_key)')}", "foreign",
-     "column caller is"),
+    (f"DROP TABLE history; {HISTORY}", None, ""),
+    (f"DROP TABLE history; {HISTORY}; CREATE TABLE kept (a UNIQUE); CREATE VIEW stations AS SELECT 1", None, ""),
+    (f"DROP TABLE history; {KEYED}", "foreign", "there is no table history"),
+    (f"{KEYED}; UPDATE meta SET version = 3", "older 3", "the table history has a name that schema 4 wants"),
+    *((f"{it}; DROP TABLE history; UPDATE meta SET version = 3", "older 3", "bikeshare raise FILE")
+      for it in (KEYED, f"{UNKEYED}; {KEPT_BY_KEY}")),
+    (f"{UNKEYED}; {KEPT_BY_KEY}; INSERT INTO kept SELECT caller, req_key, command, reply FROM history; "
+     f"INSERT INTO kept SELECT * FROM kept LIMIT 1; {KEY_DECLARED}", "store failed", "non-unique entry in index"),
+    (f"DROP TABLE history; {HISTORY.replace('number INTEGER PRIMARY KEY', 'number INTEGER NOT NULL')}", "foreign",
+     "column number is"),
+    (f"DROP TABLE history; {HISTORY.replace('reply TEXT NOT NULL)', 'reply TEXT NOT NULL, UNIQUE (caller, req_key))')}",
+     "foreign", "sqlite_autoindex_history_1 beside its key"),
+    (f"DROP TABLE history; {HISTORY.replace('moment INTEGER', 'moment TEXT')}", "foreign", "column moment is"),
     ("PRAGMA journal_mode = DELETE; PRAGMA page_size = 512; VACUUM", None, ""),
     ("DROP TABLE riders", "foreign", "there is no table riders"),
     ("ALTER TABLE riders RENAME TO r; ALTER TABLE r RENAME TO RIDERS", "foreign", "called RIDERS"),
@@ -213,7 +218,8 @@ CHANGES = (
     ("UPDATE meta SET app = 'tram'", "foreign", "'tram'"),
     ("UPDATE meta SET version = 0", "foreign", "unfinished"),
     ("UPDATE meta SET version = 2", "older 2", "raise"),
-    ("UPDATE meta SET version = 4", "newer 4", "newer"),
+    ("UPDATE meta SET version = 3", "older 3", "raise"),
+    ("UPDATE meta SET version = 5", "newer 5", "newer"),
     ("DELETE FROM meta", "unsound meta 1", "no row 1"),
     ("CREATE VIRTUAL TABLE words USING fts5 (a)", "store failed", "virtual table words"),
     ("PRAGMA auto_vacuum = 1; VACUUM", "store failed", "auto_vacuum"),
@@ -873,7 +879,7 @@ def test_what_only_a_process_still_has(program):
         removed(program.folder, "city.db")
         for part in "", "-wal":
             Path(f"{copy}{part}").rename(f"{file}{part}")
-        keys = rows_of("SELECT req_key FROM kept WHERE req_key LIKE 'r%' ORDER BY 1", program.folder, "city.db")
+        keys = rows_of("SELECT req_key FROM history WHERE req_key LIKE 'r%' ORDER BY 1", program.folder, "city.db")
         assert keys == [("r1",), ("r2",)], (loss, keys)
         assert program.run("check", "city.db") == SOUND and not looked_at(file), loss
 
@@ -1178,13 +1184,22 @@ def test_what_the_program_said(program):
         status, lines = told(file, *said.split())
         assert (status, len(lines)) == (1, 1) and lines[0].startswith(f"{file}: {said}: ") and row in lines[0], lines
     assert "there is no row" in doctor.findings_of_said(str(file), "unsound bikes 8")[0].text
+    request = "caller='office', req_key='f12', command='add-rider\\t17', reply='ok'."
+    (found,) = doctor.findings_of_said(str(file), "unsound history 12")
+    assert f"a rule: number=12, moment=1699999200, {request} The rule of history: " in found.text, found
+    # Of a file that is raised the place is told.
+    with_kept(file)
+    changed(file, "UPDATE kept SET rowid = 100 * rowid")
+    (found,) = doctor.findings_of_said(str(file), "unsound history 12")
+    assert f"a rule: {request} The rule of history: " in found.text, found
+    assert "there is no row" in doctor.findings_of_said(str(file), "unsound history 14")[0].text
     for said, other in ("row 3 key_reused", True), ("row 3 bad_field", False), ("row 3 unreadable", False):
         text = doctor.findings_of_said(str(file), said)[0].text
         assert ("another table? Then give it a NAME of its own" in text) == other, (said, text)
         assert re.search("import (it )?again under the same name", text, re.I), (said, text)
     assert told(file, "--port", "0", "unsound", "bikes", "7")[0] == 1 == told(file, "gone", "fishing")[0]
     file = city_file(program, "whole.db")
-    for said in "ready", "sound", "version 3", "rows 7", "listening 127.0.0.1:8080":
+    for said in "ready", "sound", "version 4", "rows 7", "listening 127.0.0.1:8080":
         status, lines = told(file, *said.split())
         assert status == 0 and lines[0].startswith(f"{file}: {said}: that line is no fault"), (said, lines)
     assert "no such line" in told(file, "version", "x")[1][-1], said
@@ -1372,6 +1387,7 @@ def test_names_in_the_way_of_a_raise(program):
         ("CREATE TABLE more_names (x)", "foreign"),
         ("CREATE TABLE regions (x)", "foreign"),
         ("CREATE VIEW stations_3 AS SELECT 1", "store failed"),
+        ("CREATE TABLE history (x)", "foreign"),
     ):
         with tempfile.TemporaryDirectory() as folder:
             file = Path(folder, "t.db")
@@ -1380,7 +1396,7 @@ def test_names_in_the_way_of_a_raise(program):
                 base.execute(change)
                 base.commit()
             _, (said,) = told(file)
-            assert re.search(f"older 1: .* {change.split()[2]} has a name that schema 3 wants", said), (change, said)
+            assert re.search(f"older 1: .* {change.split()[2]} has a name that schema 4 wants", said), (change, said)
             assert program.run("raise", file)[2].decode() == f"{refused}\n", change
 
 

@@ -649,8 +649,7 @@ def test_tables_of_the_formats(program):
     )
     doctor, wanted = loaded(TOP / "deploy/bikeshare-doctor"), {}
     with contextlib.closing(sqlite3.connect(":memory:")) as db:
-        # The key of `kept` is declared in files of earlier programs alone.
-        db.executescript(doctor.SCHEMA + doctor.KEYED_KEPT)
+        db.executescript(doctor.SCHEMA)
         for (table,) in db.execute("SELECT name FROM sqlite_master WHERE type = 'table' ORDER BY rootpage").fetchall():
             wanted[table] = []
             for _, name, kind, is_wanted, _, key in db.execute(f"PRAGMA table_info({table})").fetchall():

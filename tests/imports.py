@@ -69,7 +69,7 @@ def test_worked_tables(program):
 
 def test_rows_are_kept_as_requests(program):
     assert load(program, HEADER + ROWS) == (0, "rows 3\n", "")
-    kept = rows_of("SELECT caller, req_key, command, reply FROM kept ORDER BY req_key", program.folder, "city.db")
+    kept = rows_of("SELECT caller, req_key, command, reply FROM history ORDER BY number", program.folder, "city.db")
     assert [row[:2] for row in kept] == [("import:spring", f"row-{number}") for number in (1, 2, 3)], kept
     assert (
         kept[1][2] == "add-station\tc2\tCorso, north\t45.000001\t9.200000\t12" and {row[3] for row in kept} == {"ok"}
@@ -280,9 +280,9 @@ def test_many_stations(program):
 
 
 def kept(program, name):
-    """The keys and commands that are kept of an import, by key."""
+    """The keys and commands that are kept of an import, in the order of its rows."""
     return rows_of(
-        f"SELECT req_key, command FROM kept WHERE caller = 'import:{name}' ORDER BY length(req_key), req_key",
+        f"SELECT req_key, command FROM history WHERE caller = 'import:{name}' ORDER BY number",
         program.folder,
         "city.db",
     )

@@ -1,8 +1,7 @@
 """Files that earlier programs wrote, as they stand in files/, with what these showed of each (files/README.md).
 
-No word but `raise` takes one of schema 1 or 2: each says `older 1` or `older 2` and leaves the file as it is. One of
-schema 3, whose `kept` has a PRIMARY KEY, every word takes, and leaves it its layout. What a city shows that is made
-anew from the same request lines is what the earlier program showed of it.
+No word but `raise` takes one: each says `older` with its schema and leaves the file as it is. What a city shows that is
+made anew from the same request lines is what the earlier program showed of it.
 """
 
 import gzip
@@ -10,9 +9,7 @@ import json
 from pathlib import Path
 
 from adoption import checked
-from shared import (
-    DONE, HEADER, HERE, READY, SOUND, TOP, Server, changed, held, is_keyed, is_sound, office, rows_of,
-)
+from shared import BY_KEY, HERE, HISTORY, TOP, changed, held, is_keyed, is_sound
 
 FILES, TOUR = HERE / "files", TOP / "docs/tour.txt"
 
@@ -100,29 +97,14 @@ def test_a_file_with_regions(program):
     is_older(program, "regions", 2)
 
 
-def test_a_file_with_a_key_of_kept(program):
-    """What the earlier program kept is answered as before, and nothing of the schema changes."""
-    file = unpacked(program, "names")
-    schema = "SELECT type, name, tbl_name, rootpage, sql FROM sqlite_schema"
-    before = rows_of(schema, file)
-    assert is_keyed(file)
-    shows(program, file.name, shown_of("names"))
-    for words, given, wanted in (
-        (["init"], b"", READY), (["raise"], b"", (0, b"version 3\n", b"")), (["check"], b"", SOUND),
-        (["import", "spring", "--at", "1700100000"], f"{HEADER}z9,New,0,0,1\n".encode(), (0, b"rows 1\n", b"")),
-    ):
-        found = program.run(words[0], file.name, *words[1:], given=given)
-        assert found == wanted, (words, found)
-    for _ in range(2):
-        with Server(program, 1, file.name) as server:
-            assert server.ask(office("once", "add-rider\t4711")) == DONE
-    is_sound(program, file.name)
-    assert rows_of(schema, file) == before and rows_of("SELECT count(*) FROM riders WHERE rider = 4711", file) == [(1,)]
+def test_a_file_with_names(program):
+    """Kept when names in further languages had come in, of schema 3. Its `kept` has a PRIMARY KEY."""
+    assert is_keyed(unpacked(program, "names"))
+    is_older(program, "names", 3)
 
 
 def test_names_made_anew(program):
     made_anew_shows(program, "names", (FILES / "names.in").read_bytes())
-    assert not is_keyed(program.folder, "anew.db")
 
 
 def test_the_tour_made_anew(program):
@@ -140,9 +122,10 @@ def test_regions_made_anew(program):
 def test_an_older_file_whose_rows_are_bad(program):
     """Its rows are not looked at, and neither are its other tables."""
     bad = ["UPDATE riders SET balance = balance + 1", "DROP TABLE counts", "CREATE TABLE more_names (a)"]
-    older = [*bad, "DELETE FROM stations", "CREATE TABLE regions (a)", "ALTER TABLE stations RENAME TO stations_3"]
-    newer = [*bad, "DELETE FROM stations_2", "DROP TABLE regions", "ALTER TABLE stations_2 RENAME TO stations_3"]
-    for name, version, changes in ("every", 1, older), ("regions", 2, newer):
+    first = [*bad, "DELETE FROM stations", "CREATE TABLE regions (a)", "ALTER TABLE stations RENAME TO stations_3"]
+    second = [*bad, "DELETE FROM stations_2", "DROP TABLE regions", "ALTER TABLE stations_2 RENAME TO stations_3"]
+    third = [*bad[:2], "DELETE FROM kept", "CREATE TABLE history (a)", "ALTER TABLE kept RENAME TO history"]
+    for name, version, changes in ("every", 1, first), ("regions", 2, second), ("names", 3, third):
         for change in changes:
             file = unpacked(program, name)
             changed(file, change)
@@ -151,19 +134,17 @@ def test_an_older_file_whose_rows_are_bad(program):
 
 def test_an_older_file_that_calls_itself_newer(program):
     """The version alone makes no file of another schema: its tables are others."""
-    for name, versions in (
-        ("tour", {2: "older 2", 3: "foreign", 4: "newer 4"}), ("regions", {1: "older 1", 3: "foreign", 4: "newer 4"})
-    ):
+    for name in "tour", "regions", "names":
         file = unpacked(program, name)
-        for version, wanted in versions.items():
+        for version, wanted in enumerate(["older 1", "older 2", "older 3", "foreign", "newer 5"], 1):
             changed(file, f"UPDATE meta SET version = {version}")
             checked(program, file, wanted)
         changed(file, "DELETE FROM meta")
         checked(program, file, "foreign")
 
 
-# What schema 3 has more than schema 2, and schema 2 more than schema 1: a station's region, a table of regions, and one
-# of further names.
+# What schema 4 has more than schema 3, 3 than 2, and 2 than 1: numbers and moments of the requests, further names, a
+# station's region and a table of regions.
 STATIONS = (
     "CREATE TABLE stations_3 (station_id TEXT PRIMARY KEY NOT NULL, name TEXT NOT NULL, lat INTEGER NOT NULL, lon "
     "INTEGER NOT NULL, docks INTEGER NOT NULL, installed INTEGER NOT NULL, renting INTEGER NOT NULL, \"returning\" "
@@ -173,18 +154,25 @@ STATIONS = (
 MORE_NAMES = (
     "CREATE TABLE more_names (kind TEXT NOT NULL, id TEXT NOT NULL, language TEXT NOT NULL, name TEXT NOT NULL, "
     "PRIMARY KEY (kind, id, language)) STRICT;CREATE INDEX more_names_by_language ON more_names (language); "
-    "CREATE INDEX more_names_by_thing ON more_names (kind, id, language, name);UPDATE meta SET version = 3"
+    "CREATE INDEX more_names_by_thing ON more_names (kind, id, language, name);"
 )
 REGIONS = "CREATE TABLE regions (region_id TEXT PRIMARY KEY NOT NULL, name TEXT NOT NULL) STRICT;"
+REQUESTS = (
+    f"{HISTORY}; {BY_KEY}; INSERT INTO history SELECT row_number() OVER (ORDER BY rowid), 0, * FROM kept; "
+    "DROP TABLE kept; UPDATE meta SET version = 4"
+)
+MOVED = f"{STATIONS} INSERT INTO stations_3 SELECT"
 RAISED = {
-    1: f"{REGIONS} {STATIONS} INSERT INTO stations_3 SELECT *, NULL FROM stations; DROP TABLE stations; {MORE_NAMES}",
-    2: f"{STATIONS} INSERT INTO stations_3 SELECT * FROM stations_2; DROP TABLE stations_2; {MORE_NAMES}",
+    1: f"{REGIONS} {MOVED} *, NULL FROM stations; DROP TABLE stations; {MORE_NAMES} {REQUESTS}",
+    2: f"{MOVED} * FROM stations_2; DROP TABLE stations_2; {MORE_NAMES} {REQUESTS}",
+    3: REQUESTS,
 }
 
 
 def test_a_file_that_is_raised_by_hand(program):
-    """No station has a region that it had not, and nothing a further name: the rest is taken as it stands."""
-    for name, version in ("tour", 1), ("every", 1), ("city", 1), ("regions", 2):
+    """No station has a region that it had not, nothing a further name, and each request the moment 0: the rest is taken
+    as it stands."""
+    for name, version in ("tour", 1), ("every", 1), ("city", 1), ("regions", 2), ("names", 3):
         file = unpacked(program, name)
         changed(file, RAISED[version])
         shows(program, file.name, shown_of(name))

@@ -1,7 +1,7 @@
 """The program is ended by `kill -9` at random moments, while it answers request lines over a file or serves HTTP from
 one.
 
-Half of the files were made by an earlier program, whose `kept` has a PRIMARY KEY, and half are new.
+Half of the files were made by an earlier program, and were raised; half are new.
 
 After each kill SQLite's own integrity_check accepts the file, `check` says `sound`, and the file holds the city after
 some front of the list: every acknowledged request is in it, and at most one more. The list, sent again from its first
@@ -33,8 +33,8 @@ import time
 from pathlib import Path
 
 from shared import (
-    DONE, KEYED, READY, Server, at_once, copied, counted, environment, is_keyed, is_sound, is_whole, laid_out, line_of,
-    office, post, quickly, removed, rows_of, told_with,
+    DONE, READY, Server, at_once, copied, counted, environment, is_sound, is_whole, line_of, office, post, quickly,
+    removed, rows_of, told_with, with_kept,
 )
 
 KILLS = int(os.environ.get("BIKESHARE_KILLS", "10"))
@@ -137,7 +137,10 @@ REFUSED = {
 }
 
 # The columns that hold moments: HTTP requests have the clock's.
-MOMENTS = {"meta": ["now"], "stations_3": ["reported"], "rentals": ["start", "finish"], "entries": ["at"]}
+MOMENTS = {
+    "meta": ["now"], "stations_3": ["reported"], "rentals": ["start", "finish"], "entries": ["at"],
+    "history": ["moment"],
+}
 
 
 def keyed():
@@ -300,7 +303,7 @@ def undisturbed(program, kind):
     assert refused == REFUSED and len(answers) >= 60, (len(answers), refused, [answers[it] for it in refused])
     # The file before the first request has its tables or not.
     empty = {name: [] for name in fronts[0]}
-    begun = {**empty, "meta": [(1, "bikeshare", 3, True if kind.timeless else 0, 0, 0)]}
+    begun = {**empty, "meta": [(1, "bikeshare", 4, True if kind.timeless else 0, 0, 0)]}
     again = kind(program, "timed.db")
     before = time.monotonic()
     again.begin()
@@ -343,10 +346,11 @@ def kills(program, kind):
     number = 0
     while number < KILLS:
         file = Path(program.folder) / f"killed{number}.db"
-        least, is_earlier = 0, pick.random() < 0.5
-        if is_earlier:
+        least = 0
+        if pick.random() < 0.5:
             assert program.run("init", file.name) == READY
-            laid_out(file, KEYED)
+            with_kept(file, "keyed")
+            assert program.run("raise", file.name) == (0, b"version 4\n", b"")
         for _ in range(min(pick.randint(1, 4), KILLS - number)):
             number += 1
             told = f"{wrong}, kill {number}"
@@ -364,7 +368,6 @@ def kills(program, kind):
             f"{told}: sent again: {[it for it in zip(kind.requests, again, wanted) if it[1] != it[2]][:3]}, {said!r}"
         )
         assert held(file, kind.timeless) == fronts[-1], f"{told}: the list, sent again, ends in another city"
-        assert is_keyed(file) == is_earlier, f"{told}: kept has another layout"
         removed(file)
 
 

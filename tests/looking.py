@@ -15,6 +15,7 @@ from pathlib import Path
 
 import adoption
 import lone_logs
+import raising
 from days import ENTRIES, RENTALS
 from shared import (
     CITY, DISTURBED, DONE, FOREIGN, HEADER, NO_SYSTEM, READY, SOUND, STORE_FAILED, Server, at_once, changed, city, held,
@@ -254,10 +255,10 @@ def foreign(program):
 NOTES = "CREATE TABLE notes (note TEXT); "
 # Files without our tables, in which something else has a name that they or their indexes take.
 TAKEN = [
-    "CREATE VIEW meta AS SELECT 1 AS one", "CREATE VIEW kept AS SELECT 1 AS one", "CREATE VIEW Kept AS SELECT 1 AS one",
-    "CREATE VIEW kept_by_key AS SELECT 1 AS one", "CREATE TABLE bikes_by_dock (note TEXT)",
-    "CREATE TABLE more_names_by_thing (note TEXT)",
-    *(f"{NOTES}CREATE INDEX {it} ON notes (note)" for it in ("meta", "bikes", "bikes_by_dock", "kept_by_key")),
+    "CREATE VIEW meta AS SELECT 1 AS one", "CREATE VIEW history AS SELECT 1 AS one",
+    "CREATE VIEW History AS SELECT 1 AS one", "CREATE VIEW history_by_key AS SELECT 1 AS one",
+    "CREATE TABLE bikes_by_dock (note TEXT)", "CREATE TABLE more_names_by_thing (note TEXT)",
+    *(f"{NOTES}CREATE INDEX {it} ON notes (note)" for it in ("meta", "bikes", "bikes_by_dock", "history_by_key")),
     *(
         f"{NOTES}CREATE TRIGGER {it} AFTER INSERT ON notes BEGIN SELECT 1; END"
         for it in ("meta", "bikes", "bikes_by_dock", "more_names")
@@ -266,6 +267,7 @@ TAKEN = [
 # .. and such in which nothing has.
 FREE = [
     "CREATE VIEW stations AS SELECT 1 AS one", f"{NOTES}CREATE INDEX notes_by_note ON notes (note)",
+    "CREATE VIEW kept AS SELECT 1 AS one", f"{NOTES}CREATE INDEX kept_by_key ON notes (note)",
     f"{NOTES}CREATE TRIGGER stations_2 AFTER INSERT ON notes BEGIN SELECT 1; END",
 ]
 
@@ -288,7 +290,7 @@ def test_names_of_ours_that_are_free(program):
         changed(file, sql)
         with told_with(sql):
             stays(program, file.name)
-            assert program.run("raise", file.name) == (0, b"version 3\n", b"")
+            assert program.run("raise", file.name) == raising.DONE
             assert program.run("init", file.name) == READY
             assert program.run("check", file.name) == SOUND
         removed(file)

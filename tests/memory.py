@@ -197,7 +197,7 @@ def requests_for_memory(program, words, given=b""):
 def kept_of(program):
     """How many requests are kept of a run over the city."""
     ((count,),) = rows_of(
-        "SELECT count(*) FROM kept WHERE caller IN ('import:spring', 'crew:9')", program.folder, "city.db"
+        "SELECT count(*) FROM history WHERE caller IN ('import:spring', 'crew:9')", program.folder, "city.db"
     )
     return count
 

@@ -35,7 +35,9 @@ class Operator:
         self.plans, self.types, self.regions, self.stations, self.trucks, self.riders, self.bikes = (
             {}, {}, {}, {}, {}, {}, {}
         )
-        self.broken, self.rentals, self.orders, self.entries, self.kept = set(), [], [], [], {}
+        self.broken, self.rentals, self.orders, self.entries = set(), [], [], []
+        # What was accepted, in its order: the moment, caller, key, command and reply; and where a caller's key stands.
+        self.history, self.kept = [], {}
         # Names, as commands spell them: of a kind and an identifier, and the further ones of these by language.
         self.named, self.further = {}, {}
 
@@ -46,7 +48,7 @@ class Operator:
         moment, caller, key, text = line.split(b"\t", 3)
         text = formats.command_text(text)
         if (caller, key) in self.kept:
-            command, reply = self.kept[caller, key]
+            *_, command, reply = self.history[self.kept[caller, key]]
             return reply if command == text else b"refused\t33\tkey_reused"
         word, *fields = text.decode().split("\t")
         later, self.later = self.now, max(self.now, int(moment))
@@ -57,7 +59,8 @@ class Operator:
             return f"refused\t{number}\t{formats.REFUSALS[number]}".encode()
         assert later <= self.later
         self.now = self.later
-        self.kept[caller, key] = text, reply.encode()
+        self.kept[caller, key] = len(self.history)
+        self.history.append((self.now, caller, key, text, reply.encode()))
         return reply.encode()
 
     def told_names(self):

@@ -147,9 +147,9 @@ def tables_of(program):
             rows = base.execute(f"SELECT * FROM {name}")
             columns = [it[0] for it in rows.description]
             told[name] = sorted((dict(zip(columns, row)) for row in rows), key=repr)
-        kept = len(told.pop("kept"))
+        count = len(told.pop("history"))
         told.pop("meta")
-    return told, kept
+    return told, count
 
 
 @quickly
@@ -159,7 +159,7 @@ def test_rows_of_names(program):
     number = 100
     for kind, (ident, _, _, table, column) in THINGS.items():
         for step, answer, names in STEPS:
-            (before, kept), number = tables_of(program), number + 1
+            (before, count), number = tables_of(program), number + 1
             assert ask(program, [spelled(kind, step)], at=1699999300, first=number) == [answer], (kind, step)
             if names:
                 (row,) = before[table]
@@ -173,7 +173,7 @@ def test_rows_of_names(program):
                         if language != "en"
                     ),
                 ], key=repr)
-            assert tables_of(program) == (before, kept + (answer == "ok")), (kind, step)
+            assert tables_of(program) == (before, count + (answer == "ok")), (kind, step)
     is_sound(program)
 
 

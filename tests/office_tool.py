@@ -42,7 +42,7 @@ def here(server):
 
 def kept(program):
     """The requests that the city keeps whose keys a file's name begins."""
-    query = "SELECT req_key, command, reply FROM kept WHERE req_key GLOB '*-[0-9]*' ORDER BY rowid"
+    query = "SELECT req_key, command, reply FROM history WHERE req_key GLOB '*-[0-9]*' ORDER BY number"
     return rows_of(query, program.folder, "city.db")
 
 

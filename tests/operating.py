@@ -26,7 +26,7 @@ from pathlib import Path
 import adoption
 from serving import ended
 from shared import (
-    CITY, FEEDS, READY, STORE_FAILED, TOP, Server, answer, body_of, changed, city, free_port, get, is_keyed, is_sound,
+    CITY, FEEDS, READY, STORE_FAILED, TOP, Server, answer, body_of, changed, city, free_port, get, held, is_sound,
     needs, office, put, ran, removed, rows_of, taken,
 )
 
@@ -46,7 +46,7 @@ def top_ups(server, numbers):
 
 def keys_in(path):
     """The numbers of the top-ups that a file holds."""
-    return sorted(int(it[1:]) for (it,) in rows_of("SELECT req_key FROM kept WHERE req_key GLOB 'n[0-9]*'", path))
+    return sorted(int(it[1:]) for (it,) in rows_of("SELECT req_key FROM history WHERE req_key GLOB 'n[0-9]*'", path))
 
 
 class Sender(threading.Thread):
@@ -220,7 +220,7 @@ def test_sqlite3_beside_it(program):
     here = Path(program.folder)
     with Server(program) as server:
         assert top_ups(server, [1, 2, 3]) == [1, 2, 3]
-        for words in (["SELECT count(*) FROM kept"], [".backup beside.db"]):
+        for words in (["SELECT count(*) FROM history"], [".backup beside.db"]):
             for ways in ([], ["-readonly"]):
                 status, said = ran("sqlite3", *ways, "city.db", *words, cwd=here)
                 assert status and "database is locked" in said, (ways, words, status, said)
@@ -244,7 +244,7 @@ def test_plain_copies_after_the_end(program):
     here = Path(program.folder)
     plain_copy(here, "ended.db", log=False)
     is_sound(program, "ended.db")
-    assert rows_of("SELECT count(*) FROM kept", here, "ended.db") == [(len(CITY),)]
+    assert rows_of("SELECT count(*) FROM history", here, "ended.db") == [(len(CITY),)]
     with Server(program) as server:
         top_ups(server, [1, 2, 3])
     plain_copy(here, "both.db")
@@ -304,18 +304,17 @@ def test_a_standby_that_is_open(program):
     is_sound(program, "standby.db")
 
 
-def test_another_layout_of_kept(program):
-    """By the statements of docs/OPERATING.md a file of an earlier program gets pages and layout of today."""
-    file = adoption.made_keyed(program, "city.db")
+def test_other_pages(program):
+    """By the statements of docs/OPERATING.md a file gets the pages of a new one."""
+    file = adoption.made(program, "city.db")
     text = (TOP / "docs/OPERATING.md").read_text(encoding="utf-8")
-    (sql,) = re.findall(r"sqlite3 /var/lib/bikeshare/metro\.db '(BEGIN.*?)'", text, re.S)
+    (sql,) = re.findall(r"sqlite3 /var/lib/bikeshare/metro\.db '(PRAGMA.*?)'", text, re.S)
     changed(file, "PRAGMA journal_mode = DELETE; PRAGMA page_size = 4096; VACUUM; PRAGMA journal_mode = WAL")
-    kept = rows_of("SELECT * FROM kept ORDER BY rowid", file)
-    # Of a file in that layout the statements leave it as it is.
+    rows = held(file)
+    # A file with such pages the statements leave as it is.
     for _ in range(2):
         assert ran("sqlite3", "city.db", sql, cwd=program.folder) == (0, "delete\nwal\n")
-        assert not is_keyed(file) and rows_of("SELECT * FROM kept ORDER BY rowid", file) == kept and len(kept) > 30
-        assert rows_of("PRAGMA page_size", file) == [(2048,)]
+        assert held(file) == rows and rows_of("PRAGMA page_size", file) == [(2048,)]
     adoption.goes_on(program, file)
 
 

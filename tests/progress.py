@@ -10,7 +10,7 @@ from shared import CITY, HEADER, SOUND, ask, changed, is_sound
 
 ANEW, BACK, ERASED = b"\r\r\n\x1b[K", b"\x1b[A\r", b"\r\x1b[J"
 TABLES = (
-    "meta system plans segments types regions stations_3 docks bikes trucks riders rentals orders entries kept "
+    "meta system plans segments types regions stations_3 docks bikes trucks riders rentals orders entries history "
     "counts more_names"
 ).split()
 

@@ -1,4 +1,4 @@
-"""The word `raise`, which makes a file of schema 1 or 2 one of schema 3 (docs/FORMATS.md, section 12): what a raised
+"""The word `raise`, which makes a file of schema 1, 2 or 3 one of schema 4 (docs/FORMATS.md, section 12): what a raised
 file holds and shows, and what is refused and left as it is. raising_faults.py has what a bad row or a stop leaves.
 
 Files of earlier schemas are those that earlier programs wrote (tests/files), one that is written here in SQL alone, and
@@ -20,6 +20,7 @@ import collections
 import contextlib
 import functools
 import inspect
+import itertools
 import os
 import random
 import shutil
@@ -38,24 +39,27 @@ import tampered
 import traffic
 import words
 from shared import (
-    FEEDS, FOREIGN, HEAD, READY, SOUND, STORE_FAILED, TOP, UNKEYED, WRITE_FAILED, Program, Server, at_once, changed,
-    copied, is_whole, laid_out, put, quickly, removed, taken, told_with,
+    FEEDS, FOREIGN, HEAD, LAYOUTS, READY, SOUND, STORE_FAILED, TOP, WRITE_FAILED, Program, Server, at_once, changed,
+    copied, is_keyed, is_whole, put, quickly, removed, rows_of, taken, told_with, with_kept,
 )
 
 SEED = int(os.environ.get("BIKESHARE_SEED", "1"))
 SECONDS = 60
 
-NEWEST = 3
-DONE = (0, b"version 3\n", b"")
+NEWEST = 4
+DONE = (0, b"version 4\n", b"")
 # It was raised, and its log couldn't be brought into the file.
 UNSETTLED = (3, DONE[1], STORE_FAILED[2])
 WITHOUT_MEMORY = (4, b"", b"out of memory\n")
-MOST_DOCKS_BEFORE = 200
+MOST_DOCKS_BEFORE, MOST_DOCKS = 200, 500
 
-# The tables that an earlier schema has and the newest hasn't, and the other way round.
-OLD = {1: "stations", 2: "stations_2"}
-NEW = {1: ["regions", "stations_3", "more_names"], 2: ["stations_3", "more_names"]}
-KEPT = [("tour", 1), ("city", 1), ("every", 1), ("regions", 2)]
+# The table of stations of each earlier schema, the tables that it has and the newest hasn't, and the other way round.
+OLD = {1: "stations", 2: "stations_2", 3: "stations_3"}
+GONE = {1: ["stations", "kept"], 2: ["stations_2", "kept"], 3: ["kept"]}
+NEW = {
+    1: ["regions", "stations_3", "more_names", "history"], 2: ["stations_3", "more_names", "history"], 3: ["history"]
+}
+KEPT = [("tour", 1), ("city", 1), ("every", 1), ("regions", 2), ("names", 3)]
 
 
 def older(version):
@@ -76,8 +80,8 @@ Held = collections.namedtuple("Held", "schema rows")
 
 
 def held(file, whole=True):
-    """The entries of a file's schema, and the rows of each table: of a copy with its log, of which SQLite's own test
-    finds nothing."""
+    """The entries of a file's schema, and the rows of each table, those of `kept` in the order of their rowids: of a
+    copy with its log, of which SQLite's own test finds nothing."""
     with copied(file) as base:
         base.text_factory = bytes
         if whole:
@@ -85,9 +89,10 @@ def held(file, whole=True):
         entries = base.execute("SELECT type, name, tbl_name, sql FROM sqlite_schema").fetchall()
         schema = sorted((tuple(part and part.decode() for part in it) for it in entries), key=repr)
         tables = [name for kind, name, _, _ in schema if kind == "table"]
-        return Held(
-            schema, {name: sorted(base.execute(f'SELECT * FROM "{name}"').fetchall(), key=repr) for name in tables}
-        )
+        rows = {name: sorted(base.execute(f'SELECT * FROM "{name}"').fetchall(), key=repr) for name in tables}
+        if "kept" in tables:
+            rows["kept"] = base.execute("SELECT * FROM kept ORDER BY rowid").fetchall()
+        return Held(schema, rows)
 
 
 @functools.cache
@@ -98,14 +103,20 @@ def newest_schema(file):
         return held(Path(folder, "new.db")).schema
 
 
+def requests(rows):
+    """Rows of `kept`, or of `history` without their first two columns, as a raised file has them."""
+    return sorted(((number, 0, *row) for number, row in enumerate(rows, 1)), key=repr)
+
+
 def raised(program, before, version):
-    """What a file holds once it is raised: the stations by another name, in no region where there were none, and no
-    further names."""
-    rows = {name: it for name, it in before.rows.items() if name != OLD[version]}
+    """What a file holds once it is raised: the stations by another name, in no region where there were none, no further
+    names where there were none, and what was kept as a history, in its order and at moment 0."""
+    rows = {name: it for name, it in before.rows.items() if name not in GONE[version]}
     rows |= {name: [] for name in NEW[version]}
     rows["stations_3"] = sorted((it + (None,) * (version == 1) for it in before.rows[OLD[version]]), key=repr)
+    rows["history"] = requests(before.rows["kept"])
     rows["meta"] = [it[:2] + (NEWEST,) + it[3:] for it in before.rows["meta"]]
-    schema = [it for it in before.schema if it[2] != OLD[version]] + [
+    schema = [it for it in before.schema if it[2] not in GONE[version]] + [
         it for it in newest_schema(program.file) if it[2] in NEW[version]
     ]
     return Held(sorted(schema, key=repr), rows)
@@ -139,11 +150,18 @@ def stays(program, file, *wanted, whole=True):
 STATIONS = {2: kept_files.STATIONS.replace("stations_3", "stations_2")}
 STATIONS[1] = STATIONS[2].replace("stations_2", "stations").replace(", region_id TEXT)", ")")
 LOWERED = {1: f"{STATIONS[1]} DROP TABLE regions;", 2: STATIONS[2]}
-COLUMNS = {1: [it for it in audit.BOUNDS["stations_3"] if it != "region_id"], 2: list(audit.BOUNDS["stations_3"])}
+COLUMNS = {
+    1: [it for it in audit.BOUNDS["stations_3"] if it != "region_id"], 2: list(audit.BOUNDS["stations_3"]),
+    3: list(audit.BOUNDS["stations_3"]),
+}
+KEPT_COLUMNS = list(audit.BOUNDS["history"])[2:]
 
 
-def lowered(file, version):
+def lowered(file, version, layout="unkeyed"):
     """Takes from a file of the newest schema what came after an earlier one."""
+    with_kept(file, layout)
+    if version == 3:
+        return
     columns = ", ".join(f'"{it}"' for it in COLUMNS[version])
     moved = f"INSERT INTO {OLD[version]} SELECT {columns} FROM stations_3; DROP TABLE stations_3; DROP TABLE more_names"
     changed(file, f"{LOWERED[version]} {moved}; UPDATE meta SET version = {version}")
@@ -209,19 +227,21 @@ SYSTEM = (
 NORTH = '{"region_id":"north","name":[{"text":"North","language":"en"}]}'
 
 
-def of_sql(folder, version, has_region=False):
+def of_sql(folder, version, has_region=False, layout="keyed"):
     """The city in a file of an earlier schema, made by SQL alone."""
     rows = {"meta": [(1, "bikeshare", version, AT, 2500, 0)], **ROWS}
-    rows[OLD[version]] = [STATION + ("north" if has_region else None,) * (version == 2)]
-    if version == 2:
+    rows[OLD[version]] = [STATION + ("north" if has_region else None,) * (version > 1)]
+    if version > 1:
         rows["regions"] = [("north", "North")] if has_region else []
+    if version > 2:
+        rows["more_names"] = []
+    columns = {**audit.BOUNDS, OLD[version]: COLUMNS[version], "kept": KEPT_COLUMNS}
     file = Path(folder, f"sql{version}{'_region' * has_region}.db")
     with contextlib.closing(sqlite3.connect(file, isolation_level=None)) as base:
         base.execute("PRAGMA synchronous = OFF")
         for name, given in rows.items():
-            columns = COLUMNS[version] if name == OLD[version] else list(audit.BOUNDS[name])
-            base.execute(declared(name, columns))
-            base.executemany(f"INSERT INTO {name} VALUES ({', '.join('?' * len(columns))})", given)
+            base.executescript(LAYOUTS[layout] if name == "kept" else declared(name, list(columns[name])))
+            base.executemany(f"INSERT INTO {name} VALUES ({', '.join('?' * len(columns[name]))})", given)
         for index in INDEXES:
             base.execute(index)
     return file
@@ -252,7 +272,7 @@ def test_files_of_earlier_programs(program):
         head, _, _ = shown["feeds"]["station_status"].partition('"data":')
         if version == 1:
             shown["feeds"]["system_regions"] = head + '"data":{"regions":[]}}'
-        assert '"languages":["en"],' in shown["feeds"]["system_information"]
+        assert ('"languages":["en"],' in shown["feeds"]["system_information"]) == (version < 3)
         first = Path(shutil.copy(file, file.with_name("first.db")))
         kept_files.shows(program, first.name, shown)
 
@@ -262,21 +282,52 @@ def test_files_of_earlier_programs(program):
         kept_files.shows(program, file.name, shown)
 
 
-def test_kept_requests_without_a_key(program):
-    """The table `kept` stands in either layout, and stays in it. Two rows of one key are no city of an earlier schema,
-    and the first bad row of one of the newest."""
-    for version in OLD:
-        file = of_sql(program.folder, version)
-        laid_out(file, UNKEYED)
+def test_both_layouts_of_kept(program):
+    for version, layout in itertools.product(OLD, LAYOUTS):
+        file = of_sql(program.folder, version, layout=layout)
+        assert is_keyed(file) == (layout == "keyed")
         is_raised(program, file, version)
         removed(file)
-        file = of_sql(program.folder, version)
-        laid_out(file, UNKEYED)
-        changed(file, "INSERT INTO kept SELECT * FROM kept LIMIT 1")
-        stays(program, file, FOREIGN)
-    file = adoption.made(program, "city.db")
-    changed(file, f"{adoption.AGAIN}; UPDATE riders SET balance = balance + 1")
-    stays(program, file, unsound("kept", b"office/k2"))
+
+
+AGAIN = "INSERT INTO kept SELECT * FROM kept WHERE req_key = 'f5'"
+NO = "UPDATE kept SET reply = 'no' WHERE req_key"
+# Changes of `kept` without a key, which has 13 rows, from f1 to f11 and then g1 and g2; and the number of the bad one.
+OF_KEPT = [
+    (AGAIN, 14), ("UPDATE kept SET req_key = 'f2' WHERE req_key = 'f1'", 2), (f"{NO} = 'f9'", 9),
+    ("UPDATE kept SET req_key = 'f9' WHERE req_key = 'f3'; UPDATE kept SET req_key = 'f6' WHERE req_key = 'f1'", 6),
+    (f"{AGAIN}; {NO} = 'f9'", 9), (f"{AGAIN}; UPDATE kept SET command = 'x' WHERE rowid = 14", 14),
+    (f"{AGAIN}; DELETE FROM counts", 14), ("UPDATE kept SET caller = 'crew:3', req_key = 'k'", 2),
+    ("INSERT INTO kept SELECT 'crew:3', req_key, command, reply FROM kept", None),
+    ("INSERT INTO kept SELECT caller, upper(req_key), command, reply FROM kept", None), ("DELETE FROM kept", None),
+    # The rowids tell the order alone.
+    ("DELETE FROM kept WHERE rowid IN (1, 4, 13)", None), (f"DELETE FROM kept WHERE rowid IN (1, 4); {NO} = 'f5'", 3),
+    ("UPDATE kept SET rowid = 100 * rowid", None), (f"UPDATE kept SET rowid = 100 * rowid; {NO} = 'f3'", 3),
+    ("UPDATE kept SET rowid = 100 - rowid", None), (f"UPDATE kept SET rowid = 100 - rowid; {NO} = 'g2'", 1),
+    ("UPDATE kept SET rowid = -rowid", None), (f"UPDATE kept SET rowid = -rowid; {NO} = 'f1'", 13),
+    ("UPDATE kept SET rowid = 0 WHERE req_key = 'g2'", None),
+    (f"UPDATE kept SET rowid = 9223372036854775807 WHERE req_key = 'f1'; {NO} = 'f1'", 13),
+    (f"UPDATE kept SET rowid = -9223372036854775808 WHERE req_key = 'g2'; {NO} = 'f1'", 2),
+]
+
+
+def test_rows_of_kept(program):
+    """They become the rows of the history in the order of their rowids, and are judged as such: a bad one is told by
+    its place."""
+    for version in OLD:
+        for change, number in OF_KEPT:
+            file = of_sql(program.folder, version, layout="unkeyed")
+            changed(file, change)
+            with told_with(f"version {version}, {change}"):
+                if number is None:
+                    is_raised(program, file, version)
+                else:
+                    stays(program, file, unsound("history", b"%d" % number))
+            removed(file)
+        file = of_sql(program.folder, version, layout="unkeyed")
+        changed(file, f"{AGAIN}; UPDATE riders SET balance = balance + 1")
+        stays(program, file, unsound("riders", b"17"))
+        removed(file)
 
 
 def test_kept_requests_act_no_more(program):
@@ -299,7 +350,7 @@ def test_kept_requests_act_no_more(program):
 
 def test_a_city_of_sql(program):
     """Its rows are written here, and so is what is shown of it."""
-    for version, has_region in (1, False), (2, False), (2, True):
+    for version, has_region in (1, False), (2, False), (2, True), (3, False), (3, True):
         file = of_sql(program.folder, version, has_region)
         is_raised(program, file, version)
         region = '"region_id":"north",' * has_region
@@ -364,23 +415,27 @@ def test_what_came_later_is_served_of_a_raised_file(program):
         assert b'"Haven","language":"en"},{"text":"Kai","language":"de"}]' in texts["station_information"], texts
         assert program.run("check", file.name) == SOUND
         assert program.run("raise", file.name) == DONE
+        moments = rows_of("SELECT moment FROM history ORDER BY number", file)
+        assert moments == [(0,)] * 13 + [(AT,)] * (len(moments) - 13) and len(moments) == 29, moments
 
 
 def test_cities_of_traffic(program):
-    """What today's program holds of them, less what came later, is what a raised file holds."""
-    for seed, version in (SEED, 1), (SEED + 1, 2):
+    """What today's program holds of them, less what came later and the moments of the requests, is what a raised file
+    holds."""
+    for seed, version, layout in (SEED, 1, "keyed"), (SEED + 1, 2, "unkeyed"), (SEED + 2, 3, "unkeyed"):
         file = Path(program.folder, f"city{version}.db")
         lines, told = traffic.made(seed, 600, languages=["en"])
         regions = [f"0\toffice\tr{it}\tadd-region\tr{it}\tRegion {it}\n" for it in range(3)]
         regions += [f"0\toffice\ts{it}\tset-region\ts000{1 + it}\tr{it % 3}\n" for it in range(5)]
-        given = "".join([*lines, *(regions if version == 2 else [])]).encode()
-        wanted = traffic.joined(told) + b"ok\n" * (len(regions) if version == 2 else 0)
+        given = "".join([*lines, *(regions if version > 1 else [])]).encode()
+        wanted = traffic.joined(told) + b"ok\n" * (len(regions) if version > 1 else 0)
         assert program.run("lines", file.name, given=given) == (0, wanted, b"")
         whole = held(file)
+        rows = [row[2:] for row in sorted(whole.rows["history"])]
         feeds = {it: program.run("feed", file.name, it, "--at", "1800000000") for it in FEEDS}
-        lowered(file, version)
+        lowered(file, version, layout)
         is_raised(program, file, version)
-        assert held(file) == whole
+        assert held(file) == whole._replace(rows=whole.rows | {"history": requests(rows)})
         assert {it: program.run("feed", file.name, it, "--at", "1800000000") for it in FEEDS} == feeds
 
 
@@ -396,6 +451,7 @@ def test_files_of_the_newest_schema(program):
             unsound("stations_3", b"a1"),
         ),
         ("UPDATE stations_3 SET region_id = NULL WHERE station_id = 'a1'", DONE),
+        (adoption.AGAIN, unsound("history", b"38")), ("DELETE FROM history WHERE number = 38", DONE),
         ("DROP TABLE counts", FOREIGN), ("DELETE FROM meta", FOREIGN),
     ):
         changed(file, change)
@@ -473,11 +529,10 @@ def test_a_log_of_an_earlier_schema(program):
 
 def test_files_of_other_versions(program):
     """The version alone makes no file of another schema: its tables are others."""
-    for version, told in (1, {2: FOREIGN, 3: FOREIGN}), (2, {1: FOREIGN, 3: FOREIGN}):
+    for version in OLD:
         file = of_sql(program.folder, version)
-        for number, wanted in {
-            **told, 4: newer(4), 2**40: newer(2**40), 2**63 - 1: newer(2**63 - 1), 0: FOREIGN, -1: FOREIGN
-        }.items():
+        others = dict.fromkeys({-1, 0, *OLD, NEWEST} - {version}, FOREIGN)
+        for number, wanted in {**others, **{it: newer(it) for it in (5, 2**40, 2**63 - 1)}}.items():
             changed(file, f"UPDATE meta SET version = {number}")
             stays(program, file, wanted)
         changed(file, f"UPDATE meta SET version = {version}, app = 'other'")
@@ -486,6 +541,9 @@ def test_files_of_other_versions(program):
         stays(program, file, FOREIGN)
         changed(file, f"INSERT INTO meta VALUES (1, 'bikeshare', {version}, {AT}, 2500, 0)")
         is_raised(program, file, version)
+        for number in OLD:
+            changed(file, f"UPDATE meta SET version = {number}")
+            stays(program, file, FOREIGN)
 
 
 def quoted(text, mark='"'):
@@ -511,20 +569,24 @@ def test_what_others_have_stays(program):
         assert held(file).rows["notes"] == before.rows["notes"] != []
 
 
-def test_what_others_have_of_the_old_table(program):
-    """An index of the table goes with it, and a view of it stays as a text."""
-    for version in OLD:
-        file = of_sql(program.folder, version)
-        indexes = f"CREATE INDEX more ON {OLD[version]} (name); CREATE UNIQUE INDEX one ON {OLD[version]} (name)"
-        changed(file, f"{indexes}; CREATE VIEW seen AS SELECT name FROM {OLD[version]}")
-        is_raised(program, file, version)
-        assert "seen" in [it[1] for it in held(file).schema]
+def test_what_others_have_of_the_old_tables(program):
+    """An index of such a table goes with it, and a view of it stays as a text."""
+    for version, layout in itertools.product(OLD, LAYOUTS):
+        for table in GONE[version]:
+            for column in ["command", "caller, req_key"] if table == "kept" else ["name"]:
+                file = of_sql(program.folder, version, layout=layout)
+                indexes = f"CREATE INDEX more ON {table} ({column}); CREATE UNIQUE INDEX one ON {table} ({column})"
+                changed(file, f"{indexes}; CREATE VIEW seen AS SELECT * FROM {table}")
+                with told_with(f"version {version}, {layout}, {table} ({column})"):
+                    is_raised(program, file, version)
+                    assert "seen" in [it[1] for it in held(file).schema]
+                removed(file)
 
 
 def test_a_unique_index_that_somebody_added(program):
     """On a table that stays: a good request could fail on it afterwards."""
     for version in OLD:
-        for where in "riders (balance)", "bikes (station_id, dock)", "kept (req_key, caller)", "meta (app)":
+        for where in "riders (balance)", "bikes (station_id, dock)", "counts (type_id)", "meta (app)":
             file = of_sql(program.folder, version)
             changed(file, f"CREATE UNIQUE INDEX one ON {where}")
             with told_with(f"version {version}, {where}"):
@@ -535,20 +597,18 @@ def test_a_unique_index_that_somebody_added(program):
 def test_names_that_others_have_taken(program):
     """Of a newer table: a table, or a foreign key to one, makes a file another program's; with a view or an index it
     can't be raised."""
-    indexes = ["CREATE {} more_names_by_language {}", "CREATE {} more_names_by_thing {}"]
     for version in OLD:
         new = NEW[version]
+        indexes = ["history_by_key"] + ["more_names_by_language", "more_names_by_thing"] * (version < 3)
         foreign = [f"CREATE TABLE {it} (a)" for it in new] + [
-            f"CREATE TABLE pointing (a REFERENCES {it})" for it in [*new, OLD[version], "bikes"]
+            f"CREATE TABLE pointing (a REFERENCES {it})" for it in [*new, *GONE[version], "bikes"]
         ]
         foreign += [declared(it, list(audit.BOUNDS[it])) for it in new] + [
             f"CREATE TABLE {it.upper()} (a)" for it in new
         ]
         failed = [f"CREATE VIEW {it} AS SELECT 1" for it in new] + [f"CREATE INDEX {it} ON bikes (bike)" for it in new]
         for it in indexes:
-            failed += [
-                it.format("TABLE", "(a)"), it.format("VIEW", "AS SELECT 1"), it.format("INDEX", "ON bikes (bike)")
-            ]
+            failed += [f"CREATE TABLE {it} (a)", f"CREATE VIEW {it} AS SELECT 1", f"CREATE INDEX {it} ON bikes (bike)"]
         for change, wanted in [*((it, FOREIGN) for it in foreign), *((it, STORE_FAILED) for it in failed)]:
             file = of_sql(program.folder, version)
             changed(file, change)
@@ -594,9 +654,9 @@ def test_a_file_that_another_program_has(program):
 
 def test_raised_by_many_at_once(program):
     """Each ends well or finds it taken."""
-    for turn in range(5):
-        file = of_sql(program.folder, 1 + turn % 2)
-        wanted = raised(program, held(file), 1 + turn % 2)
+    for turn in range(6):
+        file = of_sql(program.folder, 1 + turn % 3)
+        wanted = raised(program, held(file), 1 + turn % 3)
         ends = at_once(lambda _, file=file: program.run("raise", file.name), range(6), 6)
         assert DONE in ends and all(it in (DONE, STORE_FAILED) for it in ends), ends
         assert held(file) == wanted
@@ -605,7 +665,7 @@ def test_raised_by_many_at_once(program):
 
 def test_output_that_takes_nothing(program):
     """It is written when the file is raised."""
-    for version, end in (1, "/dev/full"), (2, "&-"):
+    for version, end in (1, "/dev/full"), (2, "&-"), (3, "/dev/full"):
         file = of_sql(program.folder, version)
         wanted = raised(program, held(file), version)
         ended = program.shell(f">{end}", "raise", file.name)
@@ -648,7 +708,7 @@ def test_a_large_city(program):
     for word in "check", "raise":
         ended, took = timed(program, word, file.name)
         assert ended == (SOUND if word == "check" else DONE), ended
-        print(f"{word} of schema 3: {took}")
+        print(f"{word} of schema {NEWEST}: {took}")
     print(f"{file.stat().st_size >> 20} MB")
     for version in OLD:
         old = Path(shutil.copy(file, file.with_name(f"city{version}.db")))

@@ -538,22 +538,40 @@ def changed(file, change=""):
         base.execute("PRAGMA wal_checkpoint(TRUNCATE)").fetchall()
 
 
-# How earlier programs made `kept`.
+# How the program makes `history`.
+HISTORY = (
+    "CREATE TABLE history (number INTEGER PRIMARY KEY, moment INTEGER NOT NULL, caller TEXT NOT NULL, "
+    "req_key TEXT NOT NULL, command TEXT NOT NULL, reply TEXT NOT NULL) STRICT"
+)
+BY_KEY = "CREATE INDEX history_by_key ON history (caller, req_key)"
+# How earlier programs made `kept`, which schema 3 and those before it have in its place: first with a key.
 KEYED = (
     "CREATE TABLE kept (caller TEXT NOT NULL, req_key TEXT NOT NULL, command TEXT NOT NULL, reply TEXT NOT NULL, "
     "PRIMARY KEY (caller, req_key)) STRICT"
 )
-# As the program makes it. Both layouts are the newest version's.
 UNKEYED = KEYED.replace(", PRIMARY KEY (caller, req_key)", "")
-BY_KEY = "CREATE INDEX kept_by_key ON kept (caller, req_key)"
+KEPT_BY_KEY = "CREATE INDEX kept_by_key ON kept (caller, req_key)"
+# Both layouts of `kept` in files of schema 3.
+LAYOUTS = {"keyed": KEYED, "unkeyed": f"{UNKEYED}; {KEPT_BY_KEY}"}
 
 
-def laid_out(file, kept):
-    """Makes the file's `kept` anew by this text, with its rows and without an index."""
+def laid_out(file, made):
+    """Makes a table of the file anew by this text, with its rows and without an index."""
+    name = made.split()[2]
     changed(
         file,
-        f"CREATE TEMP TABLE rows AS SELECT * FROM kept ORDER BY rowid; DROP TABLE kept; {kept}; "
-        "INSERT INTO kept SELECT * FROM temp.rows ORDER BY rowid",
+        f"CREATE TEMP TABLE rows AS SELECT * FROM {name} ORDER BY rowid; DROP TABLE {name}; {made}; "
+        f"INSERT INTO {name} SELECT * FROM temp.rows ORDER BY rowid",
+    )
+
+
+def with_kept(file, layout="unkeyed"):
+    """Makes a file of the newest schema one of schema 3: `kept` in this layout has the requests of `history`, in their
+    order, and neither their numbers nor their moments."""
+    changed(
+        file,
+        f"{LAYOUTS[layout]}; INSERT INTO kept SELECT caller, req_key, command, reply FROM history ORDER BY number; "
+        "DROP TABLE history; UPDATE meta SET version = 3",
     )
 
 

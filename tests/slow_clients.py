@@ -461,6 +461,7 @@ SHORT_HEAD, LONG_HEAD, BYTES, SENDERS = 100, 8000, 50, 100
 def cost_of_bytes(server, length):
     """The nanoseconds of a processor that bytes take which come one by one behind so many of a head."""
     front = b"GET /riders/9 HTTP/1.1\r\nX: "
+    at_rest = server.descriptors()
     clients = begin(server, [server.connect] * SENDERS)
     for client in clients:
         client.sendall(front.ljust(length, b"x"))
@@ -479,6 +480,7 @@ def cost_of_bytes(server, length):
         found = rest(client)
         assert found == error(404), found
         client.close()
+    until(lambda: server.descriptors() == at_rest, SOON, "the connections are closed")
     return took
 
 

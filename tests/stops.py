@@ -33,9 +33,9 @@ from pathlib import Path
 
 import shared
 from shared import (
-    DISTURBED, EINTR, EIO, ENOSPC, FAULTS, KEYED, KILLED, NO_SYSTEM, ROOM, SOUND, STORE_FAILED, TOP, UNAVAILABLE, WANTS,
-    Program, at_once, city, counted, environment, exchanged, faulty, get_feed, held, is_sound, laid_out, nothing_is,
-    post, put, quickly, removed, rows_of, taken, tell,
+    DISTURBED, EINTR, EIO, ENOSPC, FAULTS, KILLED, NO_SYSTEM, ROOM, SOUND, STORE_FAILED, TOP, UNAVAILABLE, WANTS,
+    Program, at_once, city, counted, environment, exchanged, faulty, get_feed, held, is_sound, nothing_is, post, put,
+    quickly, removed, rows_of, taken, tell, with_kept,
 )
 
 STRIDE = int(os.environ.get("BIKESHARE_STOPS", "0"))
@@ -230,11 +230,13 @@ def made(file, count):
         return taken(folder, "city.db")
 
 
-def made_keyed(file, count):
-    """The same as an earlier program made it, whose `kept` has a PRIMARY KEY."""
+def made_raised(file, count):
+    """The same as an earlier program made it, once it is raised."""
     with tempfile.TemporaryDirectory(dir=ROOM) as folder:
         put(made(file, count), folder, "city.db")
-        laid_out(Path(folder, "city.db"), KEYED)
+        with_kept(Path(folder, "city.db"))
+        ended = Program(file, folder).run("raise", "city.db", timeout=DISTURBED)
+        assert ended == (0, b"version 4\n", b""), ended
         return taken(folder, "city.db")
 
 
@@ -259,8 +261,8 @@ def run_named(file, name):
         return Lines(file, {}, words, LINES, ANSWERS)
     if name == "lines of a file":
         return Lines(file, made(file, 10), words, LINES[10:], ANSWERS[10:])
-    if name == "lines of an earlier file":
-        return Lines(file, made_keyed(file, 10), words, LINES[10:], ANSWERS[10:])
+    if name == "lines of a raised file":
+        return Lines(file, made_raised(file, 10), words, LINES[10:], ANSWERS[10:])
     if name == "lines of other commands":
         return Lines(
             file,
@@ -288,7 +290,7 @@ def run_named(file, name):
     )
 
 
-LONG = ["lines of a new file", "lines of a file", "lines of an earlier file", "lines of other commands"]
+LONG = ["lines of a new file", "lines of a file", "lines of a raised file", "lines of other commands"]
 LONG += ["lines while the log is copied"]
 RUNS = ["init", *LONG, "import"]
 RUNS += ["check", "feed", "a table of a day", "a start over HTTP", "a feed over HTTP"]

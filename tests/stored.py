@@ -192,7 +192,7 @@ def are_kept(program, file, commands, wanted):
     asked, answers = (text(part) for part in zip(*rows))
     assert program.run("lines", file, given=asked) == (0, answers, b"")
     with copied(program.folder, file) as base:
-        found = dict(base.execute("SELECT req_key, command FROM kept"))
+        found = dict(base.execute("SELECT req_key, command FROM history"))
         values = {query: base.execute(query).fetchall() for query in wanted}
     assert found == {f"w{at}": own.replace("|", "\t") for at, (_, own) in enumerate(commands)}, found
     assert values == wanted, values
@@ -210,5 +210,5 @@ def test_entries(program):
 def test_kept_callers(program):
     asked = text(f"0|{caller}|k|add-rider|{rider}" for rider, caller in enumerate(CALLERS, 1))
     assert program.run("lines", "city.db", given=asked) == (0, b"ok\n" * len(CALLERS), b"")
-    found = rows_of("SELECT caller, command FROM kept", program.folder, "city.db")
+    found = rows_of("SELECT caller, command FROM history", program.folder, "city.db")
     assert sorted(found) == sorted((caller, f"add-rider\t{rider}") for rider, caller in enumerate(CALLERS, 1)), found

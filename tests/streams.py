@@ -126,8 +126,8 @@ def test_output_that_is_left_early(program):
             child.stdin.close()
             said = child.stderr.read()
             assert (child.wait(timeout=SECONDS), said) == (6, b"write failed\n"), (count, said)
-        ((kept,),) = rows_of("SELECT count(*) FROM kept", program.folder, file)
-        assert kept == count + 1, (count, kept)
+        ((found,),) = rows_of("SELECT count(*) FROM history", program.folder, file)
+        assert found == count + 1, (count, found)
         paths.goes_on(program, file)
 
 
@@ -273,7 +273,7 @@ def test_answer_lines_that_fail_behind_each_byte(program):
         found = faulty(program, ["lines", "city.db"], LINES, ONLY_ENDS=2, SHORT_FROM=1, FAIL_AT=size + 1)
         assert found == (6, ANSWERS[:size], b"write failed\n"), (size, found)
         lines = ANSWERS[:size].count(b"\n") + 1
-        assert rows_of("SELECT count(*) FROM kept", program.folder, "city.db") == [(min(lines, 2),)], size
+        assert rows_of("SELECT count(*) FROM history", program.folder, "city.db") == [(min(lines, 2),)], size
         assert program.run("lines", "city.db", given=LINES) == (0, ANSWERS, b""), size
         assert rows_of("SELECT * FROM entries", program.folder, "city.db") == [(1, 1, 17, 0, 2500, 1700000001)], size
 
@@ -343,7 +343,7 @@ def test_inputs_that_fail_at_each_read(program):
         seen += 1
         whole = LINES[: turn - len(out)].count(b"\n")
         assert (status, out, said) == (6, b"".join(wanted[:whole]), b"read failed\n"), (turn, status, out, said)
-        assert rows_of("SELECT count(*) FROM kept", program.folder, "city.db") == [(min(whole, 2),)], turn
+        assert rows_of("SELECT count(*) FROM history", program.folder, "city.db") == [(min(whole, 2),)], turn
         assert program.run("lines", "city.db", given=b"".join(lines[whole:])) == (0, b"".join(wanted[whole:]), b""), (
             turn
         )
@@ -374,5 +374,5 @@ def test_a_request_whose_reading_fails(program):
     for turn in some(len(ROW_13), 13):
         ended = faulty_exchange(program, ROW_13, ONLY_ENDS=1, SHORT_FROM=1, FAIL_AT=LISTENING + turn + 1)
         assert ended == (0, b"", b""), (turn, ended)
-    assert rows_of("SELECT count(*) FROM kept WHERE caller = 'rider:17'", program.folder, "city.db") == [(0,)]
+    assert rows_of("SELECT count(*) FROM history WHERE caller = 'rider:17'", program.folder, "city.db") == [(0,)]
     holds(program, [(ROW_13, STARTED)])

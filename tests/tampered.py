@@ -166,6 +166,11 @@ def by_sql(sql, values=(), loose=False):
     return functools.partial(done_by_sql, sql, values, loose)
 
 
+def by_script(sql):
+    """A change by several statements."""
+    return lambda file: changed(file, sql)
+
+
 def done_by_sql(sql, values, loose, file):
     """Changes a file so."""
     with contextlib.closing(sqlite3.connect(file, isolation_level=None)) as base:
@@ -328,6 +333,32 @@ def test_regions(program):
     holds(program, city, changes, of_rows, "regions")
 
 
+def test_history(program):
+    """Each column of the history; rows that are added or go, at the end and in the midst; two that change places; and a
+    key that comes again. All of it in one sample of its own."""
+    city, _ = made(program)
+    tables = tables_of(city, program)
+    count = len(tables["history"])
+    changes = [it for it in updates(tables) if it[0].startswith("UPDATE OR IGNORE history ")]
+    changes += rows_added_and_removed({"history": tables["history"]})
+    for number, other in itertools.product((1, 2, count // 2, count - 1, count), repeat=2):
+        for column in "moment", "caller", "req_key", "caller, req_key", "command, reply":
+            row = f"(SELECT {column} FROM history WHERE number = {other})"
+            sql = f"UPDATE history SET ({column}) = {row} WHERE number = {number}"
+            changes.append((sql, by_sql(sql)))
+        sql = f"UPDATE history SET number = CASE number WHEN {number} THEN -{other} ELSE -{number} END"
+        sql = f"{sql} WHERE number IN ({number}, {other}); UPDATE history SET number = abs(number)"
+        changes.append((sql, by_script(sql)))
+    for more in 1, 2:
+        for moment in 0, "moment", "(SELECT now FROM meta)", "(SELECT now + 1 FROM meta)":
+            for key in "req_key", "'new'", "'k'", "''":
+                sql = f"INSERT INTO history SELECT {count + more}, {moment}, caller, {key}, command, reply FROM history"
+                sql = f"{sql} WHERE number = {count}"
+                changes.append((sql, by_sql(sql)))
+    assert len(changes) > 700, len(changes)
+    holds(program, city, changes, of_rows, "history")
+
+
 def with_names(*rows):
     """Rows of more_names, whatever stood under their keys."""
     sql = f"INSERT OR REPLACE INTO more_names VALUES {', '.join(['(?, ?, ?, ?)'] * len(rows))}"
@@ -436,11 +467,11 @@ def test_tables_and_columns(program):
         sound += [f"CREATE INDEX more_{name} ON {name} ({columns[1]})"]
     sound += [
         "DROP INDEX bikes_by_dock", "DROP INDEX rentals_by_rider", "DROP INDEX more_names_by_language",
-        "DROP INDEX more_names_by_thing", "CREATE TABLE notes (note TEXT)",
+        "DROP INDEX more_names_by_thing", "DROP INDEX history_by_key", "CREATE TABLE notes (note TEXT)",
         "CREATE VIEW seen AS SELECT bike FROM bikes",
     ]
     # The names of tables that other versions have are free here.
-    sound += [f"CREATE TABLE {it} (note TEXT)" for it in ("stations", "stations_2")]
+    sound += [f"CREATE TABLE {it} (note TEXT)" for it in ("stations", "stations_2", "kept")]
     sound += [
         "CREATE TABLE helmets (helmet INTEGER PRIMARY KEY, size TEXT UNIQUE)",
         "PRAGMA user_version = 7",
@@ -615,11 +646,11 @@ def test_logs_that_are_changed(program):
             wrong.append(f"{name}: first {ended} and then {again}")
         if ended == SOUND:
             with contextlib.closing(sqlite3.connect(file)) as base:
-                (there,) = base.execute("SELECT count(*) FROM sqlite_schema WHERE name = 'kept'").fetchone()
-                kept = base.execute("SELECT count(*) FROM kept").fetchone()[0] if there else 0
+                (there,) = base.execute("SELECT count(*) FROM sqlite_schema WHERE name = 'history'").fetchone()
+                count = base.execute("SELECT count(*) FROM history").fetchone()[0] if there else 0
             # Of a young city whose log doesn't hold, no table is left: that is an empty city.
             if there and verdict(read(file)) != SOUND:
-                wrong.append(f"{name}: {verdict(read(file))}, and check says sound, of {kept} requests")
+                wrong.append(f"{name}: {verdict(read(file))}, and check says sound, of {count} requests")
         removed(file)
     assert not wrong, f"seed {SEED}\n" + "\n".join(wrong)
 
@@ -636,7 +667,7 @@ def test_files_of_no_city(program):
         file = folder / f"no{number}.db"
         file.write_bytes(data)
         assert says(program, file) == STORE_FAILED, (data[:20], says(program, file))
-    for number, name in enumerate(["meta", "regions", "more_names", "stations", "stations_2", "stations_3", "counts"]):
+    for number, name in enumerate([*TABLES, "stations", "stations_2", "kept"]):
         sql = f"CREATE TABLE {name} (a)"
         file = folder / f"other{number}.db"
         by_sql(sql)(file)

@@ -333,7 +333,7 @@ def replied(file, replies):
         base.execute("BEGIN")
         for at, reply in enumerate(replies):
             done = base.execute(
-                "UPDATE kept SET reply = ? WHERE caller = 'office' AND req_key = ?",
+                "UPDATE history SET reply = ? WHERE caller = 'office' AND req_key = ?",
                 (reply.replace("|", "\t"), f"r{at}"),
             )
             assert done.rowcount == 1, at
@@ -365,7 +365,7 @@ def test_other_texts_are_no_replies(program):
     for text in NO_REPLIES:
         replied(file, [text])
         found[text] = program.run("check", "city.db")
-    wrong = {text: ended for text, ended in found.items() if ended != (5, b"", b"unsound kept office/r0\n")}
+    wrong = {text: ended for text, ended in found.items() if ended != (5, b"", b"unsound history 1\n")}
     assert not wrong, wrong
 
 

@@ -307,12 +307,13 @@ def test_no_word_serves_a_file_that_is_refused(program):
     for change, wanted in (
         ("UPDATE riders SET balance = balance + 1 WHERE rider = 17", "unsound riders 17"),
         ("DELETE FROM meta", "unsound meta 1"),
-        ("UPDATE kept SET reply = 'no' WHERE req_key = 'k2'", "unsound kept office/k2"),
-        (adoption.AGAIN, "unsound kept office/k2"),
+        ("UPDATE history SET reply = 'no' WHERE req_key = 'k2'", "unsound history 3"),
+        (adoption.AGAIN, "unsound history 38"),
         ("UPDATE meta SET app = 'other'", "foreign"),
         ("DROP TABLE counts", "foreign"), ("UPDATE meta SET version = 9", "newer 9"),
         ("UPDATE meta SET version = 1", "older 1"),
         ("UPDATE meta SET version = 2", "older 2"),
+        ("UPDATE meta SET version = 3", "older 3"),
         ("UPDATE more_names SET id = 'zz' WHERE kind = 'region'", "unsound more_names region/zz/de"),
     ):
         file.write_bytes(city)
@@ -354,7 +355,7 @@ def test_files_that_are_not_there(program):
         (["import", "city.db", "spring"], (1, b"", b"bad header\n")),
     ):
         assert program.run(*words) == ended, words
-        assert rows_of("SELECT * FROM meta", program.folder, "city.db") == [(1, "bikeshare", 3, 0, 0, 0)], words
+        assert rows_of("SELECT * FROM meta", program.folder, "city.db") == [(1, "bikeshare", 4, 0, 0, 0)], words
         removed(program.folder, "city.db")
 
 

@@ -22,7 +22,7 @@ WritesLine old new line (Err fault) = (fault ≡ WriteFailed) × AppendsFront ol
 
 -- the line that tells the newest version
 abbrev pub version_line : List ℕ
-version_line = codes "version 3\n"
+version_line = codes "version 4\n"
 
 -- The database stood for an operator at some version, and stands for it at the newest, with all that a crash may leave.
 pub record RaisedUp {S : Type 0} (g : Ghosts S) (first last : Held S) : Type 0 where

@@ -28,7 +28,7 @@ pub fn raise_up<S: Alter, W: Write, P: Watch>(
     ensures left { CrashLeavesRaised S.Store conn result.0 }
 {
     match raise_watched(alloc, conn, watch) {
-        Ok(conn) => (conn, write_line(writer, "version 3\n")),
+        Ok(conn) => (conn, write_line(writer, "version 4\n")),
         Err(fault) => {
             let (conn, told) = Fault::taken_from_raise(fault);
             (conn, Err(told))

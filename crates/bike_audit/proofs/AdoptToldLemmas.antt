@@ -7,26 +7,23 @@ use Rattle.bike_schema.specs.declared.fault.StatementFault.{StatementFault}
 use Rattle.bike_schema.specs.declared.fault.StatementFault.TheVariants as statement
 use Rattle.bike_recognition.specs.declared.table.TableName.{TableName as Table}
 use Rattle.bike_recognition.specs.declared.stands.TheConstants.{EVERY_TABLE}
-use Rattle.bike_audit.specs.Watching.{IsFront, AreToldOf, IsDoubledAt}
+use Rattle.bike_audit.specs.Watching.{IsFront, AreToldOf}
 use Rattle.bike_audit.specs.declared.finding.Finding.{Finding}
 use Rattle.bike_audit.specs.declared.finding.Finding.TheVariants as finding
 use Rattle.bike_desk.specs.Desk.{DeskValue}
 use Rattle.bike_audit.specs.declared.adoption.AdoptFault.{AdoptFault}
 use Rattle.bike_audit.specs.Adoption.{failure, found_as, AreToldBefore, IsOfStatement, AreToldBy}
 
-pub told_failed : (is_doubled : Type 0) (f : StatementFault) (told : List Table) → IsFront EVERY_TABLE told → AreToldBefore is_doubled (failure f) told
-told_failed is_doubled statement.NoMemory told front = front
-told_failed is_doubled statement.StoreFailed told front = front
+pub told_failed : (f : StatementFault) (told : List Table) → IsFront EVERY_TABLE told → AreToldBefore (failure f) told
+told_failed statement.NoMemory told front = front
+told_failed statement.StoreFailed told front = front
 
 module _ {S : Type 0} (g : Ghosts S) (old : Held S) where
   pub told_begun : HasNone (state g old).now.schema → (result : Result (DeskValue S) (AdoptFault S)) → IfErr result IsOfStatement → AreToldBy g old result []
   told_begun none (Ok d) it = inr (none, refl)
-  told_begun none (Err e) it =
-      let is_doubled = IsDoubledAt g old e.conn in
-      subst (λ cause. AreToldBefore is_doubled cause []) (sym it.1) (told_failed is_doubled it.0 [] (EVERY_TABLE, refl))
+  told_begun none (Err e) it = subst (λ cause. AreToldBefore cause []) (sym it.1) (told_failed it.0 [] (EVERY_TABLE, refl))
 
-  pub told_found : (c : Held S) (found : Finding) (told : List Table) → AreToldOf (IsDoubledAt g old c) (Ok found) told
-      → AreToldBy g old (found_as c found) told
+  pub told_found : (c : Held S) (found : Finding) (told : List Table) → AreToldOf (Ok found) told → AreToldBy g old (found_as c found) told
   told_found c finding.Sound told are = inl are
   told_found c finding.Foreign told are = are
   told_found c (finding.Unsound bad) told are = are

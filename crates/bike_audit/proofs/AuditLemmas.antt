@@ -15,14 +15,13 @@ use Rattle.sqlite.specs.State.{HasCleanDisk, IsLive}
 use Rattle.sqlite.proofs.StateLemmas.{survives_weaker}
 use Rattle.bike_sql.specs.Calls.{ReadsWhere}
 use Rattle.bike_sql.proofs.ChainLaws.{reads_both}
-use Rattle.bike_book.specs.Tables.{TableName, Tables, table_place, Meta, System, Plans, Segments, Types, Regions, Stations, Docks, Bikes, Trucks, Riders, Rentals, Orders, Entries, Kept, Counts}
+use Rattle.bike_book.specs.Tables.{TableName, Tables, table_place, Meta, System, Plans, Segments, Types, Regions, Stations, Docks, Bikes, Trucks, Riders, Rentals, Orders, Entries, History, Counts}
 use Rattle.bike_book.specs.Tables.{MoreNames}
 use Rattle.bike_schema.specs.Layouts.{every_table}
 use Rattle.bike_schema.specs.Tables.{HasTables, IsOurs, tables_of}
 use Rattle.bike_schema.proofs.AnswerLemmas.{reads_weaker}
 use Rattle.bike_readings.specs.Rules.{IsGoodKey, IsVerdict}
 use Rattle.bike_readings.proofs.RulesLaws.{table_at, its_own}
-use Rattle.bike_recognition.specs.Keys.{KeptLies, IsDoubled}
 use Rattle.bike_recognition.specs.Names.{table_named}
 use Rattle.bike_recognition.specs.declared.table.TableName as code
 use Rattle.bike_recognition.specs.Recognition.{AnyDatabase, ReadsAny, told_by, meta_version, IsByTables, IsAsTold, IsRecognised}
@@ -35,8 +34,7 @@ use Rattle.bike_recognition.proofs.LookLemmas.{reads_known, reads_once}
 use Rattle.bike_judges.specs.declared.key.BadKey.{BadKey}
 use Rattle.bike_judges.specs.Judging.{key_row}
 use Rattle.bike_judges.specs.Verdicts.{EarlierGood, JudgesTable}
-use Rattle.bike_audit.specs.Audit.{IsDoubledFinding, IsAfter, IsFoundIn, IsVerdictOn, IsByRules, IsAudited, row_name}
-use Rattle.bike_audit.specs.Watching.{IsDoubledAt}
+use Rattle.bike_audit.specs.Audit.{IsAfter, IsFoundIn, IsVerdictOn, IsByRules, IsAudited, row_name}
 use Rattle.bike_audit.specs.declared.finding.Finding.{Finding}
 use Rattle.bike_audit.specs.declared.finding.Finding.TheVariants as finding
 use Rattle.bike_audit.specs.declared.tables.BadRow.{BadRow}
@@ -58,7 +56,7 @@ last_place Riders = omega arith
 last_place Rentals = omega arith
 last_place Orders = omega arith
 last_place Entries = omega arith
-last_place Kept = omega arith
+last_place History = omega arith
 last_place Counts = omega arith
 last_place MoreNames = omega arith
 
@@ -155,8 +153,7 @@ ours_has db (inr (some, inr (stands, told))) = by_version (meta_version db) told
   where
     by_tables : IsByTables db recognition.Ours → HasTables db
     by_tables (inl all) = all.0
-    by_tables (inr (inl doubled)) = absurd (let never = doubled.1 in cc)
-    by_tables (inr (inr lacking)) = absurd (let never = lacking.2 in cc)
+    by_tables (inr lacking) = absurd (let never = lacking.1 in cc)
 
     by_order : (v : ℕ) (o : Ordering) → IsAsTold db (match_ordering o (Some (recognition.Older v)) None (Some (recognition.Newer v))) recognition.Ours → HasTables db
     by_order v Less is = absurd (let never = is in cc)
@@ -164,26 +161,6 @@ ours_has db (inr (some, inr (stands, told))) = by_version (meta_version db) told
     by_order v Greater is = absurd (let never = is in cc)
 
     by_version : (v : MetaVersion) → IsAsTold db (told_by v) recognition.Ours → HasTables db
-    by_version Missing is = by_tables is
-    by_version (Version v) is = by_order v (nat_cmp v NEWEST) is
-    by_version NotOurs is = absurd (let never = is in cc)
-
-doubled_lies : (db : Database) → IsRecognised db recognition.Doubled → KeptLies db
-doubled_lies db (inl none) = absurd (let never = none.1 in cc)
-doubled_lies db (inr (some, inl other)) = absurd (let never = other.1 in cc)
-doubled_lies db (inr (some, inr (stands, told))) = by_version (meta_version db) told
-  where
-    by_tables : IsByTables db recognition.Doubled → KeptLies db
-    by_tables (inl all) = absurd (let never = all.1 in cc)
-    by_tables (inr (inl doubled)) = doubled.0.kept
-    by_tables (inr (inr lacking)) = absurd (let never = lacking.2 in cc)
-
-    by_order : (v : ℕ) (o : Ordering) → IsAsTold db (match_ordering o (Some (recognition.Older v)) None (Some (recognition.Newer v))) recognition.Doubled → KeptLies db
-    by_order v Less is = absurd (let never = is in cc)
-    by_order v Equal is = by_tables is
-    by_order v Greater is = absurd (let never = is in cc)
-
-    by_version : (v : MetaVersion) → IsAsTold db (told_by v) recognition.Doubled → KeptLies db
     by_version Missing is = by_tables is
     by_version (Version v) is = by_order v (nat_cmp v NEWEST) is
     by_version NotOurs is = absurd (let never = is in cc)
@@ -203,36 +180,10 @@ by_rules : (db : Database) (found : Finding) → IsRecognised db recognition.Our
 by_rules db finding.Empty is it = absurd it.1
 by_rules db finding.Sound is it = (is, it)
 by_rules db finding.Foreign is it = absurd it.1
-by_rules db (finding.Unsound bad) is it = inl (is, it)
+by_rules db (finding.Unsound bad) is it = (is, it)
 by_rules db (finding.Older version) is it = absurd it.1
 by_rules db (finding.Newer version) is it = absurd it.1
 
 pub ours_audited : {S E F : Type 0} {g : Ghosts S} {old mid new : Held S} {told : Recognition} {result : Result Finding F} → ReadsAny {E = E} g old mid (Ok told) IsRecognised → told ≡ recognition.Ours
     → ReadsWhere g HasTables mid new result (λ db found. HasTables db × IsByRules db found) → ReadsAny g old new result IsAudited
 ours_audited one is two = reads_weaker (reads_once one (λ db told. subst (IsRecognised db) is told) (reads_under ours_has two)) (λ db found both. by_rules db found both.0 both.1)
-
--- a database in which the keys of `kept` alone aren't apart
-by_doubled : (db : Database) (found : Finding) → IsRecognised db recognition.Doubled → IsDoubledFinding db found → IsAudited db found
-by_doubled db finding.Empty is it = absurd it
-by_doubled db finding.Sound is it = absurd it
-by_doubled db finding.Foreign is it = absurd it
-by_doubled db (finding.Unsound bad) is it = inr (is, it)
-by_doubled db (finding.Older version) is it = absurd it
-by_doubled db (finding.Newer version) is it = absurd it
-
-pub doubled_audited : {S E F : Type 0} {g : Ghosts S} {old mid new : Held S} {told : Recognition} {result : Result Finding F} → ReadsAny {E = E} g old mid (Ok told) IsRecognised
-    → told ≡ recognition.Doubled
-    → ReadsWhere g KeptLies mid new result IsDoubledFinding → ReadsAny g old new result IsAudited
-doubled_audited one is two = reads_weaker (reads_once one (λ db told. subst (IsRecognised db) is told) (reads_under doubled_lies two)) (λ db found both. by_doubled db found both.0 both.1)
-
-pub doubled_at : {S E F : Type 0} {g : Ghosts S} {old mid new : Held S} {told : Recognition} {result : Result Finding F} → ReadsAny {E = E} g old mid (Ok told) IsRecognised
-    → told ≡ recognition.Doubled
-    → ReadsWhere g KeptLies mid new result IsDoubledFinding → IsDoubledAt g old new
-doubled_at {g = g} {old = old} {mid = mid} {new = new} one is two clean =
-    let kept = two.quiet.survives.clean in
-    let early : HasCleanDisk (state g mid) = omega (arith, clean, kept) in
-    subst (IsRecognised (state g old).now) is (one.found early tt)
-
--- a caller and key are two columns
-pub two_columns : (rows : List Row) (key : Row) → IsDoubled rows key → IsDoubled rows (take 2 key)
-two_columns rows key it = subst (IsDoubled rows) (sym it.0.shows_first ∙ ap (take 2) it.0.shows_first) it

@@ -15,11 +15,11 @@ use Rattle.bike_sql.specs.Stands.{Stands, rows_of}
 use Rattle.bike_book.specs.Stored.{tables_for}
 use Rattle.bike_book.proofs.FoundKeys.{found_by_key}
 use Rattle.sqlite_value.specs.Order.{Row}
-use Rattle.bike_schema.specs.Layouts.{layout_in, name_of}
+use Rattle.bike_schema.specs.Layouts.{layout_of, name_of}
 use Rattle.bike_schema.proofs.MakesLemmas.{rows_of_table}
 use Rattle.sqlite_value.specs.declared.value.Value.TheVariants.{Int}
 use Rattle.bike_operator.specs.Operator.{Operator}
-use Rattle.bike_book.specs.Tables.{Tables, Meta, Kept, TableName, keys_of}
+use Rattle.bike_book.specs.Tables.{Tables, Meta, TableName, keys_of}
 use Rattle.bike_schema.specs.Makes.{OthersStay}
 use Rattle.bike_schema.specs.Tables.{tables_of, HasTables, HasNone}
 use Rattle.bike_schema.specs.Stands.{Stores, IsOf, StandsFor, TreesStandFor, AllLeft}
@@ -59,18 +59,18 @@ stores_here db s sound has (schema, stands) = go stands.is
 abbrev listed_in : List Table → Trees → Database
 listed_in ts trees = record { schema = record { tables = ts; indexes = []; views = [] }; trees = trees }
 
-to_listed : (a : Schema) (trees : Trees) (t : TableName) → Stands (record { schema = a; trees = trees }) (keys_of t) (layout_in a t)
-    → Stands (listed_in a.tables trees) (keys_of t) (layout_in (listed_in a.tables trees).schema t)
+to_listed : (a : Schema) (trees : Trees) (t : TableName) → Stands (record { schema = a; trees = trees }) (keys_of t) (layout_of t)
+    → Stands (listed_in a.tables trees) (keys_of t) (layout_of t)
 to_listed a trees t it =
     record { at = it.at; tree = it.tree; has = record { found = it.has.found; there = it.has.there; by_tree = it.has.by_tree; stored = it.has.stored }; keyed = it.keyed; unreferred = it.unreferred }
 
-of_listed : (a : Schema) (trees : Trees) (t : TableName) → Stands (listed_in a.tables trees) (keys_of t) (layout_in (listed_in a.tables trees).schema t)
-    → Stands (record { schema = a; trees = trees }) (keys_of t) (layout_in a t)
+of_listed : (a : Schema) (trees : Trees) (t : TableName) → Stands (listed_in a.tables trees) (keys_of t) (layout_of t)
+    → Stands (record { schema = a; trees = trees }) (keys_of t) (layout_of t)
 of_listed a trees t it =
     record { at = it.at; tree = it.tree; has = record { found = it.has.found; there = it.has.there; by_tree = it.has.by_tree; stored = it.has.stored }; keyed = it.keyed; unreferred = it.unreferred }
 
 stands_among : (a b : Schema) (trees : Trees) → a.tables ≡ b.tables → HasTables (record { schema = a; trees = trees }) → HasTables (record { schema = b; trees = trees })
-stands_among a b trees same has t = of_listed b trees t (subst (λ ts. Stands (listed_in ts trees) (keys_of t) (layout_in (listed_in ts trees).schema t)) same (to_listed a trees t (has t)))
+stands_among a b trees same has t = of_listed b trees t (subst (λ ts. Stands (listed_in ts trees) (keys_of t) (layout_of t)) same (to_listed a trees t (has t)))
 
 none_among : (a b : Schema) → a.tables ≡ b.tables → HasNone a → HasNone b
 none_among a b same none = subst (λ ts. HasNone (record { tables = ts; indexes = []; views = [] })) same none
@@ -96,8 +96,7 @@ version_there db s stores =
 
 by_tables_never : (db : Database) (r : Recognition) → HasTables db → IsByTables db r → r ≡ recognition.Ours
 by_tables_never db r has (inl it) = it.1
-by_tables_never db r has (inr (inl it)) = absurd (it.0.unkeyed (has Kept))
-by_tables_never db r has (inr (inr it)) = absurd (it.0 has)
+by_tables_never db r has (inr it) = absurd (it.0 has)
 
 -- it is recognised as the product's
 pub ours_there : (db : Database) (s : Operator) → Stores db s → (r : Recognition) → IsRecognised db r → r ≡ recognition.Ours
@@ -110,8 +109,7 @@ sound_there : (db : Database) (s : Operator) → Stores db s → (f : Finding) �
 sound_there db s stores finding.Empty is = absurd (let e = ours_there db s stores recognition.Empty is in cc)
 sound_there db s stores finding.Sound is = refl
 sound_there db s stores finding.Foreign is = absurd (let e = ours_there db s stores recognition.Foreign is in cc)
-sound_there db s stores (finding.Unsound bad) (inl is) = absurd (stored_bad db (row_name bad) is.1.1 s stores)
-sound_there db s stores (finding.Unsound bad) (inr is) = absurd (let never = ours_there db s stores recognition.Doubled is.0 in cc)
+sound_there db s stores (finding.Unsound bad) is = absurd (stored_bad db (row_name bad) is.1.1 s stores)
 sound_there db s stores (finding.Older version) is = absurd (let e = ours_there db s stores (recognition.Older version) is in cc)
 sound_there db s stores (finding.Newer version) is = absurd (let e = ours_there db s stores (recognition.Newer version) is in cc)
 

@@ -25,7 +25,7 @@ use Rattle.bike_audit.specs.declared.looking.Inspection.{Inspection}
 use Rattle.bike_audit.specs.declared.looking.Inspection.TheVariants as look
 use Rattle.bike_desk.specs.Desk.{DeskValue, IsAt, desk_over, desk_state}
 use Rattle.bike_audit.specs.Audit.{IsAudited}
-use Rattle.bike_audit.specs.Watching.{IsFront, AreToldTo, IsDoubledAt}
+use Rattle.bike_audit.specs.Watching.{IsFront, IsFrontTo}
 use Rattle.bike_audit.specs.declared.finding.Finding.{Finding}
 use Rattle.bike_audit.specs.declared.finding.Finding.TheVariants as finding
 
@@ -68,12 +68,12 @@ IsWantFor NoMemory = Unit {0}
 IsWantFor StoreFailed = Unit {0}
 IsWantFor _ = ⊥
 
--- the tables of which a watch was told before it; none where two rows of `kept` have one key
-abbrev pub AreToldBefore : Type 0 → AdoptCause → List Table → Type 0
-AreToldBefore is_doubled (Unsound bad) told = AreToldTo is_doubled bad.table told
-AreToldBefore is_doubled NoMemory told = IsFront EVERY_TABLE told
-AreToldBefore is_doubled StoreFailed told = IsFront EVERY_TABLE told
-AreToldBefore is_doubled _ told = told ≡ []
+-- the tables of which a watch was told before it
+abbrev pub AreToldBefore : AdoptCause → List Table → Type 0
+AreToldBefore (Unsound bad) told = IsFrontTo EVERY_TABLE bad.table told
+AreToldBefore NoMemory told = IsFront EVERY_TABLE told
+AreToldBefore StoreFailed told = IsFront EVERY_TABLE told
+AreToldBefore _ told = told ≡ []
 
 module _ {S : Type 0} where
   -- the connection in a fault
@@ -126,7 +126,7 @@ module _ {S : Type 0} where
   -- THE TABLES THAT AN ADOPTION TELLS ITS WATCH OF: those that its audit tells of; none where no audit begins
   abbrev pub AreToldBy : Ghosts S → Held S → Result (DeskValue S) (AdoptFault S) → List Table → Type 0
   AreToldBy g old (Ok d) told = (told ≡ EVERY_TABLE) ⊎ (HasNone (state g old).now.schema × (told ≡ []))
-  AreToldBy g old (Err e) told = AreToldBefore (IsDoubledAt g old e.conn) e.cause told
+  AreToldBy g old (Err e) told = AreToldBefore e.cause told
 
   -- what a crash may leave is what it might leave before
   abbrev pub LeavesAll : Ghosts S → Held S → Held S → Type 0

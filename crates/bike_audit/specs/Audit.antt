@@ -1,13 +1,11 @@
 -- What the audit of a database finds.
-use Rattle.std.specs.Prelude.{◌≡◌, ◌⊎◌, List, [], ◌∷◌, Option, Some, None, option_map}
+use Rattle.std.specs.Prelude.{◌≡◌, List, [], ◌∷◌, Option, Some, None, option_map}
 use Rattle.sqlite_value.specs.Order.{Row}
 use Rattle.sqlite.specs.Effect.{Database}
 use Rattle.bike_book.specs.Tables.{TableName}
 use Rattle.bike_schema.specs.Tables.{HasTables, tables_of}
 use Rattle.bike_readings.specs.Rules.{IsVerdict}
 use Rattle.bike_recognition.specs.Names.{table_named}
-use Rattle.bike_recognition.specs.Keys.{KeptLies, IsDoubled}
-use Rattle.bike_recognition.specs.declared.table.TableName.TheVariants as name
 use Rattle.bike_recognition.specs.Recognition.{IsRecognised}
 use Rattle.bike_recognition.specs.declared.recognition.Recognition.TheVariants as recognition
 use Rattle.bike_judges.specs.declared.key.BadKey.{BadKey}
@@ -46,20 +44,6 @@ IsByRules db finding.Sound = IsVerdict (tables_of db) None
 IsByRules db (finding.Unsound bad) = IsVerdict (tables_of db) (Some (row_name bad))
 IsByRules db _ = ⊥
 
--- the row of `kept` is named by the first caller and key that two of its rows have
-abbrev pub IsDoubledRow : Database → BadRow → Type 0
-IsDoubledRow db bad = (bad.table ≡ name.Kept) × ((it : KeptLies db) → IsDoubled (db.trees it.tree) (key_row bad.key))
-
-abbrev pub IsDoubledFinding : Database → Finding → Type 0
-IsDoubledFinding db (finding.Unsound bad) = IsDoubledRow db bad
-IsDoubledFinding db _ = ⊥
-
--- a bad row: by the rules, or, where the keys of `kept` alone aren't apart, by the first key that two rows have
-abbrev pub IsBadIn : Database → BadRow → Type 0
-IsBadIn db bad =
-    (IsRecognised db recognition.Ours × (HasTables db × IsByRules db (finding.Unsound bad)))
-    ⊎ (IsRecognised db recognition.Doubled × IsDoubledRow db bad)
-
 -- WHAT THE AUDIT FINDS: what the database is recognised as, and by the rules where that is the product's newest version
 abbrev pub IsAudited : Database → Finding → Type 0
 IsAudited db finding.Empty = IsRecognised db recognition.Empty
@@ -67,4 +51,5 @@ IsAudited db finding.Foreign = IsRecognised db recognition.Foreign
 IsAudited db (finding.Older version) = IsRecognised db (recognition.Older version)
 IsAudited db (finding.Newer version) = IsRecognised db (recognition.Newer version)
 IsAudited db finding.Sound = IsRecognised db recognition.Ours × (HasTables db × IsByRules db finding.Sound)
-IsAudited db (finding.Unsound bad) = IsBadIn db bad
+IsAudited db (finding.Unsound bad) =
+    IsRecognised db recognition.Ours × (HasTables db × IsByRules db (finding.Unsound bad))

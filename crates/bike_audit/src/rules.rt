@@ -6,12 +6,11 @@ ghost use Rattle.bike_judges.specs.Verdicts.{JudgesTable};
 ghost use Rattle.bike_recognition.specs.Names.{table_named};
 
 use bike_catalogue_rules::{
-    judge_kept, judge_meta, judge_names, judge_plans, judge_regions, judge_segments, judge_system,
-    judge_types,
+    judge_meta, judge_names, judge_plans, judge_regions, judge_segments, judge_system, judge_types,
 };
 use bike_fleet_rules::{judge_bikes, judge_orders, judge_trucks};
 use bike_judges::BadKey;
-use bike_ledger_rules::{judge_entries, judge_rentals, judge_riders};
+use bike_ledger_rules::{judge_entries, judge_history, judge_rentals, judge_riders};
 use bike_recognition::TableName;
 use bike_schema::StatementFault;
 use bike_station_rules::{judge_counts, judge_docks, judge_stations};
@@ -41,7 +40,7 @@ pub(crate) fn judge_table<S: Alter>(
         TableName::Rentals => judge_rentals(alloc, conn),
         TableName::Orders => judge_orders(conn),
         TableName::Entries => judge_entries(alloc, conn),
-        TableName::Kept => judge_kept(alloc, conn),
+        TableName::History => judge_history(alloc, conn),
         TableName::Counts => judge_counts(alloc, conn),
         TableName::MoreNames => judge_names(alloc, conn),
     }

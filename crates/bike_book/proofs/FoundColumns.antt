@@ -1,5 +1,5 @@
 -- The rows found by columns that are no key: the segments of a plan, bicycles by their places, names in further languages, and a rider's open rental.
-use Rattle.std.proofs.Common.{◌≡◌, inl, inr, ℕ, suc, List, [], ◌∷◌, ◌++◌, length, filter, find, Bool, true, false, cond, ◌&&◌, ◌||◌, T, Some, is_some, refl, sym, ap, ap₂, ◌∙◌}
+use Rattle.std.proofs.Common.{◌≡◌, inl, inr, ℕ, suc, List, [], ◌∷◌, ◌++◌, length, filter, find, Bool, true, false, cond, ◌&&◌, ◌||◌, T, Some, is_some, refl, sym, ap, ap₂, subst, ◌∙◌}
 use Rattle.std.specs.Prelude.{map, slice_get, option_map, ◌==◌}
 use Rattle.std.specs.List.{list_any}
 use Rattle.std.specs.Ordering.{nat_cmp, eq_by_cmp, is_eq, ordering_then}
@@ -20,17 +20,18 @@ use Rattle.bike_fields.specs.declared.name_kind.NameKind.{NameKind}
 use Rattle.bike_fields.specs.Values.{SegmentRow}
 use Rattle.bike_operator.specs.Rows.{PlanRow}
 use Rattle.bike_ledger.specs.Entries.{Entry}
+use Rattle.bike_operator.specs.Caller.{caller_text}
 use Rattle.bike_operator.specs.declared.records.Place.{Place}
 use Rattle.bike_operator.specs.declared.records.Place.TheVariants as place
 use Rattle.bike_operator.specs.declared.records.Bike.{Bike}
 use Rattle.bike_operator.specs.declared.records.Rental.{Rental}
-use Rattle.bike_operator.specs.Operator.{Operator, NameKey, text_cmp}
+use Rattle.bike_operator.specs.Operator.{Operator, AcceptedRequest, NameKey, text_cmp, texts_cmp, key_of, key_in, kept_under}
 use Rattle.bike_operator.specs.Counts.{is_dock, is_on_truck, is_for_order, is_open}
 use Rattle.bike_operator.specs.Names.{part_at, is_name_of, further_names}
-use Rattle.bike_accepted.proofs.MapLemmas.{text_order, tied}
+use Rattle.bike_accepted.proofs.MapLemmas.{text_order, texts_order, tied}
 use Rattle.bike_book.specs.Rows.{number_value, bike_row, segment_row, name_row}
-use Rattle.bike_book.specs.Stored.{numbers_from, with_numbers, segment_rows, plans_segments, stored_bike, stored_rental, stored_name}
-use Rattle.bike_book.specs.Found.{WhereListed, FoundByColumns, segments_in, rows_open}
+use Rattle.bike_book.specs.Stored.{numbers_from, with_numbers, segment_rows, plans_segments, stored_bike, stored_rental, stored_request, stored_name}
+use Rattle.bike_book.specs.Found.{WhereListed, FoundByColumns, AreRowOf, segments_in, rows_open}
 use Rattle.bike_book.proofs.MapRows.{both, below_has}
 use Rattle.bike_book.proofs.Keys.{value_cmp-number_value}
 use Rattle.bike_book.proofs.FoundKeys.{mapped_some}
@@ -193,6 +194,32 @@ any_found rider n (r ∷ rs) = go ((r.rider == rider) && is_open r) (any_found r
   go true rest = refl
   go false rest = rest
 
+-- ---- the request of a caller and key
+
+module _ (caller key : List ℕ) where
+  abbrev has_key : ℕ × AcceptedRequest → Bool
+  has_key e = eq_by_cmp texts_cmp (key_of caller key) (key_in e.1.request)
+
+  keyed : (e : ℕ × AcceptedRequest) → is_eq (row_cmp (map (column (stored_request e)) (2 ∷ 3 ∷ [])) (Text caller ∷ Text key ∷ [])) ≡ has_key e
+  keyed e =
+      rw (value_cmp-Text (caller_text e.1.request.caller) caller, value_cmp-Text e.1.request.key key)
+      ((eq_by_cmp_equiv texts_order.total).symm (key_in e.1.request) (key_of caller key))
+
+  kept_from : (n : ℕ) (h : List AcceptedRequest) → AreRowOf (kept_under (key_of caller key) h) (option_map stored_request (find has_key (numbers_from n h)))
+  kept_from n [] = tt
+  kept_from n (a ∷ h) = go (has_key (n, a)) (kept_from (suc n) h) where
+    go : (b : Bool) → AreRowOf (kept_under (key_of caller key) h) (option_map stored_request (find has_key (numbers_from (suc n) h)))
+        → AreRowOf (cond b (Some a) (kept_under (key_of caller key) h)) (option_map stored_request (cond b (Some (n, a)) (find has_key (numbers_from (suc n) h))))
+    go true rest = record { number = n; row_is = refl }
+    go false rest = rest
+
+  kept_found : (h : List AcceptedRequest)
+      → AreRowOf (kept_under (key_of caller key) h) (slice_get (rows_where (2 ∷ 3 ∷ []) (Text caller ∷ Text key ∷ []) (map stored_request (with_numbers h))) 0)
+  kept_found h =
+      subst (AreRowOf (kept_under (key_of caller key) h))
+      (sym (ap (λ (xs : List Row). slice_get xs 0) (filtered stored_request _ has_key keyed (with_numbers h)) ∙ first_found stored_request has_key (with_numbers h)))
+      (kept_from 1 h)
+
 pub found_by_columns : WhereListed FoundByColumns
 found_by_columns s m sound listing = record {
   segments = λ plan. among plan (fin.entries s.plans) (fin.entries_sorted s.plans) ∙ ap (segments_in plan) (sym (fin.get-entries s.plans plan));
@@ -206,6 +233,7 @@ found_by_columns s m sound listing = record {
       ap length (filtered stored_bike _ (λ e. is_for_order order e.1.place) (λ e. for_order_at order e.0 e.1 e.1.place) (fin.entries s.bikes))
       ∙ same_length stored_bike (filter (λ e. is_for_order order e.1.place) (fin.entries s.bikes));
   named = λ kind id. names_found s kind id;
+  kept = λ caller key. kept_found caller key s.history;
   open_rental_is = λ rider. open_found s.entries rider s.rentals;
   riding =
       λ rider. ap is_some (open_found s.entries rider s.rentals) ∙ mapped_some (stored_rental s.entries) (find (is_open_of_rider s.entries rider s.rentals) (with_numbers s.rentals))

@@ -6,34 +6,24 @@ use Rattle.sqlite_value.specs.declared.value.Value.TheVariants.{Text}
 use Rattle.bike_sql.specs.View.{row_with}
 use Rattle.bike_operator.specs.Rows.{SystemRow}
 use Rattle.bike_ledger.specs.Ledger.{cash_of, revenue_of}
-use Rattle.bike_operator.specs.Commands.{text_of}
-use Rattle.bike_operator.specs.Replies.{reply_text}
-use Rattle.bike_operator.specs.Operator.{Operator, AcceptedRequest, Key, DockKey, kept_under, key_of, name_key, dock_key}
+use Rattle.bike_operator.specs.Operator.{Operator, Key, DockKey, key_of, name_key, dock_key}
 use Rattle.bike_operator.specs.Counts.{is_broken, available_of}
 use Rattle.bike_book.specs.declared.version.TheConstants.{NEWEST}
 use Rattle.bike_accepted.specs.Numbers.{disabled_of}
 use Rattle.bike_book.specs.Tables.{Docks, Counts}
-use Rattle.bike_book.specs.Rows.{number_value, system_row, dock_row, count_row, kept_row}
-use Rattle.bike_book.specs.KeptRequests.{Kept, kept_part, kept_of}
+use Rattle.bike_book.specs.Rows.{number_value, system_row, dock_row, count_row}
 use Rattle.bike_book.specs.Stored.{Listed, IsListing, system_rows, stored_plan, stored_type, stored_region, stored_station, stored_dock, stored_bike, stored_truck, stored_rider, stored_rental}
-use Rattle.bike_book.specs.Stored.{stored_order, stored_entry, stored_kept, stored_count, stored_name}
+use Rattle.bike_book.specs.Stored.{stored_order, stored_entry, stored_count, stored_name}
 use Rattle.bike_book.specs.Found.{row_under, WhereListed, FoundByKey, FoundListed}
 use Rattle.bike_book.proofs.MapRows.{found_entries}
 use Rattle.bike_book.proofs.Keys.{number_key, numbers, texts, pairs, triples, name_triple, docks, IsPair, IsDockPair}
 use Rattle.bike_book.proofs.NumberRows.{found_number}
 use Rattle.bike_book.proofs.CatalogueBooks.{one_key, named_triple}
 use Rattle.bike_book.proofs.LedgerRows.{meta_found}
-use Rattle.bike_book.proofs.CloseBooks.{kept_pair}
-use Rattle.bike_book.proofs.KeptLemmas.{kept_found, are_kept}
 
 system_found : (o : Option SystemRow) → row_with 1 (number_key 1) (system_rows o) ≡ option_map system_row o
 system_found None = refl
 system_found (Some x) = rw one_key refl
-
-kept_row_of : (caller key : List ℕ) (o : Option AcceptedRequest) → option_map (λ (k : Kept). stored_kept (key_of caller key, k)) (option_map kept_part o)
-    ≡ option_map (λ (a : AcceptedRequest). kept_row caller key (text_of a.request.command) (reply_text a.reply)) o
-kept_row_of caller key None = refl
-kept_row_of caller key (Some a) = refl
 
 pub found_by_key : WhereListed FoundByKey
 found_by_key s m sound listing = record {
@@ -49,10 +39,6 @@ found_by_key s m sound listing = record {
   rentals = λ rental. found_number (stored_rental s.entries) (λ e. refl) rental s.rentals;
   orders = λ order. found_number stored_order (λ e. refl) order s.orders;
   entries = λ entry. found_number stored_entry (λ e. refl) entry s.entries;
-  kept = λ caller key.
-      found_entries pairs stored_kept (λ e. refl) (key_of caller key) (record { first = caller; second = key; is = refl }) (kept_of s.history) (λ k y found. kept_pair s (are_kept s sound) k y found)
-      ∙ ap (option_map (λ k. stored_kept (key_of caller key, k))) (kept_found s.now s.history (key_of caller key) sound.history)
-      ∙ kept_row_of caller key (kept_under (key_of caller key) s.history);
   more_names = λ kind id language.
       found_entries triples stored_name (λ e. refl) (name_key kind id language) (name_triple kind id language) s.more_names (λ k y found. named_triple s sound.names k y found);
 }

@@ -14,8 +14,7 @@ use Rattle.bike_operator.specs.declared.records.Closing.{Closing}
 use Rattle.bike_operator.specs.Counts.{count, is_open}
 use Rattle.bike_book.specs.Rows.{number_value}
 use Rattle.bike_book.specs.Stored.{numbers_from, with_numbers, stored_plan, stored_type, stored_region, stored_station, stored_bike, stored_truck, stored_rider, stored_rental, stored_order}
-use Rattle.bike_book.specs.KeptRequests.{kept_of}
-use Rattle.bike_book.specs.Stored.{stored_entry, stored_kept}
+use Rattle.bike_book.specs.Stored.{stored_entry, stored_request}
 use Rattle.bike_book.specs.Found.{WhereListed, FoundNumbers, IsLast, rows_open}
 
 -- ---- the last number
@@ -68,6 +67,7 @@ found_numbers s m sound listing = record {
   last_rental = last_is (stored_rental s.entries) (λ e. refl) s.rentals;
   last_order = last_is stored_order (λ e. refl) s.orders;
   last_entry = last_is stored_entry (λ e. refl) s.entries;
+  last_request = last_is stored_request (λ e. refl) s.history;
   plans = same_len stored_plan s.plans;
   types = same_len stored_type s.types;
   regions = same_len stored_region s.regions;
@@ -78,6 +78,6 @@ found_numbers s m sound listing = record {
   rentals = numbered_length (stored_rental s.entries) 1 s.rentals;
   orders = numbered_length stored_order 1 s.orders;
   entries = numbered_length stored_entry 1 s.entries;
-  kept = same_len stored_kept (kept_of s.history);
+  requests = numbered_length stored_request 1 s.history;
   open_rentals_are = open_length s.entries 1 s.rentals;
 }

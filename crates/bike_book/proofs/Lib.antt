@@ -8,10 +8,8 @@ pub mod FleetBooks
 pub mod RentalBooks
 pub mod PlanBooks
 pub mod LedgerRows
-pub mod KeptLemmas
 pub mod CloseBooks
 pub mod SoundNumbers
 pub mod FoundKeys
 pub mod FoundNumbers
 pub mod FoundColumns
-pub mod MayLemmas

@@ -1,4 +1,4 @@
--- The row changes that book the close of a request: its entry, the operator's moment and sums, and what is kept.
+-- The row changes that book the close of a request: its entry, the operator's moment and sums, and its row of the history.
 use Rattle.std.specs.Prelude.{◌≡◌, ◌+◌, ◌+ℤ◌, ℕ, ℤ, pos, length, List, [], ◌∷◌, ◌++◌, Some}
 use Rattle.std.specs.Borrow.{Bor}
 use Rattle.bike_operator.specs.Caller.{caller_text}
@@ -12,7 +12,6 @@ use Rattle.bike_operator.specs.Replies.{reply_text}
 use Rattle.bike_operator.specs.Operator.{Operator}
 use Rattle.bike_operator.specs.Changes.{entry_added}
 use Rattle.bike_book.specs.declared.row_change.RowChange.TheVariants as row
-use Rattle.bike_book.specs.KeptRequests.{AreKept}
 use Rattle.bike_book.specs.Stored.{Listed, IsListing}
 use Rattle.bike_book.specs.Between.{Books}
 
@@ -35,12 +34,13 @@ pub record AreNumbersWith (s : Operator) (e : Entry) (balance cash revenue : ℤ
   pub cash_is : cash ≡ cash_of s.entries +ℤ cash_in e.kind e.amount
   pub revenue_is : revenue ≡ revenue_of s.entries +ℤ revenue_in e.kind e.amount
 
-module _ (s : Operator) (m : Listed) (now : ℕ) (q : Request) (r : Reply) (caller key command reply : Bor (List ℕ)) where
+module _ (s : Operator) (m : Listed) (now : ℕ) (q : Request) (r : Reply) (number : ℕ)
+    (caller key command reply : Bor (List ℕ)) where
   -- no money moves
   abbrev pub QuietCloseLaw : Type 0
   QuietCloseLaw =
       (cash revenue : ℤ) → cash ≡ cash_of s.entries → revenue ≡ revenue_of s.entries
-      → Books (row.SetMeta now cash revenue ∷ row.AddKept caller key command reply ∷ []) s m (after_close now q r s) m
+      → Books (row.SetMeta now cash revenue ∷ row.AddRequest number now caller key command reply ∷ []) s m (after_close now q r s) m
 
   -- a top-up or a fare, which gives nothing back
   abbrev pub EntryCloseLaw : Type 0
@@ -48,7 +48,7 @@ module _ (s : Operator) (m : Listed) (now : ℕ) (q : Request) (r : Reply) (call
       (e : Bor Entry) (balance cash revenue : ℤ) → AreNumbersWith s e.now balance cash revenue
       → given_back e.now.kind e.now.amount ≡ pos 0
       → Books (row.AddEntry e ∷ row.SetBalance e.now.rider balance ∷ row.SetMeta now cash revenue
-      ∷ row.AddKept caller key command reply ∷ []) s m
+      ∷ row.AddRequest number now caller key command reply ∷ []) s m
       (after_close now q r (entry_added (Some e.now) s)) m
 
   -- a refund
@@ -57,14 +57,14 @@ module _ (s : Operator) (m : Listed) (now : ℕ) (q : Request) (r : Reply) (call
       (e : Bor Entry) (balance refunded cash revenue : ℤ) → AreNumbersWith s e.now balance cash revenue
       → refunded ≡ refunded_of e.now.rental s.entries +ℤ given_back e.now.kind e.now.amount
       → Books (row.AddEntry e ∷ row.SetBalance e.now.rider balance ∷ row.SetRefunded e.now.rental refunded
-      ∷ row.SetMeta now cash revenue ∷ row.AddKept caller key command reply ∷ []) s m
+      ∷ row.SetMeta now cash revenue ∷ row.AddRequest number now caller key command reply ∷ []) s m
       (after_close now q r (entry_added (Some e.now) s)) m
 
--- The law holds of each operator whose rows are listed right and whose kept
--- requests have their keys, for each request and reply and their texts.
-abbrev pub AtEachClose : (Operator → Listed → ℕ → Request → Reply → Bor (List ℕ) → Bor (List ℕ) → Bor (List ℕ)
+-- The law holds of each operator whose rows are listed right, for
+-- each request and reply, their texts, and the number of the next request.
+abbrev pub AtEachClose : (Operator → Listed → ℕ → Request → Reply → ℕ → Bor (List ℕ) → Bor (List ℕ) → Bor (List ℕ)
     → Bor (List ℕ) → Type 0) → Type 0
 AtEachClose Law =
-    (s : Operator) (m : Listed) (now : ℕ) (q : Request) (r : Reply) (caller key command reply : Bor (List ℕ))
-    → IsListing s m → AreKept s
-    → AreTextsOf q r caller.now key.now command.now reply.now → Law s m now q r caller key command reply
+    (s : Operator) (m : Listed) (now : ℕ) (q : Request) (r : Reply) (number : ℕ)
+    (caller key command reply : Bor (List ℕ)) → IsListing s m → number ≡ length s.history + 1
+    → AreTextsOf q r caller.now key.now command.now reply.now → Law s m now q r number caller key command reply

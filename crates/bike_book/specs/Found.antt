@@ -11,11 +11,9 @@ use Rattle.bike_sql.specs.View.{row_with, rows_where, last_of}
 use Rattle.bike_fields.specs.NameKinds.{kind_text}
 use Rattle.bike_fields.specs.declared.name_kind.NameKind.{NameKind}
 use Rattle.bike_operator.specs.Rows.{PlanRow}
-use Rattle.bike_operator.specs.Commands.{text_of}
-use Rattle.bike_operator.specs.Replies.{reply_text}
 use Rattle.bike_ledger.specs.Ledger.{balance_of, cash_of, revenue_of, refunded_of}
 use Rattle.bike_operator.specs.declared.records.Rental.{Rental}
-use Rattle.bike_operator.specs.Operator.{Operator, item_numbered, key_of, name_key, dock_key, kept_under}
+use Rattle.bike_operator.specs.Operator.{Operator, AcceptedRequest, item_numbered, key_of, name_key, dock_key, kept_under}
 use Rattle.bike_operator.specs.Counts.{count, is_on_truck, is_for_order, docked_at, is_broken, is_open, is_riding}
 use Rattle.bike_operator.specs.Counts.{open_rentals, available_of, docks_available, docks_broken}
 use Rattle.bike_operator.specs.Names.{further_names}
@@ -23,13 +21,12 @@ use Rattle.bike_operator.specs.Sound.{IsSound}
 use Rattle.bike_book.specs.declared.version.TheConstants.{NEWEST}
 use Rattle.bike_accepted.specs.Numbers.{disabled_of}
 use Rattle.bike_book.specs.Tables.{TableName, rows_in, keys_of, Meta, System, Plans, Segments, Types, Regions, Stations}
-use Rattle.bike_book.specs.Tables.{Docks, Bikes, Trucks, Riders, Rentals, Orders, Entries, Kept, Counts, MoreNames}
+use Rattle.bike_book.specs.Tables.{Docks, Bikes, Trucks, Riders, Rentals, Orders, Entries, History, Counts, MoreNames}
 use Rattle.bike_book.specs.Rows.{number_value, meta_row, system_row, plan_row, type_row, region_row, station_row}
-use Rattle.bike_book.specs.Rows.{dock_row, bike_row, truck_row, rider_row, rental_row, order_row, entry_row, kept_row}
+use Rattle.bike_book.specs.Rows.{dock_row, bike_row, truck_row, rider_row, rental_row, order_row, entry_row}
 use Rattle.bike_book.specs.Rows.{count_row, name_row}
-use Rattle.bike_book.specs.KeptRequests.{kept_of}
 use Rattle.bike_book.specs.Stored.{Listed, IsListing, with_numbers, segment_rows, stored_bike, stored_rental}
-use Rattle.bike_book.specs.Stored.{tables_for}
+use Rattle.bike_book.specs.Stored.{stored_request, tables_for}
 
 -- the fact holds of each sound operator whose rows are listed right
 abbrev pub WhereListed : (Operator → Listed → Type 0) → Type 0
@@ -68,9 +65,6 @@ pub record FoundByKey (s : Operator) (m : Listed) : Type 0 where
       ≡ option_map (order_row order) (item_numbered order s.orders)
   pub entries : (entry : ℕ) → row_under s m Entries (number_value entry ∷ [])
       ≡ option_map (entry_row entry) (item_numbered entry s.entries)
-  pub kept : (caller key : List ℕ) → row_under s m Kept (Text caller ∷ Text key ∷ [])
-      ≡ option_map (λ a. kept_row caller key (text_of a.request.command) (reply_text a.reply))
-      (kept_under (key_of caller key) s.history)
   pub more_names : (kind : NameKind) (id language : List ℕ)
       → row_under s m MoreNames (Text (kind_text kind) ∷ Text id ∷ Text language ∷ [])
       ≡ option_map (name_row (name_key kind id language)) (fin.get s.more_names (name_key kind id language))
@@ -118,6 +112,17 @@ open_row s m rider = slice_get (rows_open (rows_by s m Rentals (1 ∷ []) (numbe
 abbrev pub open_rental : Operator → ℕ → Option (ℕ × Rental)
 open_rental s rider = find (λ e. (e.1.rider == rider) && is_open e.1) (with_numbers s.rentals)
 
+-- the row of an accepted request, whatever its number
+pub record IsRowOf (a : AcceptedRequest) (row : Row) : Type 0 where
+  pub number : ℕ
+  pub row_is : row ≡ stored_request (number, a)
+
+-- there is a row where there is a request, and it is the request's
+abbrev pub AreRowOf : Option AcceptedRequest → Option Row → Type 0
+AreRowOf None None = Unit {0}
+AreRowOf (Some a) (Some row) = IsRowOf a row
+AreRowOf o row = ⊥
+
 -- The rows found by columns that are no key.
 pub record FoundByColumns (s : Operator) (m : Listed) : Type 0 where
   pub segments : (plan : List ℕ) → rows_by s m Segments (0 ∷ []) (Text plan ∷ [])
@@ -133,6 +138,8 @@ pub record FoundByColumns (s : Operator) (m : Listed) : Type 0 where
       → length (rows_by s m MoreNames (0 ∷ 1 ∷ []) (Text (kind_text kind) ∷ Text id ∷ []))
       ≡ length (further_names s kind id)
   pub open_rental_is : (rider : ℕ) → open_row s m rider ≡ option_map (stored_rental s.entries) (open_rental s rider)
+  pub kept : (caller key : List ℕ) → AreRowOf (kept_under (key_of caller key) s.history)
+      (slice_get (rows_by s m History (2 ∷ 3 ∷ []) (Text caller ∷ Text key ∷ [])) 0)
   pub riding : (rider : ℕ) → is_some (open_row s m rider) ≡ is_riding s rider
 
 -- ---- numbers of rows
@@ -155,6 +162,7 @@ pub record FoundNumbers (s : Operator) (m : Listed) : Type 0 where
   pub last_rental : IsLast (length s.rentals) (last_row s m Rentals)
   pub last_order : IsLast (length s.orders) (last_row s m Orders)
   pub last_entry : IsLast (length s.entries) (last_row s m Entries)
+  pub last_request : IsLast (length s.history) (last_row s m History)
   pub plans : row_count s m Plans ≡ fin.len s.plans
   pub types : row_count s m Types ≡ fin.len s.types
   pub regions : row_count s m Regions ≡ fin.len s.regions
@@ -165,5 +173,5 @@ pub record FoundNumbers (s : Operator) (m : Listed) : Type 0 where
   pub rentals : row_count s m Rentals ≡ length s.rentals
   pub orders : row_count s m Orders ≡ length s.orders
   pub entries : row_count s m Entries ≡ length s.entries
-  pub kept : row_count s m Kept ≡ fin.len (kept_of s.history)
+  pub requests : row_count s m History ≡ length s.history
   pub open_rentals_are : length (rows_open (rows_of s m Rentals)) ≡ open_rentals s

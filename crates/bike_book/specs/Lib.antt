@@ -1,6 +1,6 @@
 pub mod Tables
 pub mod Rows
-pub mod KeptRequests
+pub mod Numbers
 pub mod Stored
 pub mod Writes
 pub mod Leads

@@ -134,9 +134,10 @@ entry_row entry e =
     number_value entry ∷ Int (kind_number e.kind) ∷ number_value e.rider ∷ number_value e.rental ∷ Int e.amount
     ∷ number_value e.at ∷ []
 
--- caller, req_key, command, reply, each as its text
-abbrev pub kept_row : List ℕ → List ℕ → List ℕ → List ℕ → Row
-kept_row caller key command reply = Text caller ∷ Text key ∷ Text command ∷ Text reply ∷ []
+-- number, moment (seconds), and caller, req_key, command and reply, each as its text
+abbrev pub history_row : ℕ → ℕ → List ℕ → List ℕ → List ℕ → List ℕ → Row
+history_row number moment caller key command reply =
+    number_value number ∷ number_value moment ∷ Text caller ∷ Text key ∷ Text command ∷ Text reply ∷ []
 
 -- station_id, type_id, available, disabled
 abbrev pub count_row : List ℕ → List ℕ → ℕ → ℕ → Row

@@ -7,6 +7,7 @@ use Rattle.std.specs.FinSet.{FinSet, contains}
 use Rattle.sqlite_value.specs.Order.{Row}
 use Rattle.bike_fields.specs.Values.{SegmentRow}
 use Rattle.bike_operator.specs.Rows.{PlanRow, TypeRow, RegionRow, SystemRow}
+use Rattle.bike_operator.specs.Caller.{caller_text}
 use Rattle.bike_operator.specs.Commands.{text_of}
 use Rattle.bike_operator.specs.Replies.{reply_text}
 use Rattle.bike_ledger.specs.Entries.{Entry}
@@ -15,16 +16,15 @@ use Rattle.bike_operator.specs.declared.records.Bike.{Bike}
 use Rattle.bike_operator.specs.declared.records.Rental.{Rental}
 use Rattle.bike_operator.specs.declared.records.Order.{Order}
 use Rattle.bike_operator.specs.Operator.{Operator, Station, Truck, Rider, Key, NameKey, DockKey, texts_cmp}
-use Rattle.bike_operator.specs.Operator.{key_of, dock_key}
+use Rattle.bike_operator.specs.Operator.{AcceptedRequest, key_of, dock_key}
 use Rattle.bike_operator.specs.Counts.{available_of, docks_available, docks_broken}
 use Rattle.bike_operator.specs.Sound.{HasDock}
 use Rattle.bike_book.specs.declared.version.TheConstants.{NEWEST}
 use Rattle.bike_accepted.specs.Numbers.{disabled_of}
 use Rattle.bike_book.specs.Tables.{Tables}
-use Rattle.bike_book.specs.KeptRequests.{Kept, kept_of}
 use Rattle.bike_book.specs.Rows.{meta_row, system_row, plan_row, segment_row, type_row, region_row, station_row}
-use Rattle.bike_book.specs.Rows.{dock_row, bike_row, truck_row, rider_row, rental_row, order_row, entry_row, kept_row}
-use Rattle.bike_book.specs.Rows.{count_row, name_row, first_text, second_text, second_number}
+use Rattle.bike_book.specs.Rows.{dock_row, bike_row, truck_row, rider_row, rental_row, order_row, entry_row}
+use Rattle.bike_book.specs.Rows.{history_row, count_row, name_row, first_text, second_text, second_number}
 
 -- ---- numbered records with their numbers, from 1
 
@@ -73,8 +73,10 @@ stored_order e = order_row e.0 e.1
 abbrev pub stored_entry : ℕ × Entry → Row
 stored_entry e = entry_row e.0 e.1
 
-abbrev pub stored_kept : Key × Kept → Row
-stored_kept e = kept_row (first_text e.0) (second_text e.0) (text_of e.1.command) (reply_text e.1.reply)
+abbrev pub stored_request : ℕ × AcceptedRequest → Row
+stored_request e =
+    history_row e.0 e.1.moment (caller_text e.1.request.caller) e.1.request.key (text_of e.1.request.command)
+    (reply_text e.1.reply)
 
 -- a station's bicycles of a type, those that can be rented and those that can't
 abbrev pub stored_count : Operator → Key × Unit {0} → Row
@@ -129,7 +131,7 @@ tables_for s m = record {
   rentals = map (stored_rental s.entries) (with_numbers s.rentals);
   orders = map stored_order (with_numbers s.orders);
   entries = map stored_entry (with_numbers s.entries);
-  kept = map stored_kept (fin.entries (kept_of s.history));
+  history = map stored_request (with_numbers s.history);
   counts = map (stored_count s) (fin.entries m.counts);
   more_names = map stored_name (fin.entries s.more_names);
 }

@@ -17,7 +17,7 @@ pub data TableName : Type 0 where
   Rentals : TableName
   Orders : TableName
   Entries : TableName
-  Kept : TableName
+  History : TableName
   Counts : TableName
   MoreNames : TableName
 
@@ -37,7 +37,7 @@ table_place Riders = 10
 table_place Rentals = 11
 table_place Orders = 12
 table_place Entries = 13
-table_place Kept = 14
+table_place History = 14
 table_place Counts = 15
 table_place MoreNames = 16
 
@@ -60,7 +60,7 @@ keys_of Riders = 1
 keys_of Rentals = 1
 keys_of Orders = 1
 keys_of Entries = 1
-keys_of Kept = 2
+keys_of History = 1
 keys_of Counts = 2
 keys_of MoreNames = 3
 
@@ -80,7 +80,7 @@ pub record Tables : Type 0 where
   pub rentals : List Row
   pub orders : List Row
   pub entries : List Row
-  pub kept : List Row
+  pub history : List Row
   pub counts : List Row
   pub more_names : List Row
 
@@ -99,7 +99,7 @@ rows_in t Riders = t.riders
 rows_in t Rentals = t.rentals
 rows_in t Orders = t.orders
 rows_in t Entries = t.entries
-rows_in t Kept = t.kept
+rows_in t History = t.history
 rows_in t Counts = t.counts
 rows_in t MoreNames = t.more_names
 
@@ -120,7 +120,7 @@ tables_by rows = record {
   rentals = rows Rentals;
   orders = rows Orders;
   entries = rows Entries;
-  kept = rows Kept;
+  history = rows History;
   counts = rows Counts;
   more_names = rows MoreNames;
 }

@@ -4,7 +4,7 @@ use Rattle.sqlite_value.specs.declared.value.Value.{Value}
 use Rattle.sqlite_value.specs.declared.value.Value.TheVariants.{Int, Text}
 use Rattle.sqlite_value.specs.Order.{Row}
 use Rattle.sqlite.specs.Values.{or_null}
-use Rattle.bike_sql.specs.View.{IsFree, put_row_by, rows_after_update, rows_after_removal, with_values}
+use Rattle.bike_sql.specs.View.{put_row_by, rows_after_update, rows_after_removal, with_values}
 use Rattle.bike_operator.specs.declared.records.BikeState.TheVariants.{Fit}
 use Rattle.bike_operator.specs.declared.records.Place.TheVariants as place
 use Rattle.bike_fields.specs.NameKinds.{kind_text}
@@ -19,10 +19,10 @@ use Rattle.bike_book.specs.declared.row_change.RowChange.{RowChange}
 use Rattle.bike_book.specs.declared.row_change.RowChange.TheVariants as row
 use Rattle.bike_book.specs.Tables.{TableName, Tables, is_table, rows_in, with_rows, keys_of, Meta, System, Plans}
 use Rattle.bike_book.specs.Tables.{Segments, Types, Regions, Stations, Docks, Bikes, Trucks, Riders, Rentals, Orders}
-use Rattle.bike_book.specs.Tables.{Entries, Kept, Counts, MoreNames}
+use Rattle.bike_book.specs.Tables.{Entries, History, Counts, MoreNames}
 use Rattle.bike_book.specs.Rows.{truth, number_value, state_number, place_columns, closing_columns, system_row}
 use Rattle.bike_book.specs.Rows.{plan_row, segment_row, type_row, region_row, station_row, dock_row, bike_row}
-use Rattle.bike_book.specs.Rows.{truck_row, rider_row, rental_row, order_row, entry_row, kept_row, count_row, name_row}
+use Rattle.bike_book.specs.Rows.{truck_row, rider_row, rental_row, order_row, entry_row, history_row, count_row, name_row}
 
 -- columns, counted from 0, and what they are set to
 abbrev pub Columns : Type 0
@@ -53,18 +53,6 @@ tables_after w t = with_rows (table_of_write w) (rows_after w t) t
 abbrev pub tables_after_all : List RowWrite → Tables → Tables
 tables_after_all [] t = t
 tables_after_all (w ∷ ws) t = tables_after_all ws (tables_after w t)
-
--- What a write asks of the tables before it: a row of `kept` has to have
--- a key that is free, as nothing of that table refuses it a second time.
-abbrev pub MayWrite : RowWrite → Tables → Type 0
-MayWrite (Add name row) t = is_table name Kept ≡ true → IsFree (keys_of name) row (rows_in t name)
-MayWrite (Set name key columns) t = Unit {0}
-MayWrite (Remove name key) t = Unit {0}
-
--- each of them may be written, after those before it
-abbrev pub MayWriteAll : List RowWrite → Tables → Type 0
-MayWriteAll [] t = Unit {0}
-MayWriteAll (w ∷ ws) t = MayWrite w t × MayWriteAll ws (tables_after w t)
 
 -- these columns, from a place on
 abbrev pub columns_from : ℕ → Row → Columns
@@ -157,7 +145,8 @@ write_of (row.SetBike bike state p) =
 write_of (row.SetBalance rider balance) = Set Riders (number_value rider ∷ []) ((2, Int balance) ∷ [])
 write_of (row.SetRefunded rental refunded) = Set Rentals (number_value rental ∷ []) ((9, Int refunded) ∷ [])
 write_of (row.AddEntry e) = Add Entries (entry_row e.now.number e.now)
-write_of (row.AddKept caller key command reply) = Add Kept (kept_row caller.now key.now command.now reply.now)
+write_of (row.AddRequest number moment caller key command reply) =
+    Add History (history_row number moment caller.now key.now command.now reply.now)
 write_of (row.AddCount station type_id available disabled) =
     Add Counts (count_row station.now type_id.now available disabled)
 write_of (row.SetCount station type_id available disabled) =

@@ -348,22 +348,28 @@ pub mod entries {
     pub const COLUMNS: usize = crate::table!(count entries);
 }
 
-/// The columns of `kept`.
-pub mod kept {
+/// The columns of `history`.
+pub mod history {
+    /// The request's number.
+    pub const NUMBER: usize = 0;
+
+    /// Seconds.
+    pub const MOMENT: usize = 1;
+
     /// The caller's text.
-    pub const CALLER: usize = 0;
+    pub const CALLER: usize = 2;
 
     /// The request's key.
-    pub const REQ_KEY: usize = 1;
+    pub const REQ_KEY: usize = 3;
 
     /// The command's text.
-    pub const COMMAND: usize = 2;
+    pub const COMMAND: usize = 4;
 
     /// The reply's text.
-    pub const REPLY: usize = 3;
+    pub const REPLY: usize = 5;
 
     /// How many there are.
-    pub const COLUMNS: usize = crate::table!(count kept);
+    pub const COLUMNS: usize = crate::table!(count history);
 }
 
 /// The columns of `counts`.

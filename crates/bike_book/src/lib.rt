@@ -7,6 +7,7 @@
 
 pub mod columns;
 mod laws;
+mod requests;
 mod row_change;
 mod tables;
 mod version;
@@ -15,5 +16,6 @@ pub use bike_operator::BikeState;
 pub use laws::{
     books_catalogue, books_close, books_fleet, books_rentals, finds_rows, starts_at_zero,
 };
+pub use requests::{MOST_REQUESTS, RequestCount};
 pub use row_change::RowChange;
 pub use version::NEWEST;

@@ -1,5 +1,6 @@
 //! Changes of one row each. Their numbers and texts are those of an operator's records.
 
+use crate::requests::RequestCount;
 use bike_accepted::Change;
 use bike_fields::{Ident, Segment};
 use bike_ledger::{Cents, Entry, Moment};
@@ -60,8 +61,11 @@ pub enum RowChange<'a> {
     },
     /// Adds a row to `entries`.
     AddEntry(&'a Entry),
-    /// Adds a row to `kept`, of the texts of caller, key, command and reply.
-    AddKept {
+    /// Adds a row to `history`: the next request, with the moment of its acceptance and the texts of caller, key,
+    /// command and reply.
+    AddRequest {
+        number: RequestCount,
+        moment: Moment,
         caller: &'a str,
         key: &'a str,
         command: &'a str,

@@ -124,7 +124,9 @@ macro_rules! table {
         amount INTEGER NOT NULL,
         at INTEGER NOT NULL
     ) } };
-    ($part:ident kept) => { $crate::table_part! { $part kept (
+    ($part:ident history) => { $crate::table_part! { $part history (
+        number INTEGER PRIMARY KEY,
+        moment INTEGER NOT NULL,
         caller TEXT NOT NULL,
         req_key TEXT NOT NULL,
         command TEXT NOT NULL,

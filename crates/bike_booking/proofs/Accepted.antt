@@ -34,8 +34,6 @@ use Rattle.bike_book.specs.Writes.{RowWrite, Add, write_of, writes_of}
 use Rattle.bike_book.specs.Between.{Leads}
 use Rattle.bike_book.specs.Tables.{Entries}
 use Rattle.bike_book.specs.Rows.{entry_row}
-use Rattle.bike_book.specs.KeptRequests.{kept_of, AreKept}
-use Rattle.bike_book.proofs.KeptLemmas.{are_kept}
 use Rattle.bike_book.specs.CloseLaws.{after_close, AreTextsOf, AreNumbersWith}
 use Rattle.bike_book.proofs.CloseBooks.{close_quiet, close_entry, close_refund}
 use Rattle.bike_book.proofs.SoundNumbers.{no_refunds, no_balance}
@@ -48,15 +46,17 @@ use Rattle.bike_accepted.specs.declared.accepted.BookedEntry.{BookedEntry}
 use Rattle.bike_accepted.specs.declared.accepted.Accepted.{Accepted}
 use Rattle.bike_accepted.specs.Effects.{bike_in, after_change, where_moved, where_changed, entry_of, changed_by, effect_of, Decides}
 use Rattle.bike_accepted.specs.Found.{IsMovedFound, IsFound, IsRefundFound, IsBookedFound}
+use Rattle.bike_booking.specs.declared.figures.Figures.{Figures}
 use Rattle.bike_booking.specs.declared.stored.Stored.{Stored}
 use Rattle.bike_booking.specs.declared.stored.Sums.{Sums}
 use Rattle.bike_booking.specs.declared.texts.KeptTexts.{KeptTexts}
 use Rattle.bike_booking.specs.Stored.{IsMovedStored}
 use Rattle.bike_booking.specs.Sums.{sums_of, sums_after}
-use Rattle.bike_booking.specs.Figures.{figures_of, rentals_after, orders_after, entries_after, figures_after, FiguresFollow}
+use Rattle.bike_booking.specs.Figures.{figures_of, rentals_after, orders_after, entries_after, figures_with, FiguresFollow}
 use Rattle.bike_booking.specs.Writes.{refund_writes, close_rows, where_moved_writes, where_changed_writes, where_booked_writes, writes_of_accepted}
 use Rattle.bike_booking.specs.Booking.{IsAccepted, BooksAccepted, SumsTakeOneMore}
 use Rattle.bike_booking.proofs.Written.{leads_none, leads_then}
+use Rattle.bike_booking.proofs.NextFigures.{figures_next}
 use Rattle.bike_booking.proofs.MovedBooks.{books_moved}
 use Rattle.bike_booking.proofs.ChangedBooks.{IsReady, books_change}
 
@@ -171,7 +171,7 @@ accepted_closed s now q a decides stays =
     go None = stays
     go (Some e) = stays
 
-module _ (s : Operator) (m : Listed) (now : ℕ) (q : Request) (a : Accepted) (n : Stored) (texts : KeptTexts) (h : IsAccepted s m now q a n texts) where
+module _ (s : Operator) (m : Listed) (now : ℕ) (q : Request) (a : Accepted) (n : Stored) (number : ℕ) (texts : KeptTexts) (h : IsAccepted s m now q a n number texts) where
   abbrev moved_next : Operator
   moved_next = where_moved now a.moved s
 
@@ -187,8 +187,8 @@ module _ (s : Operator) (m : Listed) (now : ℕ) (q : Request) (a : Accepted) (n
   history : next.history ≡ s.history
   history = (changed_left a.change moved_next).1 ∙ left.history
 
-  kept : AreKept next
-  kept key k found = are_kept s h.sound key k (ap (λ (l : List AcceptedRequest). fin.get (kept_of l) key) (sym history) ∙ found)
+  numbered : number ≡ length next.history + 1
+  numbered = h.number_is ∙ ap (λ (l : List AcceptedRequest). length l + 1) (sym history)
 
   texts_are : AreTextsOf q a.reply texts.caller.now texts.key.now texts.command.now texts.reply.now
   texts_are = record { caller_is = h.texts_are.caller; key_is = h.texts_are.key; command_is = h.texts_are.command; reply_is = h.texts_are.reply ∙ ap reply_text (sym h.decides.1) }
@@ -203,25 +203,25 @@ module _ (s : Operator) (m : Listed) (now : ℕ) (q : Request) (a : Accepted) (n
 
   -- the entry, where there is one, and the close
   abbrev Closes : Listed → Option BookedEntry → Type 0
-  Closes w o = Leads (where_booked_writes o ++ writes_of (close_rows now n.sums texts)) next w (after_close now q a.reply (entry_added (entry_of o) next)) w
+  Closes w o = Leads (where_booked_writes o ++ writes_of (close_rows now n.sums number texts)) next w (after_close now q a.reply (entry_added (entry_of o) next)) w
 
   closes : (w : Listed) → IsListing next w → (o : Option BookedEntry) → IfSome o (IsBookedFound s) → n.sums ≡ sums_after (sums_of s) o → Closes w o
   closes w listing None found sums =
-      close_quiet next w now q a.reply texts.caller texts.key texts.command texts.reply listing kept texts_are n.sums.cash n.sums.revenue
+      close_quiet next w now q a.reply number texts.caller texts.key texts.command texts.reply listing numbered texts_are n.sums.cash n.sums.revenue
       (ap (λ (x : Sums). x.cash) sums ∙ ap cash_of (sym entries)) (ap (λ (x : Sums). x.revenue) sums ∙ ap revenue_of (sym entries))
   closes w listing (Some b) found sums = go b.refunded found.refunded_is where
     go : (o : Option ℤ) → IsRefundFound s b.entry o
         → Leads ((Add Entries (entry_row b.entry.number b.entry) ∷ write_of (row.SetBalance b.entry.rider b.balance) ∷ refund_writes b.entry.rental o)
-        ++ writes_of (close_rows now n.sums texts)) next w (after_close now q a.reply (entry_added (Some b.entry) next)) w
+        ++ writes_of (close_rows now n.sums number texts)) next w (after_close now q a.reply (entry_added (Some b.entry) next)) w
     go None none =
         let e : Bor Entry = record { ref_ptr = (0, 0); now = b.entry } in
-        close_entry next w now q a.reply texts.caller texts.key texts.command texts.reply listing kept texts_are e b.balance n.sums.cash n.sums.revenue (numbers b found sums) none
+        close_entry next w now q a.reply number texts.caller texts.key texts.command texts.reply listing numbered texts_are e b.balance n.sums.cash n.sums.revenue (numbers b found sums) none
     go (Some refunded) is =
         let e : Bor Entry = record { ref_ptr = (0, 0); now = b.entry } in
-        close_refund next w now q a.reply texts.caller texts.key texts.command texts.reply listing kept texts_are e b.balance refunded n.sums.cash n.sums.revenue (numbers b found sums)
+        close_refund next w now q a.reply number texts.caller texts.key texts.command texts.reply listing numbered texts_are e b.balance refunded n.sums.cash n.sums.revenue (numbers b found sums)
         (is ∙ ap (λ (es : List Entry). refunded_of b.entry.rental es +ℤ given_back b.entry.kind b.entry.amount) (sym entries))
 
-  pub leads_accepted : (w : Listed) × Leads (writes_of_accepted now n texts a) s m (after_acceptance s now q) w
+  pub leads_accepted : (w : Listed) × Leads (writes_of_accepted now n number texts a) s m (after_acceptance s now q) w
   leads_accepted =
       let one = leads_moved s m now n h.sound h.listing a.moved h.found.moved h.stored.moved in
       let w = one.0 in
@@ -230,7 +230,7 @@ module _ (s : Operator) (m : Listed) (now : ℕ) (q : Request) (a : Accepted) (n
       let ms = where_moved_writes now n a.moved in
       let cs = where_changed_writes a.change in
       let es = where_booked_writes a.entry in
-      let ks = writes_of (close_rows now n.sums texts) in
+      let ks = writes_of (close_rows now n.sums number texts) in
       let end = after_close now q a.reply (effect_of now a s) in
       let both = leads_then ms cs s moved_next next m w w one.1 two in
       let all : Leads ((ms ++ cs) ++ (es ++ ks)) s m end w = leads_then (ms ++ cs) (es ++ ks) s next end m w w both three in
@@ -239,8 +239,8 @@ module _ (s : Operator) (m : Listed) (now : ℕ) (q : Request) (a : Accepted) (n
 -- ---- the law
 
 pub books_accepted : BooksAccepted
-books_accepted s m now q a n texts rows h are =
-    let l = leads_accepted s m now q a n texts h in
+books_accepted s m now q a n number texts rows h are =
+    let l = leads_accepted s m now q a n number texts h in
     record {
       listed = l.0;
       leads = sound_ends rows s (after_acceptance s now q) m l.0 h.sound.bikes h.sound_after.bikes (subst (λ (ws : List RowWrite). Leads ws s m (after_acceptance s now q) l.0) (sym are) l.1);
@@ -291,6 +291,7 @@ record LedgerWith (s next : Operator) (o : Option BookedEntry) : Type 0 where
   entries : entries_after (length s.entries) o ≡ length (entry_added (entry_of o) next).entries
   rentals : (entry_added (entry_of o) next).rentals ≡ next.rentals
   orders : (entry_added (entry_of o) next).orders ≡ next.orders
+  history : (entry_added (entry_of o) next).history ≡ next.history
 
 ledger_with : (s n : Operator) (o : Option BookedEntry) → n.entries ≡ s.entries → IfSome o (IsBookedFound s) → LedgerWith s n o
 ledger_with s n None same found = record {
@@ -298,6 +299,7 @@ ledger_with s n None same found = record {
   entries = ap (λ (es : List Entry). length es) (sym same);
   rentals = refl;
   orders = refl;
+  history = refl;
 }
 ledger_with s n (Some b) same found =
     let cash = ap (λ (es : List Entry). cash_of es +ℤ cash_in b.entry.kind b.entry.amount) (sym same) ∙ sym (total-append (λ (e : Entry). cash_in e.kind e.amount) n.entries b.entry) in
@@ -307,10 +309,11 @@ ledger_with s n (Some b) same found =
       entries = found.number_is ∙ ap (λ (es : List Entry). length es + 1) (sym same) ∙ sym (length-append n.entries (b.entry ∷ []));
       rentals = refl;
       orders = refl;
+      history = refl;
     }
 
 pub figures_follow : FiguresFollow
-figures_follow s now q a decides found =
+figures_follow s now q a figures decides found follows =
     let mid = where_moved now a.moved s in
     let next = changed_by now a s in
     let before = moved_left now a.moved s in
@@ -320,6 +323,8 @@ figures_follow s now q a decides found =
     let closed = accepted_closed s now q a decides left.1 in
     let rentals = ap (λ (rs : List Rental). rentals_after (length rs) a.change) (sym before.rentals) ∙ rentals_with a.change mid found.change ∙ ap (λ (rs : List Rental). length rs) (sym ledger.rentals) in
     let orders = ap (λ (os : List Order). orders_after (length os) a.change) (sym before.orders) ∙ orders_with a.change mid found.change ∙ ap (λ (os : List Order). length os) (sym ledger.orders) in
-    let all : figures_after (figures_of s) now a ≡ figures_of (after_close now q a.reply end) =
-    λ i. record { now = now; sums = ledger.sums i; rentals = rentals i; orders = orders i; entries = ledger.entries i } in
-    all ∙ ap figures_of (sym closed)
+    let requests : length s.history + 1 ≡ length (after_close now q a.reply end).history =
+    ap (λ (l : List AcceptedRequest). length l + 1) (sym (ledger.history ∙ left.1)) ∙ sym (length-append end.history _) in
+    let all : figures_with (figures_of s) now a (length s.history + 1) ≡ figures_of (after_close now q a.reply end) =
+    λ i. record { now = now; sums = ledger.sums i; rentals = rentals i; orders = orders i; entries = ledger.entries i; requests = requests i } in
+    figures_next (figures_of s) now a follows ∙ all ∙ ap figures_of (sym closed)

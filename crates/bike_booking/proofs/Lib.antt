@@ -2,8 +2,8 @@ pub mod Added
 pub mod Written
 pub mod MovedBooks
 pub mod ChangedBooks
+pub mod NextFigures
 pub mod Accepted
-pub mod May
 pub mod TotalsRows
 pub mod Listed
 pub mod ReportBooks

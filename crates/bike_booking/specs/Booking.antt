@@ -1,17 +1,17 @@
 -- The law of an accepted request: its row changes lead to the tables of the operator after it.
-use Rattle.std.specs.Prelude.{◌≡◌, ℕ, List, Ok, None, IfSome}
+use Rattle.std.specs.Prelude.{◌≡◌, ◌+◌, ℕ, List, length, Ok, IfSome}
 use Rattle.bike_fields.specs.Caller.{caller_text}
 use Rattle.bike_commands.specs.declared.request.Request.{Request}
 use Rattle.bike_commands.specs.Commands.{text_of}
 use Rattle.bike_commands.specs.Replies.{reply_text}
-use Rattle.bike_operator.specs.Operator.{Operator, key_in, kept_under}
+use Rattle.bike_operator.specs.Operator.{Operator}
 use Rattle.bike_operator.specs.Steps.{reply_of}
 use Rattle.bike_operator.specs.Runs.{after_acceptance}
 use Rattle.bike_operator.specs.Sound.{IsSound}
 use Rattle.bike_book.specs.declared.row_change.RowChange.{RowChange}
-use Rattle.bike_book.specs.Stored.{Listed, IsListing, tables_for}
+use Rattle.bike_book.specs.Stored.{Listed, IsListing}
 use Rattle.bike_book.specs.Leads.{LeadsTo}
-use Rattle.bike_book.specs.Writes.{writes_of, MayWriteAll}
+use Rattle.bike_book.specs.Writes.{writes_of}
 use Rattle.bike_accepted.specs.declared.accepted.Accepted.{Accepted}
 use Rattle.bike_accepted.specs.Effects.{Decides}
 use Rattle.bike_accepted.specs.Found.{AreFound}
@@ -28,14 +28,16 @@ pub record AreTexts (s : Operator) (now : ℕ) (q : Request) (texts : KeptTexts)
   pub command : texts.command.now ≡ text_of q.command
   pub reply : texts.reply.now ≡ reply_text (reply_of s now q.command)
 
--- What is known of an acceptance: the operator decides so, the records before are its own, and what is stored was read.
+-- What is known of an acceptance: the operator decides so, the records before
+-- are its own, what is stored was read, and the number is that of the next request.
 pub record IsAccepted (s : Operator) (m : Listed) (now : ℕ) (q : Request) (a : Accepted) (n : Stored)
-    (texts : KeptTexts) : Type 0 where
+    (number : ℕ) (texts : KeptTexts) : Type 0 where
   pub sound : IsSound s
   pub listing : IsListing s m
   pub decides : Decides s now q.command (Ok a)
   pub found : AreFound now s a
   pub stored : IsStored s m a n
+  pub number_is : number ≡ length s.history + 1
   pub texts_are : AreTexts s now q texts
   pub sound_after : IsSound (after_acceptance s now q)
 
@@ -46,18 +48,10 @@ pub record Books (changes : List RowChange) (s : Operator) (m : Listed) (now : �
 
 abbrev pub BooksAccepted : Type 0
 BooksAccepted =
-    (s : Operator) (m : Listed) (now : ℕ) (q : Request) (a : Accepted) (n : Stored) (texts : KeptTexts)
+    (s : Operator) (m : Listed) (now : ℕ) (q : Request) (a : Accepted) (n : Stored) (number : ℕ) (texts : KeptTexts)
     (rows : List RowChange)
-    → IsAccepted s m now q a n texts → writes_of rows ≡ writes_of_accepted now n texts a → Books rows s m now q
-
--- Where the request's key isn't kept, each of them may be written after those before it.
-abbrev pub MayBeWritten : Type 0
-MayBeWritten =
-    (s : Operator) (m : Listed) (now : ℕ) (q : Request) (a : Accepted) (n : Stored) (texts : KeptTexts)
-    (rows : List RowChange)
-    → IsAccepted s m now q a n texts → kept_under (key_in q) s.history ≡ None
-    → writes_of rows ≡ writes_of_accepted now n texts a
-    → MayWriteAll (writes_of rows) (tables_for s m)
+    → IsAccepted s m now q a n number texts → writes_of rows ≡ writes_of_accepted now n number texts a
+    → Books rows s m now q
 
 -- Where an entry is booked, it is added to the entries of a sound
 -- operator, which are fewer than there may be: its sums take one more.

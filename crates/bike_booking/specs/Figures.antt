@@ -1,5 +1,5 @@
--- The operator's figures: its moment and sums, and how many rentals, orders and entries it has.
-use Rattle.std.specs.Prelude.{◌≡◌, ℕ, length, Option, Some, None, Ok}
+-- The operator's figures: its moment and sums, and how many rentals, orders, entries and accepted requests it has.
+use Rattle.std.specs.Prelude.{◌≡◌, ℕ, length, Option, Some, None, Ok, option_map}
 use Rattle.bike_commands.specs.declared.request.Request.{Request}
 use Rattle.bike_operator.specs.Operator.{Operator}
 use Rattle.bike_operator.specs.Runs.{after_acceptance}
@@ -9,6 +9,7 @@ use Rattle.bike_accepted.specs.declared.accepted.BookedEntry.{BookedEntry}
 use Rattle.bike_accepted.specs.declared.accepted.Accepted.{Accepted}
 use Rattle.bike_accepted.specs.Effects.{Decides}
 use Rattle.bike_accepted.specs.Found.{AreFound}
+use Rattle.bike_book.specs.Numbers.{next_count}
 use Rattle.bike_booking.specs.declared.figures.Figures.{Figures}
 use Rattle.bike_booking.specs.Sums.{sums_of, sums_after}
 
@@ -20,6 +21,7 @@ figures_of s =
       rentals = length s.rentals;
       orders = length s.orders;
       entries = length s.entries;
+      requests = length s.history;
     }
 
 -- what is added has the next number, and that is how many there are then
@@ -35,17 +37,24 @@ abbrev pub entries_after : ℕ → Option BookedEntry → ℕ
 entries_after entries None = entries
 entries_after entries (Some b) = b.entry.number
 
-abbrev pub figures_after : Figures → ℕ → Accepted → Figures
-figures_after f now a = record {
+-- with an acceptance, and so many requests then
+abbrev pub figures_with : Figures → ℕ → Accepted → ℕ → Figures
+figures_with f now a requests = record {
   now = now;
   sums = sums_after f.sums a.entry;
   rentals = rentals_after f.rentals a.change;
   orders = orders_after f.orders a.change;
   entries = entries_after f.entries a.entry;
+  requests = requests;
 }
 
--- The figures with an accepted request are those of the operator after it.
+-- none where no further request can be numbered
+abbrev pub figures_after : Figures → ℕ → Accepted → Option Figures
+figures_after f now a = option_map (figures_with f now a) (next_count f.requests)
+
+-- The figures with an accepted request, where it can be numbered, are those of the operator after it.
 abbrev pub FiguresFollow : Type 0
 FiguresFollow =
-    (s : Operator) (now : ℕ) (q : Request) (a : Accepted) → Decides s now q.command (Ok a) → AreFound now s a
-    → figures_after (figures_of s) now a ≡ figures_of (after_acceptance s now q)
+    (s : Operator) (now : ℕ) (q : Request) (a : Accepted) (figures : Figures)
+    → Decides s now q.command (Ok a) → AreFound now s a
+    → figures_after (figures_of s) now a ≡ Some figures → figures ≡ figures_of (after_acceptance s now q)

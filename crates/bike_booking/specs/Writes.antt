@@ -66,10 +66,11 @@ entry_writes b =
     Add Entries (entry_row b.entry.number b.entry) ∷ write_of (row.SetBalance b.entry.rider b.balance)
     ∷ refund_writes b.entry.rental b.refunded
 
--- the operator's moment and sums, and what is kept of the request
-abbrev pub close_rows : ℕ → Sums → KeptTexts → List RowChange
-close_rows now sums texts =
-    row.SetMeta now sums.cash sums.revenue ∷ row.AddKept texts.caller texts.key texts.command texts.reply ∷ []
+-- the operator's moment and sums, and the request's row of the history
+abbrev pub close_rows : ℕ → Sums → ℕ → KeptTexts → List RowChange
+close_rows now sums number texts =
+    row.SetMeta now sums.cash sums.revenue
+    ∷ row.AddRequest number now texts.caller texts.key texts.command texts.reply ∷ []
 
 -- ---- an acceptance
 
@@ -85,10 +86,10 @@ abbrev pub where_booked_writes : Option BookedEntry → List RowWrite
 where_booked_writes None = []
 where_booked_writes (Some b) = entry_writes b
 
-abbrev pub writes_of_accepted : ℕ → Stored → KeptTexts → Accepted → List RowWrite
-writes_of_accepted now n texts a =
+abbrev pub writes_of_accepted : ℕ → Stored → ℕ → KeptTexts → Accepted → List RowWrite
+writes_of_accepted now n number texts a =
     where_moved_writes now n a.moved ++ where_changed_writes a.change ++ where_booked_writes a.entry
-    ++ writes_of (close_rows now n.sums texts)
+    ++ writes_of (close_rows now n.sums number texts)
 
 -- these are written beside those before
 abbrev pub AreAdded : List RowWrite → List RowChange → List RowChange → Type 0

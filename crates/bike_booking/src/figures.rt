@@ -6,9 +6,10 @@ ghost use Rattle.bike_booking.specs.Sums.{AreBounded};
 
 use crate::stored::Sums;
 use bike_accepted::{Accepted, BookedEntry, Change};
+use bike_book::RequestCount;
 use bike_fixed::Moment;
 
-/// The operator's moment and sums, and how many rentals, orders and entries it has.
+/// The operator's moment and sums, and how many rentals, orders, entries and accepted requests it has.
 #[derive(Clone, Copy)]
 pub struct Figures {
     /// The greatest moment of an accepted request.
@@ -21,6 +22,8 @@ pub struct Figures {
     pub orders: u32,
     /// How many entries.
     pub entries: u32,
+    /// How many accepted requests.
+    pub requests: RequestCount,
 }
 
 /// How many rentals there are with what is added.
@@ -54,17 +57,20 @@ fn entries_after(entries: u32, entry: &Option<BookedEntry>) -> u32
 }
 
 impl Figures {
-    /// The figures with an accepted command. Sums to which its entry can't be added stay as they are.
-    pub fn after(&self, now: Moment, accepted: &Accepted<'_>) -> Figures
+    /// The figures with an accepted command; none where no further request can be numbered. Sums to which its entry
+    /// can't be added stay as they are.
+    pub fn after(&self, now: Moment, accepted: &Accepted<'_>) -> Option<Figures>
         ensures { IfSome accepted.now.entry (λ _. AreBounded self.entry.now.sums)
             → result ≡ figures_after self.entry.now now accepted.now }
     {
-        Figures {
+        let requests = self.requests.next()?;
+        Some(Figures {
             now,
             sums: self.sums.with(&accepted.entry),
             rentals: rentals_after(self.rentals, &accepted.change),
             orders: orders_after(self.orders, &accepted.change),
             entries: entries_after(self.entries, &accepted.entry),
-        }
+            requests,
+        })
     }
 }

@@ -16,7 +16,7 @@ use crate::stored::{Stored, StoredCounts, StoredDock, Sums};
 use crate::texts::KeptTexts;
 use arrayvec::ArrayVec;
 use bike_accepted::{Accepted, BikeStatus, BookedEntry, Change, DockAt, DockOccupant, Movement};
-use bike_book::RowChange;
+use bike_book::{RequestCount, RowChange};
 use bike_fields::{DockCount, Ident, Segment};
 use bike_fixed::Moment;
 
@@ -255,33 +255,42 @@ fn push_entry<'a>(rows: &mut Rows<'a>, booked: &'a BookedEntry)
     }
 }
 
-/// Adds the operator's moment and sums, and what is kept of the request.
-fn push_close<'a>(rows: &mut Rows<'a>, sums: &Sums, now: Moment, texts: &KeptTexts<'a>)
+/// Adds the operator's moment and sums, and the request's row of the history.
+fn push_close<'a>(
+    rows: &mut Rows<'a>,
+    sums: &Sums,
+    now: Moment,
+    number: RequestCount,
+    texts: &KeptTexts<'a>,
+)
     requires { HasRoom 2 rows.old }
-    ensures { rows.new.items ≡ rows.old.items ++ close_rows now sums.now texts.now }
+    ensures { rows.new.items ≡ rows.old.items ++ close_rows now sums.now number texts.now }
 {
     let meta_row = RowChange::SetMeta {
         now,
         cash: sums.cash,
         revenue: sums.revenue,
     };
-    let kept_row = RowChange::AddKept {
+    let request_row = RowChange::AddRequest {
+        number,
+        moment: now,
         caller: texts.caller,
         key: texts.key,
         command: texts.command,
         reply: texts.reply,
     };
-    add(rows, &[meta_row, kept_row]);
+    add(rows, &[meta_row, request_row]);
 }
 
-/// The row changes of an accepted command.
+/// The row changes of an accepted command, whose request gets this number in the history.
 pub fn rows_of<'a>(
     accepted: &'a Accepted<'a>,
     stored: &Stored,
     now: Moment,
+    number: RequestCount,
     texts: &KeptTexts<'a>,
 ) -> Rows<'a>
-    ensures { writes_of result.items ≡ writes_of_accepted now stored.now texts.now accepted.now }
+    ensures { writes_of result.items ≡ writes_of_accepted now stored.now number texts.now accepted.now }
 {
     let mut rows = ArrayVec::new();
     if let Some(moved) = &accepted.moved {
@@ -293,6 +302,6 @@ pub fn rows_of<'a>(
     if let Some(booked) = &accepted.entry {
         push_entry(&mut rows, booked);
     }
-    push_close(&mut rows, &stored.sums, now, texts);
+    push_close(&mut rows, &stored.sums, now, number, texts);
     rows
 }

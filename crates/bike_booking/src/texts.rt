@@ -1,4 +1,4 @@
-//! The texts by which an accepted request is kept.
+//! The texts by which an accepted request is kept in the history.
 
 /// Caller, request key, command and reply, each as its text.
 #[derive(Drop)]

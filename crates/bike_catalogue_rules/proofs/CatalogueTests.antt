@@ -1,4 +1,4 @@
--- The rows of system, of kept, of plans, of regions and of vehicle types pass their tests exactly where they are good.
+-- The rows of system, of plans, of regions and of vehicle types pass their tests exactly where they are good.
 use Rattle.std.proofs.Common.{◌≡◌, ℕ, List, ◌&&◌, Some, is_some, sym, ap, ◌∙◌}
 use Rattle.std.proofs.lemmas.Bool.{ltb-true, lt-ltb, and_from}
 use Rattle.std.specs.Prelude.{nat_lt}
@@ -8,16 +8,15 @@ use Rattle.sqlite_rules.specs.Lists.{Has}
 use Rattle.bike_fields.proofs.Lengths.{both_hold}
 use Rattle.bike_catalogue.specs.Rows.{TypeRow}
 use Rattle.bike_operator.specs.declared.limits.TheConstants.{MOST_PLANS, MOST_TYPES, MOST_REGIONS}
-use Rattle.bike_book.specs.Tables.{Tables, System, Plans, Types, Regions, Kept}
-use Rattle.bike_readings.specs.Readings.{system_read, plan_read, type_read, region_read, kept_read}
+use Rattle.bike_book.specs.Tables.{Tables, System, Plans, Types, Regions}
+use Rattle.bike_readings.specs.Readings.{system_read, plan_read, type_read, region_read}
 use Rattle.bike_readings.proofs.CatalogueRows.{type_reading}
-use Rattle.bike_readings.proofs.KeptRows.{kept_reading}
 use Rattle.bike_readings.specs.ReadOff.{operator_of}
-use Rattle.bike_readings.specs.Demands.{IsGoodPlan, IsGoodType, IsGoodRegion, IsGoodKept}
+use Rattle.bike_readings.specs.Demands.{IsGoodPlan, IsGoodType, IsGoodRegion}
 use Rattle.bike_readings.specs.Rules.{AreInOrder}
 use Rattle.bike_readings.proofs.RowRules.{some_with}
 use Rattle.bike_judges.specs.Lines.{part}
-use Rattle.bike_catalogue_rules.specs.Tests.{is_system, is_kept, is_plan, is_region, is_type, has_plan}
+use Rattle.bike_catalogue_rules.specs.Tests.{is_system, is_plan, is_region, is_type, has_plan}
 use Rattle.bike_catalogue_rules.proofs.Partners.{own_part}
 use Rattle.bike_catalogue_rules.proofs.PlanLines.{plan_line, has_plan_is}
 use Rattle.bike_catalogue_rules.proofs.RowVerdicts.{IsTestOf, good_some, some_good}
@@ -28,13 +27,6 @@ system_test t = record {
   may_lack = λ key. tt;
   good = λ below r has passes. good_some (λ x. Unit {0}) (system_read r) passes (λ x e. tt);
   passes = λ below r has good. some_good (λ x. Unit {0}) (system_read r) good;
-}
-
-pub kept_test : (t : Tables) → IsTestOf t Kept is_kept
-kept_test t = record {
-  may_lack = λ key. tt;
-  good = λ below r has passes. good_some (IsGoodKept (operator_of t) below) (kept_read r) passes (λ x e. (kept_reading.sound r x e).1);
-  passes = λ below r has good. some_good (IsGoodKept (operator_of t) below) (kept_read r) good;
 }
 
 pub plan_test : (t : Tables) → IsTestOf t Plans is_plan

@@ -1,15 +1,12 @@
 -- What a judge finds in the lines of a table is the table's verdict.
-use Rattle.std.proofs.Common.{◌≡◌, ℕ, suc, List, [], ◌∷◌, map, Bool, true, false, cond, Option, Some, None, is_some, refl, sym, ap, ◌∙◌, arith}
+use Rattle.std.proofs.Common.{◌≡◌, ℕ, List, [], ◌∷◌, map, Bool, true, false, cond, Option, Some, None, refl, sym, ap, ◌∙◌, arith}
 use Rattle.std.specs.Prelude.{take, option_map}
-use Rattle.std.specs.List.{list_all}
 use Rattle.std.proofs.lemmas.List.{take-append-le}
 use Rattle.sqlite_value.specs.Order.{Row}
 use Rattle.sqlite_rules.specs.Lists.{Has}
 use Rattle.sqlite.specs.Effect.{Database}
-use Rattle.bike_fields.proofs.Lengths.{both_hold}
-use Rattle.bike_book.specs.Tables.{TableName, Tables, rows_in, keys_of, System, Plans, Segments, Types, Regions, Kept}
+use Rattle.bike_book.specs.Tables.{TableName, Tables, rows_in, keys_of, System, Plans, Segments, Types, Regions}
 use Rattle.bike_schema.specs.Tables.{IsOurs, tables_of}
-use Rattle.bike_readings.specs.Readings.{kept_read}
 use Rattle.bike_readings.specs.Rules.{AreInOrder}
 use Rattle.bike_readings.proofs.RulesLaws.{stored_in_order}
 use Rattle.bike_judges.specs.declared.key.BadKey.{BadKey}
@@ -19,9 +16,9 @@ use Rattle.bike_judges.specs.Lines.{lines_of}
 use Rattle.bike_judges.specs.Passes.{first_failing}
 use Rattle.bike_judges.specs.Verdicts.{IsTableVerdict, JudgesTable}
 use Rattle.bike_judges.proofs.LineLaw.{lines_verdict}
-use Rattle.bike_catalogue_rules.specs.Tests.{is_system, is_kept, is_plan, is_region, is_type, first_astray, is_next, segment_name}
+use Rattle.bike_catalogue_rules.specs.Tests.{is_system, is_plan, is_region, is_type, first_astray, is_next, segment_name}
 use Rattle.bike_catalogue_rules.proofs.RowVerdicts.{IsTestOf, test_verdict}
-use Rattle.bike_catalogue_rules.proofs.CatalogueTests.{system_test, kept_test, plan_test, region_test, type_test}
+use Rattle.bike_catalogue_rules.proofs.CatalogueTests.{system_test, plan_test, region_test, type_test}
 use Rattle.bike_catalogue_rules.proofs.PlanLines.{plan_line}
 use Rattle.bike_catalogue_rules.proofs.SegmentRules.{segments_verdict}
 use Rattle.bike_catalogue_rules.proofs.Widths.{are_wide}
@@ -42,23 +39,11 @@ module _ (t : Tables) (name : TableName) (up : AreInOrder t) (line : Row → Row
       let at : first_failing test key 0 (map line (rows_in t name)) ≡ option_map key_row found = (λ i. first_failing test key (sym zero i) (sym are i)) ∙ sym (finds (first_failing test key before lines) refl) in
       test_verdict t name (λ n r. test n (line r)) of (option_map key_row found) (lines_verdict t name up line test key key_is (option_map key_row found) at)
 
--- where each row passes by itself, none is the first that fails
-none_fails : (test : Row → Bool) (key : Row → Row) (n : ℕ) (rows : List Row) → list_all test rows ≡ true → first_failing (λ before r. test r) key n rows ≡ None
-unfolding first_failing
-none_fails test key n [] all = refl
-none_fails test key n (r ∷ rows) all =
-    let both = both_hold (test r) (list_all test rows) all in
-    ap (λ (b : Bool). cond b (first_failing (λ before x. test x) key (suc n) rows) (Some (key r))) both.0 ∙ none_fails test key (suc n) rows both.1
-
 module _ (db : Database) (before : ℕ) (zero : before ≡ 0) (found : Option BadKey) where
   pub system_judged : Finds (first_failing is_system (take 1) before (lines_of query.System (tables_of db))) found → JudgesTable System db found
   system_judged finds earlier =
       judged (tables_of db) System (stored_in_order db) (λ r. r) is_system (take 1) (λ r has. refl) (system_test (tables_of db)) (tables_of db).system
       (same_lines (tables_of db).system) before zero found finds
-
-  pub kept_judged : Finds (first_failing is_kept (take 2) before (lines_of query.Kept (tables_of db))) found → JudgesTable Kept db found
-  kept_judged finds earlier =
-      judged (tables_of db) Kept (stored_in_order db) (λ r. r) is_kept (take 2) (λ r has. refl) (kept_test (tables_of db)) (tables_of db).kept (same_lines (tables_of db).kept) before zero found finds
 
   pub plans_judged : Finds (first_failing is_plan (take 1) before (lines_of query.Plans (tables_of db))) found → JudgesTable Plans db found
   plans_judged finds earlier =
@@ -75,10 +60,6 @@ module _ (db : Database) (before : ℕ) (zero : before ≡ 0) (found : Option Ba
       let wide = are_wide db ours.has in
       judged (tables_of db) Types (stored_in_order db) (plan_line (tables_of db) 5) is_type (take 1) (λ r has. let six = wide.types r has in take-append-le 1 r _ (omega (arith, six)))
       (type_test (tables_of db) (stored_in_order db) wide) (lines_of query.Types (tables_of db)) refl before zero found finds
-
--- all rows of kept spell a kept request
-pub all_kept_judged : (db : Database) → true ≡ list_all (λ r. is_some (kept_read r)) (tables_of db).kept → JudgesTable Kept db None
-all_kept_judged db all = kept_judged db 0 refl None (λ verdict is. sym (none_fails (λ r. is_some (kept_read r)) (take 2) 0 (tables_of db).kept (sym all)) ∙ is)
 
 pub segments_judged : (db : Database) → IsOurs db → (found : Option BadKey) → Finds (first_astray None (lines_of query.Segments (tables_of db))) found → JudgesTable Segments db found
 segments_judged db ours found finds earlier =

@@ -1,5 +1,5 @@
--- What is asked of the lines of the catalogue: a row of meta, system, plans,
--- regions or kept, or a segment or a vehicle type with its plan beside it.
+-- What is asked of the lines of the catalogue: a row of meta, system, plans
+-- or regions, or a segment or a vehicle type with its plan beside it.
 use Rattle.std.specs.Prelude.{ℕ, ◌+◌, ◌==◌, ◌&&◌, ◌||◌, nat_lt, List, [], ◌∷◌, take, Bool, false, if◌then◌else◌, Option}
 use Rattle.std.specs.Prelude.{Some, None, is_some, option_map}
 use Rattle.std.specs.Str.{bytes_eq}
@@ -8,16 +8,13 @@ use Rattle.bike_book.specs.declared.columns.plans.TheConstants as plans
 use Rattle.bike_book.specs.declared.columns.segments.TheConstants as segments
 use Rattle.bike_book.specs.declared.columns.types.TheConstants as types
 use Rattle.bike_operator.specs.declared.limits.TheConstants.{MOST_PLANS, MOST_TYPES, MOST_REGIONS}
-use Rattle.bike_readings.specs.Readings.{system_read, plan_read, segment_read, type_read, region_read, kept_read}
+use Rattle.bike_readings.specs.Readings.{system_read, plan_read, segment_read, type_read, region_read}
 use Rattle.bike_judges.specs.Lines.{part}
 
 -- ---- lines by themselves
 
 abbrev pub is_system : ℕ → Row → Bool
 is_system before line = is_some (system_read line)
-
-abbrev pub is_kept : ℕ → Row → Bool
-is_kept before line = is_some (kept_read line)
 
 abbrev pub is_plan : ℕ → Row → Bool
 is_plan before line = nat_lt before MOST_PLANS && is_some (plan_read line)

@@ -1,13 +1,11 @@
 //! The audit's rules of the catalogue: the rows of `meta` and of the system, of plans with their segments, of vehicle
-//! types, of regions, of names in further languages, and of kept requests.
+//! types, of regions, and of names in further languages.
 //!
 //! Each function names the first bad key of its table, where all tables before it are good. It reads the table's
 //! lines once and keeps one line at a time; the sums in `meta` take a pass over all entries too, and names are read
-//! three times: in their order, with the places that have them, and with the types and plans. Kept requests are read in
-//! whatever order they lie, and in that of their key only where one is bad.
+//! three times: in their order, with the places that have them, and with the types and plans.
 #![tactic(auto)]
 
-mod kept;
 mod key;
 mod meta;
 mod names;
@@ -17,7 +15,6 @@ mod segments;
 mod system;
 mod types;
 
-pub use kept::judge_kept;
 pub use meta::judge_meta;
 pub use names::judge_names;
 pub use plans::judge_plans;

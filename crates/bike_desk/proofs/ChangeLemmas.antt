@@ -1,10 +1,9 @@
 -- Row changes one after the other.
-use Rattle.std.proofs.Common.{◌≡◌, ℕ, zero, suc, ◌+◌, ◌<◌, List, [], ◌∷◌, ◌++◌, true, IsTrue, refl, sym, ap, ◌∙◌, subst, take, length, get_or, add-one, arith}
+use Rattle.std.proofs.Common.{◌≡◌, ℕ, ◌+◌, ◌<◌, List, [], ◌∷◌, ◌++◌, true, IsTrue, refl, sym, ap, ◌∙◌, subst, take, length, get_or, add-one, arith}
 use Rattle.std.proofs.Math.Seq.{take-suc}
 use Rattle.sqlite.specs.State.{State}
 use Rattle.bike_book.specs.declared.row_change.RowChange.{RowChange}
-use Rattle.bike_book.specs.Tables.{Tables}
-use Rattle.bike_book.specs.Writes.{RowWrite, write_of, writes_of, tables_after, tables_after_all, MayWrite, MayWriteAll}
+use Rattle.bike_book.specs.Writes.{RowWrite, write_of, writes_of}
 use Rattle.bike_schema.specs.Tables.{IsOurs}
 use Rattle.bike_schema.specs.Makes.{Puts}
 use Rattle.bike_schema.proofs.MakesLemmas.{makes_none, puts_then}
@@ -24,13 +23,6 @@ put_more xs c a b d one two = subst (λ (ws : List RowWrite). Puts ws a d) (sym 
 
 take-next : {A : Type 0} (xs : List A) (i : ℕ) (d : A) → i < length xs → take (i + 1) xs ≡ take i xs ++ get_or xs i d ∷ []
 take-next xs i d h = ap (λ n. take n xs) (add-one i) ∙ take-suc xs i d h
-
--- each may be written after those before it
-pub may_at : (xs : List RowChange) (i : ℕ) (x : RowChange) (t : Tables) → MayWriteAll (writes_of xs) t → i < length xs → x ≡ get_or xs i x
-    → MayWrite (write_of x) (tables_after_all (writes_of (take i xs)) t)
-may_at [] i x t may low is = absurd (omega (arith, low))
-may_at (y ∷ ys) zero x t may low is = subst (λ c. MayWrite (write_of c) t) (sym is) may.0
-may_at (y ∷ ys) (suc i) x t may low is = may_at ys i x (tables_after (write_of y) t) may.1 (omega (arith, low)) is
 
 -- one more item is taken
 pub take-item : {A : Type 0} (xs : List A) (i : ℕ) (x : A) → i < length xs → x ≡ get_or xs i x → take (i + 1) xs ≡ take i xs ++ x ∷ []

@@ -16,8 +16,8 @@ use Rattle.bike_sql.specs.Calls.{IsQuiet}
 use Rattle.bike_operator.specs.Operator.{Operator}
 use Rattle.bike_book.specs.declared.row_change.RowChange.{RowChange}
 use Rattle.bike_book.specs.Tables.{Meta}
-use Rattle.bike_book.specs.Writes.{writes_of, tables_after_all, MayWriteAll}
-use Rattle.bike_schema.specs.Tables.{tables_of, is_parent, is_unused, HasTables, HasNone, IsOurs}
+use Rattle.bike_book.specs.Writes.{writes_of, tables_after_all}
+use Rattle.bike_schema.specs.Tables.{is_parent, is_unused, HasTables, HasNone, IsOurs}
 use Rattle.bike_schema.specs.Makes.{Makes, Puts}
 use Rattle.bike_schema.specs.Stands.{Stores, IsOf, StandsFor, TreesStandFor, AllLeft, Keeps}
 use Rattle.bike_desk.specs.Desk.{nothing_remembered, IsRemembered, TreesStandForEither}
@@ -94,18 +94,14 @@ settled_keeps g settles c s live outside settled stands all = record {
 abbrev pub MayMake : List RowChange → Database → Trees → Type 0
 MayMake changes old trees = (db : Database) × Makes (writes_of changes) old db × (trees ≡ db.trees)
 
--- the product's tables, in which these changes may be made one after another
-abbrev pub MayPut : List RowChange → Database → Type 0
-MayPut changes db = IsOurs db × MayWriteAll (writes_of changes) (tables_of db)
-
 -- a transaction: it begins, its changes are put, it ends
 module _ {S : Type 0} (g : Ghosts S) (old last end : Held S) (changes : List RowChange) (i : ℕ) (whole : length changes ≤ i) (live : IsTrue (state g old).is_open)
-    (may : MayPut changes (state g old).now)
-    (made : HasCleanDisk (state g last) → IsTrue (state g old).is_open → MayPut changes (state g old).now
+    (ours : IsOurs (state g old).now)
+    (made : HasCleanDisk (state g last) → IsTrue (state g old).is_open → IsOurs (state g old).now
     → Puts (writes_of (take i changes)) (state g (record old { in_transaction = true })) (state g last))
     (calm : Survives (state g (record old { in_transaction = true })) (state g last) (λ _. ⊥)) where
   pub all_put : HasCleanDisk (state g last) → Puts (writes_of changes) (state g (record old { in_transaction = true })) (state g last)
-  all_put clean = subst (λ cs. Puts (writes_of cs) (state g (record old { in_transaction = true })) (state g last)) (take_all i changes whole) (made clean live may)
+  all_put clean = subst (λ cs. Puts (writes_of cs) (state g (record old { in_transaction = true })) (state g last)) (take_all i changes whole) (made clean live ours)
 
   pub commit_leaves : Survives (state g last) (state g end) (λ db. db ≡ (state g last).now.trees) → Survives (state g old) (state g end) (MayMake changes (state g old).now)
   commit_leaves commit = survives_then (state g old) (state g last) (state g end) _ _ (MayMake changes (state g old).now) (λ _ db none. absurd none)

@@ -1,6 +1,7 @@
 -- One step, as serving takes it.
-use Rattle.std.proofs.Common.{◌≡◌, ℕ, ◌≤◌, List, cond, Option, Some, None, Ok, Err, sym, ap, ap₂, ◌∙◌, subst}
+use Rattle.std.proofs.Common.{◌≡◌, ℕ, ◌+◌, ◌≤◌, List, cond, Option, Some, None, Result, Ok, Err, sym, ap, ap₂, ◌∙◌, subst}
 use Rattle.std.specs.Prelude.{IfSome, is_none, ◌&&◌, max, string_bytes}
+use Rattle.std.specs.Option.{ok_or}
 use Rattle.std.specs.Str.{bytes_eq}
 use Rattle.std.specs.FinMap as map
 use Rattle.sqlite.specs.State.{State}
@@ -21,8 +22,7 @@ use Rattle.bike_operator.specs.Runs.{step, outcome_with_kept, outcome, after_acc
 use Rattle.bike_laws.proofs.OrderLemmas.{step_sound}
 use Rattle.bike_laws.proofs.RetryLemmas.{first_kept}
 use Rattle.bike_book.specs.declared.row_change.RowChange.{RowChange}
-use Rattle.bike_book.specs.Stored.{Listed, IsListing, tables_for}
-use Rattle.bike_book.specs.Writes.{writes_of, MayWriteAll}
+use Rattle.bike_book.specs.Stored.{Listed, IsListing}
 use Rattle.bike_schema.specs.Tables.{tables_of}
 use Rattle.bike_schema.specs.Stands.{Stores, Keeps}
 use Rattle.bike_office_reads.specs.declared.kept.KeptRow.{KeptRow}
@@ -31,13 +31,15 @@ use Rattle.bike_accepted.specs.declared.accepted.Accepted.{Accepted}
 use Rattle.bike_accepted.specs.Effects.{Decides}
 use Rattle.bike_accepted.specs.Found.{AreFound}
 use Rattle.bike_booking.specs.declared.stored.Stored.{Stored}
-use Rattle.bike_booking.specs.declared.stored.Sums.{Sums}
 use Rattle.bike_booking.specs.declared.texts.KeptTexts.{KeptTexts}
 use Rattle.bike_booking.specs.Stored.{IsMovedStored}
 use Rattle.bike_booking.specs.declared.figures.Figures.{Figures}
 use Rattle.bike_booking.specs.Figures.{figures_of, figures_after, FiguresFollow}
 use Rattle.bike_booking.specs.Sums.{AreBounded, sums_after}
 use Rattle.bike_booking.specs.Booking.{IsAccepted, AreTexts, Books, SumsTakeOneMore}
+use Rattle.bike_booking.proofs.NextFigures.{figures_next}
+use Rattle.bike_schema.specs.declared.fault.StatementFault.{StatementFault}
+use Rattle.bike_schema.specs.declared.fault.StatementFault.TheVariants.{StoreFailed}
 use Rattle.bike_desk.specs.Serving.{IsNextBy, IsReadFor, Accepts}
 
 module _ (s : Operator) (t : ℕ) (q : Request) where
@@ -78,48 +80,55 @@ acceptance_moves s t q anew free same =
 
 -- what is booked leads on, from the same rows after a read
 pub booked_next : (old new : State) (s : Operator) (now : ℕ) (q : Request) (h : Stores old.now s) (rows : List RowChange) → new.now ≡ old.now → Keeps new s → IsSound (after_acceptance s now q)
-    → MayWriteAll (writes_of rows) (tables_for s h.listed) → Books rows s h.listed now q → IsNextBy new rows s (after_acceptance s now q)
-booked_next old new s now q h rows same keeps sound may books =
+    → Books rows s h.listed now q → IsNextBy new rows s (after_acceptance s now q)
+booked_next old new s now q h rows same keeps sound books =
     let tables = ap tables_of same ∙ h.tables in
     let again : Stores new.now s = record { has = keeps.tables; sound = h.sound; listed = h.listed; listing = h.listing; tables = tables } in
-    record { keeps = keeps; stores = again; listed = books.listed; leads = books.leads; may = subst (MayWriteAll (writes_of rows)) (sym tables) may; sound = sound }
+    record { keeps = keeps; stores = again; listed = books.listed; leads = books.leads; sound = sound }
 
 -- an acceptance of which is known what is stored
-pub accepts_stored : (s : Operator) (m : Listed) (now : ℕ) (q : Request) (a : Accepted) (sums : Sums) (texts : KeptTexts) (n : Stored)
-    → IsSound s → IsListing s m → Accepts s now q a sums texts → IfSome a.moved (IsMovedStored s m n) → n.sums ≡ sums → IsAccepted s m now q a n texts
-accepts_stored s m now q a sums texts n sound listing it moved is = record {
+pub accepts_stored : (s : Operator) (m : Listed) (now : ℕ) (q : Request) (a : Accepted) (after : Figures) (texts : KeptTexts) (n : Stored)
+    → IsSound s → IsListing s m → Accepts s now q a after texts → IfSome a.moved (IsMovedStored s m n) → n.sums ≡ after.sums → IsAccepted s m now q a n after.requests texts
+accepts_stored s m now q a after texts n sound listing it moved is = record {
   sound = sound;
   listing = listing;
   decides = it.decides;
   found = it.found;
   stored = record { moved = moved; sums = is ∙ it.sums_are };
+  number_is = it.number_is;
   texts_are = it.texts_are;
   sound_after = it.sound_after;
 }
 
--- the sums that were read take the entry of an accepted request
+-- what is there is so where the other wasn't answered
+found_there : {X E : Type 0} (o : Option X) {x : X} (e : E) → ◌≡◌ {A = Result X E} (Ok x) (ok_or o e) → o ≡ Some x
+found_there None e is = absurd cc
+found_there (Some y) {x} e is = let same : x ≡ y = cc in ap Some (sym same)
+
+-- the figures that were read have figures after them, as their sums take the entry of an accepted request
 pub later_read : (db : Database) (s : Operator) (t now : ℕ) (q : Request) (figures : Figures) (x : ViewAndDocks) (a : Accepted) {later : Figures}
     → SumsTakeOneMore → IsSound s → IsReadFor db s t now q figures x → IsRequest q → Decides s now q.command (Ok a)
-    → (IfSome a.entry (λ _. AreBounded figures.sums) → later ≡ figures_after figures now a) → later ≡ figures_after figures now a
+    → (IfSome a.entry (λ _. AreBounded figures.sums) → ◌≡◌ {A = Result Figures StatementFault} (Ok later) (ok_or (figures_after figures now a) StoreFailed))
+    → figures_after figures now a ≡ Some later
 later_read db s t now q figures x a take sound it good decides after =
     let sound_after = accepted_sound s t q now it.later it.anew it.in_time good sound decides.0 in
-    after (subst (λ (f : Figures). IfSome a.entry (λ _. AreBounded f.sums)) (sym it.figures_are) (take s now q a sound decides sound_after))
+    found_there (figures_after figures now a) StoreFailed
+    (after (subst (λ (f : Figures). IfSome a.entry (λ _. AreBounded f.sums)) (sym it.figures_are) (take s now q a sound decides sound_after)))
 
 -- the operator accepts a request by the decision on what was read for it
 pub accepts_read : (db : Database) (s : Operator) (t now : ℕ) (q : Request) (figures : Figures) (x : ViewAndDocks) (a : Accepted) (later : Figures) (texts : KeptTexts) → IsSound s
     → IsReadFor db s t now q figures x → IsRequest q
-    → Decides s now q.command (Ok a) → AreFound now s a → later ≡ figures_after figures now a → AreTexts s now q texts → Accepts s now q a later.sums texts
+    → Decides s now q.command (Ok a) → AreFound now s a → figures_after figures now a ≡ Some later → AreTexts s now q texts → Accepts s now q a later texts
 accepts_read db s t now q figures x a later texts sound it good decides found after told = record {
-  anew = it.anew;
   decides = decides;
   found = found;
-  sums_are = ap (λ (f : Figures). f.sums) after ∙ ap (λ (f : Figures). sums_after f.sums a.entry) it.figures_are;
+  sums_are = ap (λ (f : Figures). f.sums) (figures_next figures now a after) ∙ ap (λ (f : Figures). sums_after f.sums a.entry) it.figures_are;
+  number_is = ap (λ (f : Figures). f.requests) (figures_next figures now a after) ∙ ap (λ (f : Figures). f.requests + 1) it.figures_are;
   sound_after = accepted_sound s t q now it.later it.anew it.in_time good sound decides.0;
   texts_are = told;
 }
 
 -- and the figures after it are the operator's
 pub figures_read : (s : Operator) (now : ℕ) (q : Request) (a : Accepted) {figures later : Figures} → FiguresFollow → figures ≡ figures_of s → Decides s now q.command (Ok a) → AreFound now s a
-    → later ≡ figures_after figures now a
-    → later ≡ figures_of (after_acceptance s now q)
-figures_read s now q a follow are decides found after = after ∙ ap (λ (f : Figures). figures_after f now a) are ∙ follow s now q a decides found
+    → figures_after figures now a ≡ Some later → later ≡ figures_of (after_acceptance s now q)
+figures_read s now q a {later = later} follow are decides found after = follow s now q a later decides found (subst (λ (f : Figures). figures_after f now a ≡ Some later) are after)

@@ -24,15 +24,16 @@ nothing_remembered = record { newest_tells = false; figures = None }
 
 abbrev figures_code : Coded Figures
 figures_code =
-    code_by ((ℕ × (ℤ × ℤ)) × (ℕ × (ℕ × ℕ))) (coded× (coded× coded_ℕ (coded× coded_ℤ coded_ℤ))
-    (coded× coded_ℕ (coded× coded_ℕ coded_ℕ)))
-    (λ f. ((f.now, (f.sums.cash, f.sums.revenue)), (f.rentals, (f.orders, f.entries))))
+    code_by ((ℕ × (ℤ × ℤ)) × (ℕ × (ℕ × (ℕ × ℕ)))) (coded× (coded× coded_ℕ (coded× coded_ℤ coded_ℤ))
+    (coded× coded_ℕ (coded× coded_ℕ (coded× coded_ℕ coded_ℕ))))
+    (λ f. ((f.now, (f.sums.cash, f.sums.revenue)), (f.rentals, (f.orders, (f.entries, f.requests)))))
     (λ p. record {
       now = p.0.0;
       sums = record { cash = p.0.1.0; revenue = p.0.1.1 };
       rentals = p.1.0;
       orders = p.1.1.0;
-      entries = p.1.1.1;
+      entries = p.1.1.1.0;
+      requests = p.1.1.1.1;
     }) (λ _. refl)
 
 abbrev remembered_code : Coded DeskMemory

@@ -11,7 +11,6 @@ use Rattle.bike_book.specs.declared.row_change.RowChange.{RowChange}
 use Rattle.bike_schema.specs.Stands.{AllLeft, Keeps}
 use Rattle.bike_booking.specs.declared.texts.KeptTexts.{KeptTexts}
 use Rattle.bike_booking.specs.declared.figures.Figures.{Figures}
-use Rattle.bike_booking.specs.declared.stored.Sums.{Sums}
 use Rattle.bike_views.specs.declared.view_and_docks.ViewAndDocks.{ViewAndDocks}
 use Rattle.bike_desk.specs.declared.serve.RequestTexts.{RequestTexts}
 use Rattle.bike_desk.specs.Desk.{TreesStandForEither}
@@ -35,11 +34,11 @@ ForEachRead g old new now q figures x says =
     → IsReadFor (state g old).now s moment now q figures x → says s moment
 
 -- So it is of each of them and each request that it accepts so, for which this was found.
-abbrev pub ForEachAccepted : {S : Type 0} → Ghosts S → Held S → Held S → ViewAndDocks → ℕ → Accepted → Sums → KeptTexts
-    → (Operator → Request → Type 0) → Type 0
-ForEachAccepted g old new x now a sums texts says =
+abbrev pub ForEachAccepted : {S : Type 0} → Ghosts S → Held S → Held S → ViewAndDocks → ℕ → Accepted → Figures
+    → KeptTexts → (Operator → Request → Type 0) → Type 0
+ForEachAccepted g old new x now a after texts says =
     HasCleanDisk (state g new) → (s : Operator) (q : Request) → Keeps (state g old) s
-    → IsFoundIn (state g old).now s q.command x → Accepts s now q a sums texts → says s q
+    → IsFoundIn (state g old).now s q.command x → Accepts s now q a after texts → says s q
 
 -- nothing is kept under the request's key
 abbrev pub IsAnew : Operator → RequestTexts → Type 0

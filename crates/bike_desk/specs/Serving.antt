@@ -1,5 +1,5 @@
 -- What serving one request rests on.
-use Rattle.std.specs.Prelude.{◌≡◌, ◌≤◌, ℕ, max, List, None, Ok}
+use Rattle.std.specs.Prelude.{◌≡◌, ◌≤◌, ◌+◌, ℕ, max, List, length, None, Ok}
 use Rattle.std.specs.FinMap as map
 use Rattle.sqlite.specs.Effect.{Database}
 use Rattle.sqlite.specs.State.{State}
@@ -19,12 +19,9 @@ use Rattle.bike_accepted.specs.Found.{AreFound}
 use Rattle.bike_book.specs.declared.row_change.RowChange.{RowChange}
 use Rattle.bike_book.specs.Stored.{Listed}
 use Rattle.bike_book.specs.Leads.{LeadsTo}
-use Rattle.bike_book.specs.Writes.{writes_of, MayWriteAll}
-use Rattle.bike_schema.specs.Tables.{tables_of}
 use Rattle.bike_schema.specs.Stands.{Stores, Keeps}
 use Rattle.bike_booking.specs.declared.texts.KeptTexts.{KeptTexts}
 use Rattle.bike_booking.specs.declared.figures.Figures.{Figures}
-use Rattle.bike_booking.specs.declared.stored.Sums.{Sums}
 use Rattle.bike_booking.specs.Booking.{AreTexts}
 use Rattle.bike_booking.specs.Figures.{figures_of}
 use Rattle.bike_booking.specs.Sums.{sums_of, sums_after}
@@ -40,13 +37,12 @@ pub record IsAsked (asked : RequestTexts) : Type 0 where
   pub text : asked.text.now ≡ text_of asked.request.now.command
 
 -- The connection keeps the operator, and the row changes lead from its tables to
--- those of the next one, which is sound; each may be written after those before it.
+-- those of the next one, which is sound.
 pub record IsNextBy (c : State) (changes : List RowChange) (s next : Operator) : Type 0 where
   pub keeps : Keeps c s
   pub stores : Stores c.now s
   pub listed : Listed
   pub leads : LeadsTo changes s stores.listed next listed
-  pub may : MayWriteAll (writes_of changes) (tables_of c.now)
   pub sound : IsSound next
 
 -- what was read for the command of the operator whose tables the database has
@@ -64,14 +60,14 @@ pub record IsReadFor (db : Database) (s : Operator) (moment now : ℕ) (q : Requ
   pub view_is : x.view ≡ view_of s q.command
   pub found_for : IsFoundIn db s q.command x
 
--- The operator, which keeps nothing under its key, accepts the request so, and then is sound;
--- the records before are its own, the sums those with its entry, and the texts those of both.
-pub record Accepts (s : Operator) (now : ℕ) (q : Request) (a : Accepted) (sums : Sums)
+-- The operator accepts the request so, and then is sound; the records before are its own, the
+-- figures after it have the sums with its entry and one request more, and the texts are those of both.
+pub record Accepts (s : Operator) (now : ℕ) (q : Request) (a : Accepted) (after : Figures)
     (texts : KeptTexts) : Type 0 where
-  pub anew : kept_under (key_in q) s.history ≡ None
   pub decides : Decides s now q.command (Ok a)
   pub found : AreFound now s a
-  pub sums_are : sums ≡ sums_after (sums_of s) a.entry
+  pub sums_are : after.sums ≡ sums_after (sums_of s) a.entry
+  pub number_is : after.requests ≡ length s.history + 1
   pub sound_after : IsSound (after_acceptance s now q)
   pub texts_are : AreTexts s now q texts
 

@@ -80,9 +80,10 @@ impl<S: Alter> Desk<S> {
     /// database.
     ///
     /// `NoMemory` comes before anything changes and leaves everything as it was. `StoreFailed` comes where the engine
-    /// fails, memory for it included, or where what is stored is no sound operator's; on the tables of one each
-    /// decision is booked. It stops the desk, and what a crash may leave then stands for the operator before or after
-    /// the request. A stopped desk answers every request `Stopped` and stays as it is; no other desk answers that.
+    /// fails, memory for it included, where what is stored is no sound operator's, or where the history has as many
+    /// requests as its table can have (2^63 - 1); else each decision is booked. It stops the desk, and what a crash may
+    /// leave then stands for the operator before or after the request. A stopped desk answers every request `Stopped`
+    /// and stays as it is; no other desk answers that.
     pub fn apply(
         &mut self,
         alloc: Global,

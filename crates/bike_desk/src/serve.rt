@@ -1,11 +1,14 @@
 //! Serving one request: from its kept answer, or by a decision on what it names.
 
-ghost use Rattle.std.specs.Prelude.{◌≡◌, ◌≤◌, false, IfOk, OnOk, OnErr, [], string_bytes, if◌then◌else◌};
+ghost use Rattle.std.specs.Prelude.{◌≡◌, ◌≤◌, false, IfOk, IfSome, OnOk, OnErr, [], string_bytes, if◌then◌else◌};
+ghost use Rattle.std.specs.Option.{ok_or};
 ghost use Rattle.std.specs.Str.{bytes_eq};
 ghost use Rattle.sqlite.specs.Held.{state};
 ghost use Rattle.sqlite_trees.specs.View.{doubt};
 ghost use Rattle.bike_commands.specs.Commands.{text_of};
 ghost use Rattle.bike_operator.specs.Runs.{step, after_acceptance};
+ghost use Rattle.bike_booking.specs.Figures.{figures_after};
+ghost use Rattle.bike_booking.specs.Sums.{AreBounded};
 ghost use Rattle.bike_schema.specs.Makes.{OthersStay};
 ghost use Rattle.bike_schema.specs.Stands.{Keeps};
 ghost use Rattle.bike_desk.specs.Desk.{IsRemembered};
@@ -15,7 +18,7 @@ ghost use Rattle.bike_desk.specs.Serving.{IsAsked, Serves};
 use crate::remembered::DeskMemory;
 use crate::transaction::make_all;
 use bike_accepted::Accepted;
-use bike_booking::{Figures, KeptTexts, Sums, books_accepted, rows_of};
+use bike_booking::{Figures, KeptTexts, books_accepted, rows_of};
 use bike_commands::{Refusal, Reply, Request};
 use bike_core::decide;
 use bike_fixed::Moment;
@@ -53,13 +56,27 @@ fn kept_answer(kept: &KeptRow, text: &str) -> Reply
     }
 }
 
-/// Makes the row changes of an accepted command, and keeps its request, all in one transaction. `sums` are the
-/// operator's with its entry.
+/// The operator's figures after an accepted command. `StoreFailed` where no further request can be numbered.
+fn next_figures(
+    figures: &Figures,
+    now: Moment,
+    accepted: &Accepted<'_>,
+) -> Result<Figures, StatementFault>
+    ensures { IfSome accepted.now.entry (λ _. AreBounded figures.entry.now.sums)
+        → result ≡ ok_or (figures_after figures.entry.now now accepted.now) StatementFault.StoreFailed }
+{
+    figures
+        .after(now, accepted)
+        .ok_or(StatementFault::StoreFailed)
+}
+
+/// Makes the row changes of an accepted command, and adds its request to the history, all in one transaction. `after`
+/// are the operator's figures after it.
 fn store_accepted<'a, S: Alter>(
     conn: &mut Connection<S>,
     found: &ViewAndDocks,
     accepted: &'a Accepted<'a>,
-    sums: Sums,
+    after: &Figures,
     now: Moment,
     texts: &KeptTexts<'a>,
 ) -> Result<(), StatementFault>
@@ -68,22 +85,22 @@ fn store_accepted<'a, S: Alter>(
     ensures ended { conn.new.in_transaction ≡ false }
     ensures clean { doubt (state S.Store conn.old).is_clean ≤ doubt (state S.Store conn.new).is_clean }
     // Done: the operator after the acceptance, and other tables as before.
-    ensures made { ForEachAccepted S.Store conn.old conn.new found.now now accepted.now sums texts.now (λ s q.
-        OnOk result (Keeps (state S.Store conn.new) (after_acceptance s now q))) }
-    ensures others { ForEachAccepted S.Store conn.old conn.new found.now now accepted.now sums texts.now (λ s q.
-        OnOk result (OthersStay (state S.Store conn.old).now (state S.Store conn.new).now)) }
+    ensures made { ForEachAccepted S.Store conn.old conn.new found.now now accepted.now after.entry.now texts.now
+        (λ s q. OnOk result (Keeps (state S.Store conn.new) (after_acceptance s now q))) }
+    ensures others { ForEachAccepted S.Store conn.old conn.new found.now now accepted.now after.entry.now texts.now
+        (λ s q. OnOk result (OthersStay (state S.Store conn.old).now (state S.Store conn.new).now)) }
     // Whatever the end, a crash leaves the operator before or after.
-    ensures left { ForEachAccepted S.Store conn.old conn.new found.now now accepted.now sums texts.now (λ s q.
-        CrashLeavesEither (state S.Store conn.new) s (after_acceptance s now q)) }
+    ensures left { ForEachAccepted S.Store conn.old conn.new found.now now accepted.now after.entry.now texts.now
+        (λ s q. CrashLeavesEither (state S.Store conn.new) s (after_acceptance s now q)) }
 {
-    let stored = find_stored(conn, &found.docks, &accepted.moved, sums)?;
+    let stored = find_stored(conn, &found.docks, &accepted.moved, after.sums)?;
     books_accepted();
-    let rows = rows_of(accepted, &stored, now, texts);
+    let rows = rows_of(accepted, &stored, now, after.requests, texts);
     make_all(conn, rows.as_slice())
 }
 
 /// Serves a request whose key isn't kept by a decision on what was read for it: the operator's figures, and the view
-/// with what was read beside it.
+/// with what was read beside it. `StoreFailed` also where no further request can be numbered.
 fn serve_read<'a, S: Alter>(
     conn: &mut Connection<S>,
     figures: &Figures,
@@ -120,7 +137,7 @@ fn serve_read<'a, S: Alter>(
         }),
         Ok(accepted) => {
             books_accepted();
-            let after = figures.after(now, &accepted);
+            let after = next_figures(figures, now, &accepted)?;
             let reply = accepted.reply;
             let spelled = reply.text();
             let key = request.key.as_str();
@@ -130,7 +147,7 @@ fn serve_read<'a, S: Alter>(
                 command: asked.text,
                 reply: spelled.as_str(),
             };
-            store_accepted(conn, found, &accepted, after.sums, now, &texts)?;
+            store_accepted(conn, found, &accepted, &after, now, &texts)?;
             Ok(Outcome {
                 reply,
                 figures: Some(after),

@@ -28,25 +28,25 @@ use Rattle.bike_fleet_reads.specs.Holds.{order_column}
 
 pub finds_station : (station : List ℕ) → FindsIn (codes "SELECT * FROM stations_3 WHERE station_id = ?1") (Text station ∷ []) (λ t. row_with 1 (Text station ∷ []) t.stations)
 unfolding everything
-finds_station station = keyed_in Stations (λ s. (λ tree. refl, refl)) refl
+finds_station station = keyed_in Stations (λ tree. refl, refl) refl
 
 pub finds_dock : (station : List ℕ) (dock : ℕ) → FindsIn (codes "SELECT * FROM docks WHERE station_id = ?1 AND dock = ?2") (Text station ∷ number_value dock ∷ [])
     (λ t. row_with 2 (Text station ∷ number_value dock ∷ []) t.docks)
 unfolding everything
-finds_dock station dock = keyed_in Docks (λ s. (λ tree. refl, refl)) refl
+finds_dock station dock = keyed_in Docks (λ tree. refl, refl) refl
 
 pub finds_counts : (station type_id : List ℕ) → FindsIn (codes "SELECT * FROM counts WHERE station_id = ?1 AND type_id = ?2") (Text station ∷ Text type_id ∷ [])
     (λ t. row_with 2 (Text station ∷ Text type_id ∷ []) t.counts)
 unfolding everything
-finds_counts station type_id = keyed_in Counts (λ s. (λ tree. refl, refl)) refl
+finds_counts station type_id = keyed_in Counts (λ tree. refl, refl) refl
 
 pub finds_bike : (bike : ℕ) → FindsIn (codes "SELECT * FROM bikes WHERE bike = ?1") (number_value bike ∷ []) (λ t. row_with 1 (number_value bike ∷ []) t.bikes)
 unfolding everything
-finds_bike bike = keyed_in Bikes (λ s. (λ tree. refl, refl)) refl
+finds_bike bike = keyed_in Bikes (λ tree. refl, refl) refl
 
 pub finds_order : (order : ℕ) → FindsIn (codes "SELECT * FROM orders WHERE ord = ?1") (number_value order ∷ []) (λ t. row_with 1 (number_value order ∷ []) t.orders)
 unfolding everything
-finds_order order = keyed_in Orders (λ s. (λ tree. refl, refl)) refl
+finds_order order = keyed_in Orders (λ tree. refl, refl) refl
 
 -- ---- between two keys
 
@@ -55,33 +55,33 @@ types_text = codes "SELECT * FROM types WHERE type_id >= ?1 AND type_id <= ?2 OR
 
 pub finds_type : (type_id : List ℕ) → FindsIn types_text (Text type_id ∷ Text type_id ∷ []) (λ t. row_with 1 (Text type_id ∷ []) t.types)
 unfolding everything
-finds_type type_id = keyed_within Types 1 (Text type_id) refl (λ r. refl) (λ s. (λ tree. refl, refl))
+finds_type type_id = keyed_within Types 1 (Text type_id) refl (λ r. refl) (λ tree. refl, refl)
 
 pub lists_types_from : (start : List ℕ) → ListsIn types_text (Text start ∷ Blob [] ∷ []) (λ t. rows_from start t.types)
 unfolding everything
-lists_types_from start = lists_within Types 1 (Text start) (Blob []) refl refl (λ r. refl) (λ s. (λ tree. refl, refl))
+lists_types_from start = lists_within Types 1 (Text start) (Blob []) refl refl (λ r. refl) (λ tree. refl, refl)
 
 abbrev regions_text : List ℕ
 regions_text = codes "SELECT * FROM regions WHERE region_id >= ?1 AND region_id <= ?2 ORDER BY region_id"
 
 pub finds_region : (region : List ℕ) → FindsIn regions_text (Text region ∷ Text region ∷ []) (λ t. row_with 1 (Text region ∷ []) t.regions)
 unfolding everything
-finds_region region = keyed_within Regions 1 (Text region) refl (λ r. refl) (λ s. (λ tree. refl, refl))
+finds_region region = keyed_within Regions 1 (Text region) refl (λ r. refl) (λ tree. refl, refl)
 
 pub lists_regions_from : (start : List ℕ) → ListsIn regions_text (Text start ∷ Blob [] ∷ []) (λ t. rows_from start t.regions)
 unfolding everything
-lists_regions_from start = lists_within Regions 1 (Text start) (Blob []) refl refl (λ r. refl) (λ s. (λ tree. refl, refl))
+lists_regions_from start = lists_within Regions 1 (Text start) (Blob []) refl refl (λ r. refl) (λ tree. refl, refl)
 
 abbrev trucks_text : List ℕ
 trucks_text = codes "SELECT * FROM trucks WHERE truck >= ?1 AND truck <= ?2 ORDER BY truck"
 
 pub finds_truck : (truck : ℕ) → FindsIn trucks_text (number_value truck ∷ number_value truck ∷ []) (λ t. row_with 1 (number_value truck ∷ []) t.trucks)
 unfolding everything
-finds_truck truck = keyed_within Trucks 0 (number_value truck) refl (λ r. refl) (λ s. (λ tree. refl, refl))
+finds_truck truck = keyed_within Trucks 0 (number_value truck) refl (λ r. refl) (λ tree. refl, refl)
 
 pub lists_trucks : ListsIn trucks_text (number_value 0 ∷ Blob [] ∷ []) (λ t. rows_within (number_value 0) (Blob []) t.trucks)
 unfolding everything
-lists_trucks = lists_within Trucks 0 (number_value 0) (Blob []) refl refl (λ r. refl) (λ s. (λ tree. refl, refl))
+lists_trucks = lists_within Trucks 0 (number_value 0) (Blob []) refl refl (λ r. refl) (λ tree. refl, refl)
 
 -- ---- by other columns, and the last rows
 
@@ -126,8 +126,8 @@ count_row_of rows = Some (count (length rows) ∷ [])
 
 pub counts_stations : FindsIn (codes "SELECT count(*) FROM stations_3") [] (λ t. count_row_of t.stations)
 unfolding everything
-counts_stations = counted_in Stations (λ s. (λ tree. refl, refl))
+counts_stations = counted_in Stations (λ tree. refl, refl)
 
 pub counts_bikes : FindsIn (codes "SELECT count(*) FROM bikes") [] (λ t. count_row_of t.bikes)
 unfolding everything
-counts_bikes = counted_in Bikes (λ s. (λ tree. refl, refl))
+counts_bikes = counted_in Bikes (λ tree. refl, refl)

@@ -16,7 +16,7 @@ use Rattle.bike_sql.proofs.TreeLemmas.{by_key_total}
 use Rattle.bike_sql.proofs.RowListLemmas.{map_has}
 use Rattle.bike_sql.proofs.FrameLemmas.{rows_of_is}
 use Rattle.bike_book.specs.Tables.{TableName, Tables, tables_by, keys_of, rows_in as table_rows}
-use Rattle.bike_schema.specs.Layouts.{layout_of, layout_in, name_of}
+use Rattle.bike_schema.specs.Layouts.{layout_of, name_of}
 use Rattle.bike_schema.specs.Tables.{tables_of, HasTables}
 use Rattle.bike_readings.proofs.RulesLaws.{rows_by}
 use Rattle.bike_judges.specs.Lines.{part, nulls, or_nulls, with_two}
@@ -82,7 +82,7 @@ AreWide t = (name : TableName) (row : Row) → Has (table_rows t name) row → l
 
 pub tables_wide : (db : Database) → HasTables db → AreWide (tables_of db)
 tables_wide db has name row there =
-    rows_wide db (keys_of name) (layout_in db.schema name) (has name) row (subst (λ (rows : List Row). Has rows row) (rows_by (λ n. rows_of (keys_of n) (name_of n) db) name) there)
+    rows_wide db (keys_of name) (layout_of name) (has name) row (subst (λ (rows : List Row). Has rows row) (rows_by (λ n. rows_of (keys_of n) (name_of n) db) name) there)
 
 -- a row that has columns begins with the first
 pub begins_with_one : (row : Row) (n : ℕ) → length row ≡ suc n → take 1 row ≡ column row 0 ∷ []

@@ -9,13 +9,13 @@ use Rattle.bike_sql.specs.Queries.{table_query, by_columns, join_tests, third_te
 use Rattle.bike_sql.proofs.SelectLaws.{every_column, places_of, union_columns, all_binary}
 use Rattle.bike_sql.proofs.TextLemmas.{IsSelect, IsLeftJoin, IsTwoJoins, IsUnionAll, IsUnionOfThree}
 use Rattle.bike_book.specs.Tables.{TableName}
-use Rattle.bike_schema.specs.Layouts.{layout_of, InEach}
+use Rattle.bike_schema.specs.Layouts.{layout_of}
 use Rattle.bike_schema.proofs.KeyLemmas.{key_places}
 use Rattle.bike_judges.proofs.SelfJoinLaw.{IsSelfJoins}
 
 -- SELECT * FROM the table ORDER BY its key
 abbrev pub IsListOf : TableName → List ℕ → Type 0
-IsListOf t text = InEach t (λ layout. IsSelect (table_query 0 [] (by_columns (key_places t)) (every_column (layout_of t))) layout text)
+IsListOf t text = IsSelect (table_query 0 [] (by_columns (key_places t)) (every_column (layout_of t))) (layout_of t) text
 
 -- ---- joins, in the order of the table's key
 

@@ -3,6 +3,8 @@ mod Forms
 mod TieLemmas
 mod SelfJoinLaw
 mod RowTexts
+mod SortedLaw
+mod SortedTexts
 mod JoinTexts
 mod TwoJoinTexts
 mod UnionTexts
@@ -10,9 +12,6 @@ mod UnionOfThreeTexts
 mod RowSteps
 mod StepLemmas
 pub mod FoldOrder
-mod AnyOrderLaws
-mod BeginLaws
-mod KeptText
 pub mod LineLaw
 pub mod StretchLaw
 pub mod LeastLaw

@@ -13,9 +13,9 @@ use Rattle.bike_sql.proofs.FrameLemmas.{rows_of_is}
 use Rattle.bike_sql.proofs.RowListLemmas.{map_has}
 use Rattle.bike_sql.proofs.OrderLemmas.{order_has}
 use Rattle.bike_sql.proofs.TreeLemmas.{by_key_total}
-use Rattle.bike_book.specs.Tables.{TableName, Tables, rows_in, keys_of, Meta, System, Plans, Segments, Types, Regions, Stations, Docks, Bikes, Trucks, Riders, Rentals, Orders, Entries, Kept, Counts}
+use Rattle.bike_book.specs.Tables.{TableName, Tables, rows_in, keys_of, Meta, System, Plans, Segments, Types, Regions, Stations, Docks, Bikes, Trucks, Riders, Rentals, Orders, Entries, History, Counts}
 use Rattle.bike_book.specs.Tables.{MoreNames}
-use Rattle.bike_schema.specs.Layouts.{layout_of, layout_in}
+use Rattle.bike_schema.specs.Layouts.{layout_of}
 use Rattle.bike_schema.specs.Tables.{tables_of, HasTables}
 use Rattle.bike_schema.proofs.MakesLemmas.{rows_of_table}
 use Rattle.bike_readings.specs.Rules.{AreInOrder}
@@ -32,8 +32,8 @@ use Rattle.bike_judges.proofs.ApartLines.{AreWhole, first_column, stations_apart
 pub stored_width : (db : Database) → HasTables db → (name : TableName) (row : Row) → Has (rows_in (tables_of db) name) row → length row ≡ length (layout_of name).columns
 stored_width db has name row there =
     let it = has name in
-    let table = table_of (layout_in db.schema name) it.tree in
-    let rows_are = rows_of_table db name ∙ rows_of_is db (keys_of name) (layout_in db.schema name) it in
+    let table = table_of (layout_of name) it.tree in
+    let rows_are = rows_of_table db name ∙ rows_of_is db (keys_of name) (layout_of name) it in
     let sorted = subst (λ (rows : List Row). Has rows row) rows_are there in
     let from = map_has (columns_of table) (db.trees it.tree) row (order_has (by_key_total (keys_of name)) (map (columns_of table) (db.trees it.tree)) row sorted) in
     ap length from.2 ∙ length-map-range_with_len _ 0 (length table.columns)
@@ -56,7 +56,7 @@ stored_whole db has name row there = let wide = stored_width db has name row the
     fits Rentals = omega arith
     fits Orders = omega arith
     fits Entries = omega arith
-    fits Kept = omega arith
+    fits History = omega arith
     fits Counts = omega arith
     fits MoreNames = omega arith
 

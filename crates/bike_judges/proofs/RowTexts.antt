@@ -7,8 +7,8 @@ use Rattle.bike_sql.proofs.SelectLaws.{ordered_rows}
 use Rattle.bike_book.specs.Tables.{TableName, keys_of}
 use Rattle.bike_schema.specs.Layouts.{name_of}
 use Rattle.bike_schema.specs.Tables.{HasTables}
-use Rattle.bike_schema.proofs.KeyLemmas.{key_in_schema}
+use Rattle.bike_schema.proofs.KeyLemmas.{table_key}
 use Rattle.bike_judges.proofs.Forms.{IsListOf}
 
 pub table_lines : (t : TableName) {text : List ℕ} → IsListOf t text → (db : Database) → HasTables db → HasOneAnswer db text [] (rows_of (keys_of t) (name_of t) db)
-table_lines t is db has = ordered_rows (key_in_schema db.schema t) (has t) (is db.schema)
+table_lines t is db has = ordered_rows (table_key t) (has t) is

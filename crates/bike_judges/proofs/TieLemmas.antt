@@ -42,6 +42,11 @@ module _ (o p c d k l : Value) (m : ℤ) (tie : row_cmp (o ∷ c ∷ Int m ∷ k
 pub third_apart : (o p c d k l : Value) (m n : ℤ) → value_cmp (Int m) (Int n) ≡ Less → row_cmp (o ∷ c ∷ Int m ∷ k ∷ []) (p ∷ d ∷ Int n ∷ l ∷ []) ≡ Equal → ⊥
 third_apart o p c d k l m n below tie = absurd (let e = (then_tied (value_cmp (Int m) (Int n)) _ (then_tied (value_cmp c d) _ (then_tied (value_cmp o p) _ tie).1).1).0 in cc)
 
+-- ---- two values, and a number
+
+pub third_ties : (o p c d k l : Value) → row_cmp (o ∷ c ∷ k ∷ []) (p ∷ d ∷ l ∷ []) ≡ Equal → row_cmp (k ∷ []) (l ∷ []) ≡ Equal
+third_ties o p c d k l tie = (then_tied (value_cmp c d) _ (then_tied (value_cmp o p) _ tie).1).1
+
 -- ---- a station, a place, a dock or a type, another place, and a bicycle
 
 module _ (o a k b n p c l d m : Value) (tie : row_cmp (o ∷ a ∷ k ∷ b ∷ n ∷ []) (p ∷ c ∷ l ∷ d ∷ m ∷ []) ≡ Equal) where

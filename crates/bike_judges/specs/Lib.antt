@@ -7,4 +7,3 @@ pub mod Texts
 pub mod Closing
 pub mod Least
 pub mod Own
-pub mod AnyOrder

@@ -99,6 +99,10 @@ count_line row =
 abbrev pub count_bike_line : Row → Row
 count_bike_line row = column row 3 ∷ Int (pos 1) ∷ column row 1 ∷ Int (pos 1) ∷ column row 0 ∷ row
 
+-- the caller and the key of a request, with its number behind them
+abbrev pub history_key_line : Row → Row
+history_key_line row = column row 2 ∷ column row 3 ∷ column row 0 ∷ []
+
 -- the lines of two tables, and of three, in the order of their first columns
 abbrev pub merge_of_two : ℕ → (Row → Row) → List Row → (Row → Row) → List Row → List Row
 merge_of_two keys first xs second ys = in_order (by_key keys) (map first xs ++ map second ys)
@@ -135,7 +139,8 @@ lines_of query.OrderEnds t =
 lines_of query.OrderBikes t = merge_of_two 3 order_line t.orders order_bike_line t.bikes
 lines_of query.Entries t = t.entries
 lines_of query.EntryRentals t = left_joined (with_one rentals.COLUMNS) (3 ∷ []) 1 t.rentals t.entries
-lines_of query.Kept t = t.kept
+lines_of query.History t = t.history
+lines_of query.HistoryKeys t = in_order (by_key 3) (map history_key_line t.history)
 lines_of query.CountNames t =
     twice_joined (with_two stations.COLUMNS types.COLUMNS) (0 ∷ []) 1 t.stations (1 ∷ []) 1 t.types t.counts
 lines_of query.Counts t = merge_of_three 5 count_dock_line t.docks count_bike_line t.bikes count_line t.counts

@@ -6,13 +6,11 @@
 //! `StretchJudge` opens an account at each head, adds the lines after it, and names the key of the first head whose
 //! account isn't good. The lemmas `lines_verdict`, `merged_verdict`, `merged_of_three_verdict` and `least_verdict` say
 //! what that is over tables: the least key of which a demand fails. `specs/Verdicts` says what the rules of a table
-//! answer. `all_kept_pass` tells whether all rows of `kept` pass a test, and reads them in whatever order they lie,
-//! which `specs/AnyOrder` defines.
+//! answer.
 #![tactic(auto)]
 
 mod fold;
 mod judge;
-mod kept_rows;
 mod key;
 mod lesser;
 mod line_judge;
@@ -24,7 +22,6 @@ mod text;
 
 pub use fold::{LineFold, fold_lines};
 pub use judge::Judge;
-pub use kept_rows::{RowTest, all_kept_pass};
 pub use key::BadKey;
 pub use lesser::least;
 pub use line_judge::LineJudge;

@@ -45,8 +45,10 @@ pub enum Query {
     Entries,
     /// Entries, each with its rental.
     EntryRentals,
-    /// The rows of `kept`.
-    Kept,
+    /// The rows of `history`.
+    History,
+    /// The caller, the key and the number of each row of `history`, in their order.
+    HistoryKeys,
     /// Counts, each with its station and its type.
     CountNames,
     /// The docks of stations, and by types the stations' counts with the bicycles there.

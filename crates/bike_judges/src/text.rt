@@ -66,7 +66,9 @@ pub(crate) fn text(query: Query) -> &'static str
         Query::EntryRentals => "SELECT entries.*, rentals.* FROM entries \
              LEFT JOIN rentals ON rentals.rental = entries.rental \
              ORDER BY entries.entry",
-        Query::Kept => "SELECT * FROM kept ORDER BY caller, req_key",
+        Query::History => "SELECT * FROM history ORDER BY number",
+        Query::HistoryKeys => "SELECT caller, req_key, number FROM history \
+             ORDER BY caller, req_key, number",
         Query::CountNames => "SELECT counts.*, stations_3.*, types.* FROM counts \
              LEFT JOIN stations_3 ON stations_3.station_id = counts.station_id \
              LEFT JOIN types ON types.type_id = counts.type_id \

@@ -22,3 +22,6 @@ pub mod EntryRules
 pub mod FirstFares
 pub mod FirstItems
 pub mod EntryVerdict
+pub mod HistoryRows
+pub mod HistoryKeys
+pub mod HistoryVerdict

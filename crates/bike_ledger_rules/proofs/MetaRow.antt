@@ -21,7 +21,7 @@ use Rattle.bike_ledger_rules.specs.Lines.{MetaGood}
 
 pub finds_meta : FindsIn (codes "SELECT * FROM meta WHERE one = ?1") (number_value 1 ∷ []) (λ t. row_with 1 (number_value 1 ∷ []) t.meta)
 unfolding everything
-finds_meta = keyed_in Meta (λ s. (λ tree. refl, refl)) refl
+finds_meta = keyed_in Meta (λ tree. refl, refl) refl
 
 pub moment_found : (t : Tables) → AreInOrder t → MetaGood t → (row : Row) → row_with 1 (number_value 1 ∷ []) t.meta ≡ Some row → (n : ℕ) → moment_in (column row 3) ≡ Some n → n ≡ moment_of t.meta
 moment_found t up good row found n read =

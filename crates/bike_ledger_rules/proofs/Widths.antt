@@ -10,11 +10,12 @@ use Rattle.bike_sql.proofs.FrameLemmas.{rows_of_is}
 use Rattle.bike_sql.proofs.RowListLemmas.{map_has}
 use Rattle.bike_sql.proofs.OrderLemmas.{order_has}
 use Rattle.bike_sql.proofs.TreeLemmas.{by_key_total}
-use Rattle.bike_book.specs.Tables.{Stations, Bikes, Rentals, Entries}
+use Rattle.bike_book.specs.Tables.{Stations, Bikes, Rentals, Entries, History}
 use Rattle.bike_book.specs.declared.columns.stations.TheConstants as stations
 use Rattle.bike_book.specs.declared.columns.bikes.TheConstants as bikes
 use Rattle.bike_book.specs.declared.columns.rentals.TheConstants as rentals
 use Rattle.bike_book.specs.declared.columns.entries.TheConstants as entries
+use Rattle.bike_book.specs.declared.columns.history.TheConstants as history
 use Rattle.bike_schema.specs.Layouts.{layout_of}
 use Rattle.bike_schema.specs.Tables.{tables_of, HasTables}
 use Rattle.bike_ledger_rules.proofs.RiderFolds.{AreWide}
@@ -33,6 +34,9 @@ module _ (db : Database) (has : HasTables db) where
 
   pub entries_wide : AreWide entries.COLUMNS (tables_of db).entries
   entries_wide = wide entries.COLUMNS 1 (layout_of Entries) db (has Entries) (λ r. refl)
+
+  pub history_wide : AreWide history.COLUMNS (tables_of db).history
+  history_wide = wide history.COLUMNS 1 (layout_of History) db (has History) (λ r. refl)
 
   pub stations_wide : AreWide stations.COLUMNS (tables_of db).stations
   stations_wide = wide stations.COLUMNS 1 (layout_of Stations) db (has Stations) (λ r. refl)

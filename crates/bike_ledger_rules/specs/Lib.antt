@@ -4,3 +4,4 @@ pub mod Known
 pub mod Riders
 pub mod Rentals
 pub mod Entries
+pub mod History

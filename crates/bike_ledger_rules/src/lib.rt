@@ -1,15 +1,17 @@
-//! The rules of riders, rentals and entries in code: for each table the first bad key.
+//! The rules of riders, rentals, entries and the history in code: for each table the first bad key.
 //!
-//! `specs/Riders`, `specs/Rentals` and `specs/Entries` say what is asked of the lines of the audit's queries; each
-//! function answers by `JudgesTable` of bike_judges.
+//! `specs/Riders`, `specs/Rentals`, `specs/Entries` and `specs/History` say what is asked of the lines of the audit's
+//! queries; each function answers by `JudgesTable` of bike_judges.
 //!
 //! Each query walks one table in the order of its key, alone or with one partner beside each row, so the database holds
-//! no table in memory. What each rental or entry names is read once, into sets of numbers and identifiers (`known`),
-//! which the limits of a city bound. What is summed over another table stands in `NumberedSums`, an array by number.
+//! no table in memory; the callers and keys of the history are walked by their index. What each rental or entry names
+//! is read once, into sets of numbers and identifiers (`known`), which the limits of a city bound. What is summed over
+//! another table stands in `NumberedSums`, an array by number.
 #![tactic(auto)]
 
 mod columns;
 mod entries;
+mod history;
 mod idents;
 mod known;
 mod moment;
@@ -21,5 +23,6 @@ mod riders;
 mod sums;
 
 pub use entries::judge_entries;
+pub use history::judge_history;
 pub use rentals::judge_rentals;
 pub use riders::judge_riders;

@@ -1,6 +1,7 @@
 -- The tables once they are filled.
-use Rattle.std.proofs.Common.{◌≡◌, ◌⊎◌, inl, inr, ℕ, ◌+◌, ◌<◌, List, [], ◌∷◌, ◌++◌, map, take, length, get_or, append_assoc, append-nil, Less, refl, sym, ap, ap₂, subst, ◌∙◌}
-use Rattle.std.proofs.lemmas.List.{take_more, map-append}
+use Rattle.std.proofs.Common.{◌≡◌, ◌⊎◌, inl, inr, ℕ, suc, ◌+◌, ◌<◌, true, false, IsTrue, arith, List, [], ◌∷◌, ◌++◌, map, take, length, get_or, append_assoc, append-nil, Less, refl, sym, ap, ap₂, subst, ◌∙◌}
+use Rattle.std.proofs.lemmas.Bool.{both_ways}
+use Rattle.std.proofs.lemmas.List.{take_more, map-append, length-take-le}
 use Rattle.sqlite_value.specs.Order.{Row, row_cmp}
 use Rattle.sqlite_rules.specs.Lists.{Has}
 use Rattle.sqlite.specs.Effect.{Database}
@@ -11,18 +12,23 @@ use Rattle.bike_sql.proofs.FrameLemmas.{rows_of_is}
 use Rattle.bike_sql.proofs.RowListLemmas.{map_has}
 use Rattle.bike_sql.proofs.OrderLemmas.{Rises, rises, order_has, all_has, all_from}
 use Rattle.bike_sql.proofs.TreeLemmas.{by_key_total}
-use Rattle.bike_book.specs.Tables.{Tables, Stations, MoreNames, with_rows}
-use Rattle.bike_book.specs.Writes.{Add, tables_after, tables_after_all}
+use Rattle.bike_book.specs.Tables.{Tables, Meta, Stations, History, with_rows}
+use Rattle.bike_book.specs.Stored.{numbers_from, with_numbers}
+use Rattle.bike_book.proofs.NumberRows.{put_number}
+use Rattle.bike_book.specs.Writes.{RowWrite, Add, tables_after, tables_after_all}
 use Rattle.bike_schema.specs.Layouts.{name_of}
-use Rattle.bike_schema.specs.Indexes.{more_names_by_language, more_names_by_thing}
 use Rattle.bike_schema.specs.Makes.{Makes}
-use Rattle.bike_schema.proofs.MakesLemmas.{makes_then, stay_then}
+use Rattle.bike_schema.proofs.MakesLemmas.{makes_none, makes_then, stay_then}
+use Rattle.bike_schema.specs.Tables.{IsOurs}
 use Rattle.bike_recognition.specs.declared.earlier_versions.earlier.Earlier.{Earlier}
-use Rattle.bike_recognition.specs.declared.earlier_versions.earlier.Earlier.TheVariants.{First, Second}
-use Rattle.bike_recognition.specs.EarlierVersions.Earlier.{stations_layout, completed, tables_at, HasTablesAt, IsAt}
-use Rattle.bike_migrate.specs.Raised.{old_stations, version_write, station_writes, tables_raised, HasNameIndexes, filled_names, MakesTables, WritesOnly, Fills}
+use Rattle.bike_recognition.specs.declared.earlier_versions.earlier.Earlier.TheVariants.{First, Second, Third}
+use Rattle.bike_recognition.specs.EarlierVersions.Earlier.{bounds_docks, stations_name, stations_layout, completed, tables_at, HasTablesAt, IsAt}
+use Rattle.bike_recognition.specs.EarlierVersions.Kept.{kept_row, kept_rows, past_row, history_rows, KeptLies}
+use Rattle.bike_migrate.specs.Raised.{old_stations, AreOldRows, version_write, station_writes, request_row, request_writes, first_writes, fill_writes, tables_raised, HasNewIndexes, version_names, station_names, first_names}
+use Rattle.bike_migrate.specs.Raised.{request_names, filled_names, emptied, MakesTables, WritesOnly, Fills}
 use Rattle.bike_migrate.specs.Spared.{Spares}
-use Rattle.bike_migrate.proofs.SpareLemmas.{spares_then, spares_all, index_spared}
+use Rattle.bike_migrate.proofs.SpareLemmas.{spares_same, spares_then, spares_less, spares_all, among_first, among_rest}
+use Rattle.bike_migrate.proofs.KeptTexts.{kept_shown}
 use Rattle.bike_migrate.specs.Stations.{station_row, AreCopies}
 
 -- one station more
@@ -39,11 +45,66 @@ makes_more rows i row within is a b c first second =
     subst (λ ws. Makes (version_write ∷ ws) a c) (sym (writes_more rows i row within is))
     (makes_then (version_write ∷ station_writes (take i rows)) (Add Stations (station_row row) ∷ []) a b c first second)
 
-pub more_only : (rows : List Row) (i : ℕ) (row : Row) → i < length rows → row ≡ get_or rows i row → (a b c : Database) → WritesOnly (version_write ∷ station_writes (take i rows)) a b
-    → WritesOnly (Add Stations (station_row row) ∷ []) b c
-    → WritesOnly (version_write ∷ station_writes (take (i + 1) rows)) a c
-more_only rows i row within is a b c first second =
-    record { makes = makes_more rows i row within is a b c first.makes second.makes; spares = spares_then filled_names a b c first.spares second.spares }
+pub more_only : (rows : List Row) (i : ℕ) (row : Row) → i < length rows → row ≡ get_or rows i row → (a b c : Database) → WritesOnly station_names (version_write ∷ station_writes (take i rows)) a b
+    → WritesOnly station_names (Add Stations (station_row row) ∷ []) b c
+    → WritesOnly station_names (version_write ∷ station_writes (take (i + 1) rows)) a c
+more_only rows i row within is a b c first second = record {
+  makes = makes_more rows i row within is a b c first.makes second.makes;
+  spares = spares_then station_names a b c first.spares second.spares;
+  kept = λ was. second.kept (first.kept was);
+}
+
+-- the version alone
+pub version_first : (a b : Database) → WritesOnly version_names (version_write ∷ []) a b → WritesOnly station_names (version_write ∷ []) a b
+version_first a b it =
+    record { makes = it.makes; spares = spares_less station_names version_names a b (among_first (name_of Meta) (name_of Stations ∷ [])) it.spares; kept = it.kept }
+
+-- one request more
+numbered_more : (n : ℕ) (xs : List Row) (x : Row) → numbers_from n (xs ++ x ∷ []) ≡ numbers_from n xs ++ (n + length xs, x) ∷ []
+numbered_more n [] x = ap (λ k. (k, x) ∷ []) (let e : n ≡ n + 0 = omega arith in e)
+numbered_more n (y ∷ xs) x =
+    ap (λ l. (n, y) ∷ l) (numbered_more (suc n) xs x ∙ ap (λ k. numbers_from (suc n) xs ++ (k, x) ∷ []) (let e : suc n + length xs ≡ n + suc (length xs) = omega arith in e))
+
+requests_more : (rows : List Row) (i : ℕ) (row : Row) (number : ℕ) → number ≡ i + 1 → i < length rows → row ≡ get_or rows i row
+    → request_writes (take (i + 1) rows) ≡ request_writes (take i rows) ++ Add History (request_row (number, row)) ∷ []
+requests_more rows i row number counted within is =
+    let long : length (take i rows) ≡ i = length-take-le i rows (omega (arith, within)) in
+    let same : 1 + length (take i rows) ≡ number = omega (arith, long, counted) in
+    let add = λ (e : ℕ × Row). Add History (request_row e) in
+    ap request_writes (take_more rows i row within)
+    ∙ ap (map add) (numbered_more 1 (take i rows) (get_or rows i row)) ∙ map-append add (with_numbers (take i rows)) ((1 + length (take i rows), get_or rows i row) ∷ [])
+    ∙ ap₂ (λ k r. request_writes (take i rows) ++ Add History (request_row (k, r)) ∷ []) same (sym is)
+
+pub more_requests : (rows : List Row) (i : ℕ) (row : Row) (number : ℕ) → number ≡ i + 1 → i < length rows → row ≡ get_or rows i row → (a b c : Database)
+    → WritesOnly request_names (request_writes (take i rows)) a b → WritesOnly request_names (Add History (request_row (number, row)) ∷ []) b c
+    → WritesOnly request_names (request_writes (take (i + 1) rows)) a c
+more_requests rows i row number counted within is a b c first second = record {
+  makes = subst (λ ws. Makes ws a c) (sym (requests_more rows i row number counted within is))
+      (makes_then (request_writes (take i rows)) (Add History (request_row (number, row)) ∷ []) a b c first.makes second.makes);
+  spares = spares_then request_names a b c first.spares second.spares;
+  kept = λ was. second.kept (first.kept was);
+}
+
+pub no_writes : (names : List (List ℕ)) (a b : Database) → b ≡ a → IsOurs a → WritesOnly names [] a b
+no_writes names a b same ours = subst (WritesOnly names [] a) (sym same) (record { makes = makes_none a ours.sound ours.has; spares = spares_same names a; kept = λ was. was })
+
+-- the first writes are those of the version
+pub first_filled : (e : Earlier) (stations : List Row) (a b : Database) → bounds_docks e ≡ true → WritesOnly station_names (version_write ∷ station_writes stations) a b
+    → WritesOnly (first_names e) (first_writes e stations) a b
+first_filled e stations a b bounds it = rw bounds it
+
+pub version_filled : (e : Earlier) (stations : List Row) (a b : Database) → bounds_docks e ≡ false → WritesOnly version_names (version_write ∷ []) a b → WritesOnly (first_names e) (first_writes e stations) a b
+version_filled e stations a b bounds it = rw bounds it
+
+-- the requests after the first writes
+pub both_filled : (e : Earlier) (stations kept : List Row) (a b c : Database) → WritesOnly (first_names e) (first_writes e stations) a b → WritesOnly request_names (request_writes kept) b c
+    → WritesOnly (filled_names e) (fill_writes e stations kept) a c
+both_filled e stations kept a b c first second = record {
+  makes = makes_then (first_writes e stations) (request_writes kept) a b c first.makes second.makes;
+  spares = spares_then (filled_names e) a b c (spares_less (filled_names e) (first_names e) a b (among_rest _ (first_names e)) first.spares)
+      (spares_less (filled_names e) request_names b c (among_first _ (first_names e)) second.spares);
+  kept = λ was. second.kept (first.kept was);
+}
 
 -- ---- rows put one after another, in the order of their keys
 
@@ -55,6 +116,15 @@ adds_all : (rows : List Row) (t : Tables) → tables_after_all (map (Add Station
 unfolding put_all
 adds_all [] t = refl
 adds_all (r ∷ rows) t = adds_all rows (with_rows Stations (put_row_by 1 r t.stations) t)
+
+adds_history : (rows : List Row) (t : Tables) → tables_after_all (map (Add History) rows) t ≡ with_rows History (put_all rows t.history) t
+unfolding put_all
+adds_history [] t = refl
+adds_history (r ∷ rows) t = adds_history rows (with_rows History (put_row_by 1 r t.history) t)
+
+after_both : (ws vs : List RowWrite) (t : Tables) → tables_after_all (ws ++ vs) t ≡ tables_after_all vs (tables_after_all ws t)
+after_both [] vs t = refl
+after_both (w ∷ ws) vs t = after_both ws vs (tables_after w t)
 
 -- one that is above all others comes last
 put_last : (new : Row) (xs : List Row) → ((x : Row) → Has xs x → by_key 1 x new ≡ Less) → put_row_by 1 new xs ≡ xs ++ new ∷ []
@@ -103,6 +173,9 @@ first_copied tree r = record { whole = refl; key = refl }
 second_copied : (tree : ℕ) (r : Row) → IsCopied Second (columns_of (table_of (stations_layout Second) tree) r)
 second_copied tree r = record { whole = refl; key = refl }
 
+third_copied : (tree : ℕ) (r : Row) → IsCopied Third (columns_of (table_of (stations_layout Third) tree) r)
+third_copied tree r = record { whole = refl; key = refl }
+
 shown : (keys : ℕ) (layout : Layout) (db : Database) (was : Stands db keys layout) (P : Row → Type 0) → ((r : Row) → P (columns_of (table_of layout was.tree) r)) → (row : Row)
     → Has (rows_of keys layout.name db) row → P row
 shown keys layout db was P each row has =
@@ -111,21 +184,27 @@ shown keys layout db was P each row has =
     let it = map_has f (db.trees was.tree) row (order_has (by_key_total keys) (map f (db.trees was.tree)) row there) in
     subst P (sym it.2) (each it.0)
 
-copied : (e : Earlier) (db : Database) → Stands db 1 (stations_layout e) → (row : Row) → Has (old_stations e db) row → IsCopied e row
+-- all rows of its table of stations
+abbrev pub all_stations : Earlier → Database → List Row
+all_stations e db = rows_of 1 (stations_name e) db
+
+copied : (e : Earlier) (db : Database) → Stands db 1 (stations_layout e) → (row : Row) → Has (all_stations e db) row → IsCopied e row
 copied First db was = shown 1 (stations_layout First) db was (IsCopied First) (first_copied was.tree)
 copied Second db was = shown 1 (stations_layout Second) db was (IsCopied Second) (second_copied was.tree)
+copied Third db was = shown 1 (stations_layout Third) db was (IsCopied Third) (third_copied was.tree)
 
 in_order_there : (keys : ℕ) (layout : Layout) (db : Database) → Stands db keys layout → Rises (by_key_total keys) (rows_of keys layout.name db)
 in_order_there keys layout db was =
     subst (Rises (by_key_total keys)) (sym (rows_of_is db keys layout was)) (rises (by_key_total keys) (map (columns_of (table_of layout was.tree)) (db.trees was.tree)))
 
-old_rise : (e : Earlier) (db : Database) → Stands db 1 (stations_layout e) → Rises (by_key_total 1) (old_stations e db)
+old_rise : (e : Earlier) (db : Database) → Stands db 1 (stations_layout e) → Rises (by_key_total 1) (all_stations e db)
 old_rise First db was = in_order_there 1 (stations_layout First) db was
 old_rise Second db was = in_order_there 1 (stations_layout Second) db was
+old_rise Third db was = in_order_there 1 (stations_layout Third) db was
 
 module _ (e : Earlier) (db : Database) (was : Stands db 1 (stations_layout e)) where
   abbrev rows : List Row
-  rows = old_stations e db
+  rows = all_stations e db
 
   pub completed_are : map station_row rows ≡ map (completed e) rows
   completed_are = map_same_in station_row (completed e) rows (λ row h. (copied e db was row h).whole)
@@ -136,55 +215,116 @@ module _ (e : Earlier) (db : Database) (was : Stands db 1 (stations_layout e)) w
   put_copies : put_all (map station_row rows) [] ≡ map (completed e) rows
   put_copies = put_rising (map station_row rows) [] (λ x r none h. absurd none) copies_rise ∙ completed_are
 
+-- ---- the requests as they are copied
+
+-- put behind those that are there, they get the numbers behind theirs
+put_requests : (before more : List Row) → put_all (map request_row (numbers_from (length before + 1) more)) (map request_row (with_numbers before)) ≡ map request_row (with_numbers (before ++ more))
+unfolding put_all
+put_requests before [] = ap (λ rs. map request_row (with_numbers rs)) (sym (append-nil before))
+put_requests before (r ∷ more) =
+    let n = length before + 1 in
+    ap (put_all (map request_row (numbers_from (suc n) more))) (put_number request_row request_row (λ e. refl) (λ e. refl) before n r refl (λ e apart. refl))
+    ∙ ap (λ k. put_all (map request_row (numbers_from k more)) (map request_row (with_numbers (before ++ r ∷ [])))) (longer before r)
+    ∙ put_requests (before ++ r ∷ []) more
+    ∙ ap (λ rs. map request_row (with_numbers rs)) (append_assoc before (r ∷ []) more)
+  where
+    longer : (xs : List Row) (x : Row) → suc (length xs + 1) ≡ length (xs ++ x ∷ []) + 1
+    longer [] x = refl
+    longer (y ∷ xs) x = let rest = longer xs x in let e : suc (suc (length xs) + 1) ≡ suc (length (xs ++ x ∷ [])) + 1 = omega (arith, rest) in e
+
+module _ (db : Database) (it : KeptLies db) where
+  -- a row that `kept` shows is copied as it is
+  request_same : (row : Row) → Has (kept_rows db) row → (n : ℕ) → request_row (n, row) ≡ past_row (n, row)
+  request_same row has n = kept_shown db (λ r. request_row (n, r) ≡ past_row (n, r)) (λ r. refl) it row has
+
+  requests_same : (n : ℕ) (rows : List Row) → ((row : Row) → Has rows row → Has (kept_rows db) row) → map request_row (numbers_from n rows) ≡ map past_row (numbers_from n rows)
+  requests_same n [] there = refl
+  requests_same n (r ∷ rows) there = ap₂ ◌∷◌ (request_same r (there r (inl refl)) n) (requests_same (suc n) rows (λ row has. there row (inr has)))
+
+  put_history : put_all (map request_row (with_numbers (kept_rows db))) [] ≡ history_rows (kept_rows db)
+  put_history = put_requests [] (kept_rows db) ∙ requests_same 1 (kept_rows db) (λ row has. has)
+
 -- ---- all tables
 
 old_stand : (e : Earlier) (db : Database) → HasTablesAt e db → Stands db 1 (stations_layout e)
 old_stand First db has = (has Stations).stands refl
 old_stand Second db has = (has Stations).stands refl
+old_stand Third db has = (has Stations).stands refl
 
-stations_at : (e : Earlier) (db : Database) → (tables_at e db).stations ≡ map (completed e) (old_stations e db)
+stations_at : (e : Earlier) (db : Database) → (tables_at e db).stations ≡ map (completed e) (all_stations e db)
 stations_at First db = refl
 stations_at Second db = refl
+stations_at Third db = refl
 
 pub old_table : (e : Earlier) (db : Database) → IsAt e db → Stands db 1 (stations_layout e)
 old_table e db at = old_stand e db at.has
 
+-- those that are copied are all
+pub old_are : (e : Earlier) (db : Database) → bounds_docks e ≡ true → all_stations e db ≡ old_stations e db
+old_are e db bounds = rw bounds refl
+
+-- .. or none
+pub none_are : (e : Earlier) (db : Database) → bounds_docks e ≡ false → [] ≡ old_stations e db
+none_are e db bounds = rw bounds refl
+
 -- the stations of the tables raised are those that were copied
-pub stations_raised : (e : Earlier) (db : Database) → IsAt e db → AreCopies (old_stations e db) (tables_raised e db).stations
-stations_raised e db at = record {
+pub stations_raised : (e : Earlier) (db : Database) → IsAt e db → IsTrue (bounds_docks e) → AreCopies (old_stations e db) (tables_raised e db).stations
+stations_raised e db at bounds = subst (λ rs. AreCopies rs (tables_raised e db).stations) (old_are e db bounds) (record {
   are = completed_are e db (old_table e db at) ∙ sym (stations_at e db);
   keyed = λ row has. (copied e db (old_table e db at) row has).key;
-}
+})
 
 writes_map : (rows : List Row) → station_writes rows ≡ map (Add Stations) (map station_row rows)
 writes_map [] = refl
 writes_map (r ∷ rows) = ap (λ l. Add Stations (station_row r) ∷ l) (writes_map rows)
 
--- the version set and the stations added
-filled_are : (e : Earlier) (db : Database) → IsAt e db → tables_after_all (version_write ∷ station_writes (old_stations e db)) (with_rows Stations [] (tables_at e db)) ≡ tables_raised e db
-filled_are e db at =
-    let t = tables_after version_write (with_rows Stations [] (tables_at e db)) in
-    ap (λ ws. tables_after_all ws t) (writes_map (old_stations e db))
-    ∙ adds_all (map station_row (old_stations e db)) t
-    ∙ ap (λ rows. with_rows Stations rows t) (put_copies e db (old_table e db at) ∙ sym (stations_at e db))
+requests_map : (es : List (ℕ × Row)) → map (λ e. Add History (request_row e)) es ≡ map (Add History) (map request_row es)
+requests_map [] = refl
+requests_map (e ∷ es) = ap (λ l. Add History (request_row e) ∷ l) (requests_map es)
 
--- an index of further names stays as they are filled
-still_indexed : (b c : Database) → Spares filled_names b c → HasNameIndexes b.schema → HasNameIndexes c.schema
-still_indexed b c spares has = record {
-  by_language = index_spared filled_names b c more_names_by_language spares refl has.by_language;
-  by_thing = index_spared filled_names b c more_names_by_thing spares refl has.by_thing;
-}
+stations_added : (e : Earlier) (db : Database) → IsAt e db → (t : Tables) → t.stations ≡ [] → tables_after_all (station_writes (all_stations e db)) t ≡ with_rows Stations (tables_at e db).stations t
+stations_added e db at t none =
+    ap (λ ws. tables_after_all ws t) (writes_map (all_stations e db))
+    ∙ adds_all (map station_row (all_stations e db)) t
+    ∙ ap (λ rows. with_rows Stations rows t) (ap (put_all (map station_row (all_stations e db))) none ∙ put_copies e db (old_table e db at) ∙ sym (stations_at e db))
 
-pub fills : (e : Earlier) (a b c : Database) (rows : List Row) → IsAt e a → rows ≡ old_stations e a → MakesTables e a b → WritesOnly (version_write ∷ station_writes rows) b c → Fills e a c
-fills e a b c rows at are made only = record {
+requests_added : (db : Database) → KeptLies db → (t : Tables) → t.history ≡ [] → tables_after_all (request_writes (kept_rows db)) t ≡ with_rows History (history_rows (kept_rows db)) t
+requests_added db it t none =
+    ap (λ ws. tables_after_all ws t) (requests_map (with_numbers (kept_rows db)))
+    ∙ adds_history (map request_row (with_numbers (kept_rows db))) t
+    ∙ ap (λ rows. with_rows History rows t) (ap (put_all (map request_row (with_numbers (kept_rows db)))) none ∙ put_history db it)
+
+-- the version set, and the stations and requests added
+filled_are : (e : Earlier) (db : Database) → IsAt e db → tables_after_all (fill_writes e (old_stations e db) (kept_rows db)) (emptied e (tables_at e db)) ≡ tables_raised e db
+filled_are First db at =
+    let t = emptied First (tables_at First db) in
+    let v = tables_after version_write t in
+    after_both (first_writes First (old_stations First db)) (request_writes (kept_rows db)) t
+    ∙ ap (tables_after_all (request_writes (kept_rows db))) (stations_added First db at v refl)
+    ∙ requests_added db at.kept (with_rows Stations (tables_at First db).stations v) refl
+filled_are Second db at =
+    let t = emptied Second (tables_at Second db) in
+    let v = tables_after version_write t in
+    after_both (first_writes Second (old_stations Second db)) (request_writes (kept_rows db)) t
+    ∙ ap (tables_after_all (request_writes (kept_rows db))) (stations_added Second db at v refl)
+    ∙ requests_added db at.kept (with_rows Stations (tables_at Second db).stations v) refl
+filled_are Third db at =
+    let t = emptied Third (tables_at Third db) in
+    after_both (first_writes Third []) (request_writes (kept_rows db)) t
+    ∙ requests_added db at.kept (tables_after version_write t) refl
+
+pub fills : (e : Earlier) (a b c : Database) (stations kept : List Row) → IsAt e a → AreOldRows e stations kept a → MakesTables e a b → WritesOnly (filled_names e) (fill_writes e stations kept) b c
+    → Fills e a c
+fills e a b c stations kept at are made only = record {
   raised = record {
     sound = only.makes.sound;
     has = only.makes.has;
     tables =
-        only.makes.tables ∙ ap (tables_after_all (version_write ∷ station_writes rows)) made.tables
-        ∙ ap (λ rs. tables_after_all (version_write ∷ station_writes rs) (with_rows Stations [] (tables_at e a))) are ∙ filled_are e a at;
+        only.makes.tables ∙ ap (tables_after_all (fill_writes e stations kept)) made.tables
+        ∙ ap₂ (λ rs ks. tables_after_all (fill_writes e rs ks) (emptied e (tables_at e a))) are.0 are.1 ∙ filled_are e a at;
   };
-  indexes = still_indexed b c only.spares made.indexes;
+  indexes = subst (HasNewIndexes e) (sym only.makes.schema) made.indexes;
   others = stay_then a b c made.others only.makes.others;
-  spares = spares_then filled_names a b c (spares_all filled_names a b made.spares) only.spares;
+  spares = spares_then (filled_names e) a b c (spares_all (filled_names e) a b made.spares) only.spares;
+  kept = only.kept (made.kept at.kept);
 }

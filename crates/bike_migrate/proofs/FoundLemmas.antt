@@ -16,18 +16,18 @@ use Rattle.bike_schema.specs.Tables.{HasTables, HasNone}
 use Rattle.bike_recognition.specs.Recognition.{ReadsAny, meta_version}
 use Rattle.bike_recognition.specs.declared.version.MetaVersion.{MetaVersion}
 use Rattle.bike_recognition.specs.declared.version.MetaVersion.TheVariants.{Missing, Version, NotOurs}
-use Rattle.bike_audit.specs.Audit.{row_name, IsAudited, IsBadIn}
+use Rattle.bike_audit.specs.Audit.{row_name, IsAudited}
 use Rattle.bike_audit.specs.declared.finding.Finding.TheVariants as finding
 use Rattle.bike_audit.specs.declared.tables.BadRow.{BadRow}
 use Rattle.bike_recognition.specs.declared.earlier_versions.earlier.Earlier.{Earlier}
-use Rattle.bike_recognition.specs.declared.earlier_versions.earlier.Earlier.TheVariants.{First, Second}
+use Rattle.bike_recognition.specs.declared.earlier_versions.earlier.Earlier.TheVariants.{First, Second, Third}
 use Rattle.bike_recognition.specs.declared.earlier_versions.found.Found.{Found}
 use Rattle.bike_recognition.specs.declared.earlier_versions.found.Found.TheVariants as found
 use Rattle.bike_recognition.specs.EarlierVersions.Earlier.{number_of, IsAt}
 use Rattle.bike_recognition.specs.EarlierVersions.Found.{earlier_of, IsNewest, IsOfEarlier, IsByNumber, IsByVersion, IsFoundAs}
 use Rattle.bike_migrate.specs.Raised.{IsEarlier, Raises, tables_raised}
 use Rattle.bike_migrate.specs.Raising.{IsOnNewest, MayCommit, IsAsBefore, BecomesAt, RaisesInPlace, IsOutcome, MayCommitAny, ComesTo, cause_of}
-use Rattle.bike_migrate.specs.Verdicts.{AllGoodBefore, IsVerdictBefore}
+use Rattle.bike_migrate.specs.Verdicts.{AllGoodAt, IsVerdictAt}
 use Rattle.bike_migrate.specs.declared.fault.RaiseCause.{RaiseCause}
 
 -- ---- found to be of an earlier version
@@ -35,11 +35,15 @@ use Rattle.bike_migrate.specs.declared.fault.RaiseCause.{RaiseCause}
 number_is : (v : ℕ) (e : Earlier) → earlier_of v ≡ Some e → v ≡ number_of e
 number_is v e = by (v == 1) refl
   where
-    second : (b : Bool) → (v == 2) ≡ b → (if b then Some Second else None) ≡ Some e → v ≡ number_of e
-    second true is same = let it : Second ≡ e = cc in eqb-true v 2 is ∙ ap number_of it
-    second false is same = absurd cc
+    third : (b : Bool) → (v == 3) ≡ b → (if b then Some Third else None) ≡ Some e → v ≡ number_of e
+    third true is same = let it : Third ≡ e = cc in eqb-true v 3 is ∙ ap number_of it
+    third false is same = absurd cc
 
-    by : (b : Bool) → (v == 1) ≡ b → (if b then Some First else (if v == 2 then Some Second else None)) ≡ Some e → v ≡ number_of e
+    second : (b : Bool) → (v == 2) ≡ b → (if b then Some Second else (if v == 3 then Some Third else None)) ≡ Some e → v ≡ number_of e
+    second true is same = let it : Second ≡ e = cc in eqb-true v 2 is ∙ ap number_of it
+    second false is same = third (v == 3) refl same
+
+    by : (b : Bool) → (v == 1) ≡ b → (if b then Some First else (if v == 2 then Some Second else (if v == 3 then Some Third else None))) ≡ Some e → v ≡ number_of e
     by true is same = let it : First ≡ e = cc in eqb-true v 1 is ∙ ap number_of it
     by false is same = second (v == 2) refl same
 
@@ -106,6 +110,7 @@ module _ (db : Database) where
       by : (e : Earlier) → IsByVersion db (Version (number_of e)) found.Newest → ⊥
       by First newest = earlier_never (Some First) found.Newest (λ f same. cc) (λ same. cc) newest
       by Second newest = earlier_never (Some Second) found.Newest (λ f same. cc) (λ same. cc) newest
+      by Third newest = earlier_never (Some Third) found.Newest (λ f same. cc) (λ same. cc) newest
 
   pub one_earlier : (e f : Earlier) → IsFoundAs db (found.Of e) → IsFoundAs db (found.Of f) → e ≡ f
   one_earlier e f first second = by e f (sym (found_earlier db e first).version ∙ (found_earlier db f second).version)
@@ -113,8 +118,13 @@ module _ (db : Database) where
       by : (e f : Earlier) → Version (number_of e) ≡ Version (number_of f) → e ≡ f
       by First First same = refl
       by First Second same = absurd (cc)
+      by First Third same = absurd (cc)
       by Second First same = absurd (cc)
       by Second Second same = refl
+      by Second Third same = absurd (cc)
+      by Third First same = absurd (cc)
+      by Third Second same = absurd (cc)
+      by Third Third same = refl
 
 -- ---- what came of it, where it is of the newest version
 
@@ -142,7 +152,7 @@ module _ {S : Type 0} (g : Ghosts S) (old mid : Held S) {E : Type 0} (read : Rea
   newest_outcome None clean is =
       inl (inl (read.found (first_clean clean) tt, subst (λ d. IsAudited d finding.Sound) (first_same clean).0.now_is is, both_before clean))
   newest_outcome (Some row) clean is =
-      ((read.found (first_clean clean) tt, subst (λ d. IsBadIn d row) (first_same clean).0.now_is is), both_before clean)
+      ((read.found (first_clean clean) tt, subst (λ d. IsAudited d (finding.Unsound row)) (first_same clean).0.now_is is), both_before clean)
 
   pub comes_newest : ComesTo g old new (Ok (cause_of None bad))
   comes_newest = record {
@@ -175,20 +185,20 @@ module _ {S : Type 0} (g : Ghosts S) (old : Held S) where
     comes_survives = survives_then (state g old) (state g mid) (state g new) _ _ _ (λ clean db none. absurd none)
         (λ clean db may. (e, found_there clean, subst (λ d. MayCommit e d db) (same_there clean).0.now_is (may (was_there clean)))) (quiet_survives read.quiet tt) it.survives
 
-    raised_outcome : (bad : Option BadRow) → HasCleanDisk (state g new) → IsVerdictBefore (tables_raised e (state g mid).now) (option_map row_name bad) × BecomesAt g e mid new bad
+    raised_outcome : (bad : Option BadRow) → HasCleanDisk (state g new) → IsVerdictAt e (tables_raised e (state g mid).now) (option_map row_name bad) × BecomesAt g e mid new bad
         → IsOutcome g old new (cause_of (Some e) bad)
     raised_outcome None clean at =
         let same = same_there clean in
         inr (record {
           earlier = e;
           found = found_there clean;
-          good = subst (λ d. AllGoodBefore (tables_raised e d)) same.0.now_is at.0;
+          good = subst (λ d. AllGoodAt e (tables_raised e d)) same.0.now_is at.0;
           shown = record { was_open = same.0.was_open; is_open = at.1.0.is_open; now_is = refl; committed_is = at.1.0.committed_is; mode = at.1.0.mode };
           raises = subst (λ d. Raises e d (state g new).now) same.0.now_is at.1.1;
         })
     raised_outcome (Some row) clean at =
         let same = same_there clean in (
-          (found_there clean, subst (λ d. IsVerdictBefore (tables_raised e d) (Some (row_name row))) same.0.now_is at.0),
+          (found_there clean, subst (λ d. IsVerdictAt e (tables_raised e d) (Some (row_name row))) same.0.now_is at.0),
           record { was_open = same.0.was_open; is_open = at.1.is_open; now_is = at.1.now_is ∙ same.0.now_is; committed_is = at.1.committed_is ∙ same.0.committed_is; mode = at.1.mode },
         )
 
@@ -199,7 +209,7 @@ module _ {S : Type 0} (g : Ghosts S) (old : Held S) where
     pub comes_raised : (bad : Option BadRow) → told ≡ Ok bad → ComesTo g old new (Ok (cause_of (Some e) bad))
     comes_raised bad is = record {
       comes =
-          λ clean. raised_outcome bad clean (subst (λ r. IfOk r (λ b. IsVerdictBefore (tables_raised e (state g mid).now) (option_map row_name b) × BecomesAt g e mid new b)) is
+          λ clean. raised_outcome bad clean (subst (λ r. IfOk r (λ b. IsVerdictAt e (tables_raised e (state g mid).now) (option_map row_name b) × BecomesAt g e mid new b)) is
           (it.ends clean (was_there clean)));
       outside = subst (λ r. OnOk r (new.in_transaction ≡ false)) is it.outside;
       ended = ended;

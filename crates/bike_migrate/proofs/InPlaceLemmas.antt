@@ -10,30 +10,25 @@ use Rattle.sqlite.specs.Held.{Held, state}
 use Rattle.sqlite.specs.State.{HasCleanDisk, IsLive, Shows, Survives}
 use Rattle.sqlite.proofs.StateLemmas.{survives_weaker, survives_then}
 use Rattle.bike_sql.specs.Calls.{ReadsWhere}
-use Rattle.bike_sql.specs.Stands.{Stands}
 use Rattle.bike_schema.specs.Makes.{Continues}
 use Rattle.bike_schema.specs.declared.fault.StatementFault.{StatementFault}
 use Rattle.bike_audit.specs.Audit.{row_name}
 use Rattle.bike_audit.specs.declared.tables.BadRow.{BadRow}
 use Rattle.bike_recognition.specs.declared.earlier_versions.earlier.Earlier.{Earlier}
-use Rattle.bike_recognition.specs.EarlierVersions.Earlier.{stations_layout}
 use Rattle.bike_migrate.specs.Calls.{DoesInside}
-use Rattle.bike_migrate.specs.Raised.{IsEarlier, old_stations, Raises, tables_raised}
+use Rattle.bike_migrate.specs.Raised.{IsEarlier, AreOldRows, HasOldTables, WasRead, Raises, tables_raised}
 use Rattle.bike_migrate.specs.Raising.{MayCommit, IsJudged, Attempts, Ends, CommitsBy, EndsTransaction, BecomesAt, RaisesInPlace}
-use Rattle.bike_migrate.specs.Verdicts.{IsVerdictBefore}
+use Rattle.bike_migrate.specs.Verdicts.{IsVerdictAt}
 use Rattle.bike_migrate.proofs.FillLemmas.{old_table}
 
 module _ {S : Type 0} (g : Ghosts S) (e : Earlier) where
   -- ---- the attempt
 
-  abbrev HasOld : Database → Type 0
-  HasOld db = Stands db 1 (stations_layout e)
-
-  has_old : (db : Database) → IsEarlier e db → HasOld db
-  has_old db was = old_table e db was.is_at
+  has_old : (db : Database) → IsEarlier e db → HasOldTables e db
+  has_old db was = (old_table e db was.is_at, was.is_at.kept)
 
   -- it failed before anything was done
-  pub attempt_failed : {X E : Type 0} {old new : Held S} {result : Result X E} {told : Result (Option BadRow) StatementFault} {says : Database → X → Type 0} → ReadsWhere g HasOld old new result says
+  pub attempt_failed : {X E : Type 0} {old new : Held S} {result : Result X E} {told : Result (Option BadRow) StatementFault} {says : Database → X → Type 0} → ReadsWhere g (HasOldTables e) old new result says
       → IsErr told → Attempts g e old new told
   attempt_failed {old = old} {new = new} {told = Ok x} it is = absurd (let never = is in cc)
   attempt_failed {old = old} {new = new} {told = Err f} it is = record {
@@ -41,8 +36,8 @@ module _ {S : Type 0} (g : Ghosts S) (e : Earlier) where
     survives = survives_weaker (state g old) (state g new) _ _ (λ clean db none was. none (has_old (state g old).now was)) it.quiet.survives;
   }
 
-  module _ (old mid : Held S) (rows : List Row) {X E : Type 0} {x : X} (read : ReadsWhere g HasOld old mid {E = E} (Ok x) (λ db _. rows ≡ old_stations e db)) where
-    read_survives : {P : Trees → Type 0} (new : Held S) → Survives (state g mid) (state g new) P → Survives (state g old) (state g new) (λ db. (¬ HasOld (state g old).now) ⊎ P db)
+  module _ (old mid : Held S) (stations kept : List Row) {X E : Type 0} {x : X} (read : ReadsWhere g (HasOldTables e) old mid {E = E} (Ok x) (λ db _. AreOldRows e stations kept db)) where
+    read_survives : {P : Trees → Type 0} (new : Held S) → Survives (state g mid) (state g new) P → Survives (state g old) (state g new) (λ db. (¬ HasOldTables e (state g old).now) ⊎ P db)
     read_survives new calm = survives_then (state g old) (state g mid) (state g new) _ _ _ (λ clean db none. inl none) (λ clean db it. inr it) read.quiet.survives calm
 
     -- the transaction didn't begin
@@ -55,7 +50,7 @@ module _ {S : Type 0} (g : Ghosts S) (e : Earlier) where
 
     module _ (begun new : Held S) (begins : HasCleanDisk (state g begun) → Shows (state g mid) (state g begun) (state g mid).now (state g mid).committed true)
         (calm : Survives (state g mid) (state g begun) (λ _. ⊥))
-        {told : Result (Option BadRow) StatementFault} (does : DoesInside g (λ db. IsEarlier e db × (rows ≡ old_stations e db)) begun new told
+        {told : Result (Option BadRow) StatementFault} (does : DoesInside g (WasRead e stations kept) begun new told
         (λ a b bad. IsJudged e a b (option_map row_name bad))) where
       -- what is so as it begins
       record Starts : Type 0 where
@@ -63,7 +58,7 @@ module _ {S : Type 0} (g : Ghosts S) (e : Earlier) where
         was_open : IsTrue (state g old).is_open
         now_is : (state g begun).now ≡ (state g old).now
         committed_is : (state g begun).committed ≡ (state g old).committed
-        rows_are : rows ≡ old_stations e (state g old).now
+        rows_are : AreOldRows e stations kept (state g old).now
 
       starts : HasCleanDisk (state g begun) → IsEarlier e (state g old).now → Starts
       starts clean was =
@@ -79,8 +74,8 @@ module _ {S : Type 0} (g : Ghosts S) (e : Earlier) where
             rows_are = read.found early has;
           }
 
-      has_begun : HasCleanDisk (state g begun) → (was : IsEarlier e (state g old).now) → IsEarlier e (state g begun).now × (rows ≡ old_stations e (state g begun).now)
-      has_begun clean was = let it = starts clean was in subst (λ db. IsEarlier e db × (rows ≡ old_stations e db)) (sym it.now_is) (was, it.rows_are)
+      has_begun : HasCleanDisk (state g begun) → (was : IsEarlier e (state g old).now) → WasRead e stations kept (state g begun).now
+      has_begun clean was = let it = starts clean was in subst (WasRead e stations kept) (sym it.now_is) (was, it.rows_are)
 
       pub attempted : Attempts g e old new told
       attempted = record {
@@ -114,7 +109,7 @@ module _ {S : Type 0} (g : Ghosts S) (e : Earlier) where
       early clean = omega (arith, clean, ended.survives.clean)
 
       ends_as : (b : Option BadRow) → Continues (state g old) (state g mid) × IsJudged e (state g old).now (state g mid).now (option_map row_name b) → Ends g mid new b
-          → IsVerdictBefore (tables_raised e (state g old).now) (option_map row_name b) × BecomesAt g e old new b
+          → IsVerdictAt e (tables_raised e (state g old).now) (option_map row_name b) × BecomesAt g e old new b
       ends_as None at end = (
         at.1.verdict,
         (
@@ -141,7 +136,7 @@ module _ {S : Type 0} (g : Ghosts S) (e : Earlier) where
       pub ends_in_place : RaisesInPlace g e old new result
       ends_in_place = record {
         ends = λ clean was. let at = it.judged (early clean) was in
-            IfOk-weaker result _ _ (λ b is. subst (λ o. IsVerdictBefore (tables_raised e (state g old).now) (option_map row_name o) × BecomesAt g e old new o) (sym is.0) (ends_as bad at is.1))
+            IfOk-weaker result _ _ (λ b is. subst (λ o. IsVerdictAt e (tables_raised e (state g old).now) (option_map row_name o) × BecomesAt g e old new o) (sym is.0) (ends_as bad at is.1))
             (ended.ended clean);
         outside = ended.outside;
         survives =

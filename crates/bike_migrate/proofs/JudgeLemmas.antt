@@ -1,5 +1,5 @@
 -- The tables are made, filled and judged.
-use Rattle.std.proofs.Common.{◌≡◌, List, Option, Result, Ok, sym, subst}
+use Rattle.std.proofs.Common.{◌≡◌, List, Option, Result, Ok, IsTrue, sym, subst}
 use Rattle.std.specs.Prelude.{option_map}
 use Rattle.sqlite_value.specs.Order.{Row}
 use Rattle.sqlite_trees.specs.declared.store.Store.{Ghosts}
@@ -10,30 +10,27 @@ use Rattle.bike_schema.specs.Tables.{IsOurs, tables_of}
 use Rattle.bike_audit.specs.Audit.{row_name}
 use Rattle.bike_audit.specs.declared.tables.BadRow.{BadRow}
 use Rattle.bike_recognition.specs.declared.earlier_versions.earlier.Earlier.{Earlier}
-use Rattle.bike_recognition.specs.EarlierVersions.Earlier.{IsAt}
+use Rattle.bike_recognition.specs.EarlierVersions.Earlier.{bounds_docks, IsAt}
 use Rattle.bike_migrate.specs.Calls.{DoesInside}
-use Rattle.bike_migrate.specs.Raised.{IsEarlier, old_stations, tables_raised, Fills}
+use Rattle.bike_migrate.specs.Raised.{AreOldRows, HasOldRows, WasRead, tables_raised, Fills}
 use Rattle.bike_migrate.specs.Stations.{AreCopies}
-use Rattle.bike_migrate.specs.Verdicts.{IsVerdictBefore}
+use Rattle.bike_migrate.specs.Verdicts.{IsVerdictAt}
 use Rattle.bike_migrate.proofs.StepLemmas.{does_under, does_then, reads_does}
 use Rattle.bike_migrate.proofs.DoneLemmas.{verdict_raised}
 
-module _ (e : Earlier) (rows : List Row) where
-  -- of the version, with these rows of stations
-  abbrev pub Has : Database → Type 0
-  Has db = IsEarlier e db × (rows ≡ old_stations e db)
-
-  pub is_at : (db : Database) → Has db → IsAt e db × (rows ≡ old_stations e db)
+module _ (e : Earlier) (stations kept : List Row) where
+  pub is_at : (db : Database) → WasRead e stations kept db → HasOldRows e stations kept db
   is_at db has = (has.0.is_at, has.1)
 
-  pub filled_ours : (a b : Database) → Has a → Fills e a b → IsOurs b
+  pub filled_ours : (a b : Database) → WasRead e stations kept a → Fills e a b → IsOurs b
   filled_ours a b has it = record { sound = it.raised.sound; has = it.raised.has }
 
   abbrev pub Judged : Database → Database → Option BadRow → Type 0
-  Judged old new bad = Fills e old new × IsVerdictBefore (tables_raised e old) (option_map row_name bad)
+  Judged old new bad = Fills e old new × IsVerdictAt e (tables_raised e old) (option_map row_name bad)
 
   pub judged_does : {S E F : Type 0} {g : Ghosts S} {old mid new : Held S} {result : Result (Option BadRow) F}
-      → DoesInside g (λ db. IsAt e db × (rows ≡ old_stations e db)) old mid {X = Unit {0}} {E = E} (Ok tt) (λ a b _. Fills e a b)
-      → ReadsWhere g IsOurs mid new result (λ db bad. AreCopies rows (tables_of db).stations → IsVerdictBefore (tables_of db) (option_map row_name bad)) → DoesInside g Has old new result Judged
+      → DoesInside g (HasOldRows e stations kept) old mid {X = Unit {0}} {E = E} (Ok tt) (λ a b _. Fills e a b)
+      → ReadsWhere g IsOurs mid new result (λ db bad. (IsTrue (bounds_docks e) → AreCopies stations (tables_of db).stations) → IsVerdictAt e (tables_of db) (option_map row_name bad))
+      → DoesInside g (WasRead e stations kept) old new result Judged
   judged_does built read = does_then (does_under is_at built) filled_ours (reads_does read)
-      (λ a b c bad has filled it. (subst (Fills e a) (sym it.0) filled, verdict_raised e a b rows (option_map row_name bad) has.0 has.1 filled it.1))
+      (λ a b c bad has filled it. (subst (Fills e a) (sym it.0) filled, verdict_raised e a b stations (option_map row_name bad) has.0 has.1.0 filled it.1))

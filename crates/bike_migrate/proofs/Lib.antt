@@ -1,10 +1,13 @@
 mod InsideLemmas
 mod StepLemmas
 mod SpareLemmas
+mod KeptStaysLemmas
+mod KeptTexts
+mod LyingDropLaw
 mod TextLemmas
-mod ReadLemmas
 mod BuildLemmas
 mod FillLemmas
+mod ReadLemmas
 mod VersionLemmas
 mod OperatorLemmas
 mod VerdictLemmas

@@ -1,8 +1,8 @@
 -- The tables at an earlier version are an operator's where, raised, they are its own and no station has too many docks.
-use Rattle.std.proofs.Common.{◌≡◌, ◌≤◌, ℕ, pos, true, List, [], ◌∷◌, map, Option, Some, None, refl, sym, ap, subst, ◌∙◌}
+use Rattle.std.proofs.Common.{◌≡◌, ◌≤◌, ℕ, pos, true, false, IsTrue, List, [], ◌∷◌, map, Option, Some, None, refl, sym, ap, subst, ◌∙◌}
 use Rattle.std.specs.Prelude.{option_map, IfSome}
 use Rattle.std.specs.FinMap as fin
-use Rattle.std.proofs.lemmas.Bool.{leb-true, le-leb}
+use Rattle.std.proofs.lemmas.Bool.{leb-true, le-leb, both_ways}
 use Rattle.sqlite_value.specs.declared.value.Value.TheVariants.{Text}
 use Rattle.sqlite_value.specs.Order.{Row}
 use Rattle.sqlite.specs.Effect.{Database}
@@ -25,13 +25,13 @@ use Rattle.bike_readings.specs.Rules.{AllGood, row_under, IsVerdict}
 use Rattle.bike_readings.proofs.Places.{under_has}
 use Rattle.bike_readings.proofs.RulesLaws.{stored_good}
 use Rattle.bike_recognition.specs.declared.earlier_versions.earlier.Earlier.{Earlier}
-use Rattle.bike_recognition.specs.declared.earlier_versions.earlier.Earlier.TheVariants.{First, Second}
+use Rattle.bike_recognition.specs.declared.earlier_versions.earlier.Earlier.TheVariants.{First, Second, Third}
 use Rattle.bike_recognition.specs.declared.earlier_versions.earlier.TheConstants.{MOST_DOCKS_BEFORE}
-use Rattle.bike_recognition.specs.EarlierVersions.Earlier.{number_of, tables_at}
+use Rattle.bike_recognition.specs.EarlierVersions.Earlier.{number_of, bounds_docks, tables_at}
 use Rattle.bike_recognition.specs.EarlierVersions.Stores.{tables_for_at, HasFewDocks, StoresAt}
 use Rattle.bike_migrate.specs.Raised.{IsEarlier, version_write, tables_raised, IsRaised}
 use Rattle.bike_migrate.specs.Stations.{has_few}
-use Rattle.bike_migrate.specs.Verdicts.{KeepsBound, AllGoodBefore}
+use Rattle.bike_migrate.specs.Verdicts.{KeepsBound, AllGoodAt, IsFirstBadAt}
 use Rattle.bike_migrate.proofs.VersionLemmas.{meta_raised, meta_lowered}
 
 -- ---- the bound of docks
@@ -76,9 +76,22 @@ lowered_meta : (e : Earlier) (db : Database) (s : Operator) (m : Listed) → IsE
     → (tables_at e db).meta ≡ meta_row (number_of e) s.now (cash_of s.entries) (revenue_of s.entries) ∷ []
 lowered_meta First db s m it are = meta_lowered 1 s.now (cash_of s.entries) (revenue_of s.entries) (tables_at First db).meta it.version (ap (λ (t : Tables). t.meta) are)
 lowered_meta Second db s m it are = meta_lowered 2 s.now (cash_of s.entries) (revenue_of s.entries) (tables_at Second db).meta it.version (ap (λ (t : Tables). t.meta) are)
+lowered_meta Third db s m it are = meta_lowered 3 s.now (cash_of s.entries) (revenue_of s.entries) (tables_at Third db).meta it.version (ap (λ (t : Tables). t.meta) are)
 
 pub lowered_for : (e : Earlier) (db : Database) (s : Operator) (m : Listed) → IsEarlier e db → tables_raised e db ≡ tables_for s m → tables_at e db ≡ tables_for_at e s m
 lowered_for e db s m it are = ap (with_rows Meta (tables_at e db).meta) are ∙ ap (λ rows. with_rows Meta rows (tables_for s m)) (lowered_meta e db s m it are)
+
+-- ---- the verdict
+
+all_of : (e : Earlier) (t : Tables) → AllGoodAt e t → AllGood t
+all_of First t good = λ name key. (good name key).good
+all_of Second t good = λ name key. (good name key).good
+all_of Third t good = good
+
+bound_of : (e : Earlier) (t : Tables) → AllGoodAt e t → IsTrue (bounds_docks e) → (key : Row) → KeepsBound t Stations key
+bound_of First t good bounds key = (good Stations key).few
+bound_of Second t good bounds key = (good Stations key).few
+bound_of Third t good bounds key = absurd (both_ways false refl bounds)
 
 -- ---- the operator
 
@@ -88,26 +101,35 @@ module _ (e : Earlier) (old new : Database) (raised : IsRaised e old new) where
   stores_raised s it = record { has = raised.has; sound = it.sound; listed = it.listed; listing = it.listing; tables = raised.tables ∙ raised_for e old s it.listed it.tables }
 
   -- for which it stands, it stood
-  pub stored_before : IsEarlier e old → (s : Operator) → Stores new s → ((key : Row) → KeepsBound (tables_raised e old) Stations key) → StoresAt e old s
+  pub stored_before : IsEarlier e old → (s : Operator) → Stores new s → (IsTrue (bounds_docks e) → (key : Row) → KeepsBound (tables_raised e old) Stations key) → StoresAt e old s
   stored_before was s it bound =
       let are : tables_raised e old ≡ tables_for s it.listed = sym raised.tables ∙ it.tables in
       record {
         is_at = was.is_at;
         sound = it.sound;
-        few_docks = few_of s it.listed (λ id. (found_by_key s it.listed it.sound it.listing).stations id) (λ key. subst (λ t. KeepsBound t Stations key) are (bound key));
+        few_docks = λ bounds. few_of s it.listed (λ id. (found_by_key s it.listed it.sound it.listing).stations id) (λ key. subst (λ t. KeepsBound t Stations key) are (bound bounds key));
         listed = it.listed;
         listing = it.listing;
         tables = lowered_for e old s it.listed was are;
       }
 
   -- where all keys are good, it is the operator's that is read off
-  pub good_stores : IsEarlier e old → AllGoodBefore (tables_raised e old) → (s : Operator) × StoresAt e old s × Stores new s
+  pub good_stores : IsEarlier e old → AllGoodAt e (tables_raised e old) → (s : Operator) × StoresAt e old s × Stores new s
   good_stores was good =
-      let all : IsVerdict (tables_of new) None = subst AllGood (sym raised.tables) (λ name key. (good name key).good) in
+      let all : IsVerdict (tables_of new) None = subst AllGood (sym raised.tables) (all_of e (tables_raised e old) good) in
       let stores = stored_good new raised.has all in
-      (operator_of (tables_of new), stored_before was (operator_of (tables_of new)) stores (λ key. (good Stations key).few), stores)
+      (operator_of (tables_of new), stored_before was (operator_of (tables_of new)) stores (bound_of e (tables_raised e old) good), stores)
 
 -- where it stands for an operator, all keys are good
-pub stored_all_good : (e : Earlier) (old : Database) (s : Operator) → StoresAt e old s → (AllGood (tables_raised e old)) → AllGoodBefore (tables_raised e old)
-stored_all_good e old s it good name key =
-    record { good = good name key; few = subst (λ t. KeepsBound t name key) (sym (raised_for e old s it.listed it.tables)) (bound_kept s it.listed it.few_docks name key) }
+pub stored_all_good : (e : Earlier) (old : Database) (s : Operator) → StoresAt e old s → (AllGood (tables_raised e old)) → AllGoodAt e (tables_raised e old)
+stored_all_good First old s it good = λ name key.
+    record { good = good name key; few = subst (λ t. KeepsBound t name key) (sym (raised_for First old s it.listed it.tables)) (bound_kept s it.listed (it.few_docks refl) name key) }
+stored_all_good Second old s it good = λ name key.
+    record { good = good name key; few = subst (λ t. KeepsBound t name key) (sym (raised_for Second old s it.listed it.tables)) (bound_kept s it.listed (it.few_docks refl) name key) }
+stored_all_good Third old s it good = good
+
+-- then none is bad
+pub none_bad : (e : Earlier) (t : Tables) (name : TableName) (key : Row) → AllGoodAt e t → IsFirstBadAt e t name key → ⊥
+none_bad First t name key good bad = bad.bad (good name key)
+none_bad Second t name key good bad = bad.bad (good name key)
+none_bad Third t name key good bad = bad.bad (good name key)

@@ -14,15 +14,14 @@ use Rattle.bike_schema.specs.declared.fault.StatementFault.TheVariants as statem
 use Rattle.bike_readings.specs.ReadOff.{operator_of}
 use Rattle.bike_readings.specs.Rules.{AllGood}
 use Rattle.bike_readings.proofs.RulesLaws.{of_are_good, stored_good, stored_bad}
-use Rattle.bike_audit.specs.Audit.{row_name, IsBadIn}
+use Rattle.bike_audit.specs.Audit.{row_name, IsAudited}
+use Rattle.bike_audit.specs.declared.finding.Finding.TheVariants as finding
 use Rattle.bike_recognition.specs.declared.earlier_versions.earlier.Earlier.{Earlier}
 use Rattle.bike_recognition.specs.declared.earlier_versions.found.Found.{Found}
 use Rattle.bike_recognition.specs.declared.earlier_versions.found.Found.TheVariants as found
 use Rattle.bike_recognition.specs.EarlierVersions.Found.{IsFoundAs}
 use Rattle.bike_recognition.specs.EarlierVersions.Stores.{StoresAt, StandsForAt, TreesStandForAt}
-use Rattle.bike_recognition.specs.declared.recognition.Recognition.TheVariants as recognition
 use Rattle.bike_audit.proofs.KeepLemmas.{Settles, stands_in}
-use Rattle.bike_audit.proofs.FoundLemmas.{ours_there}
 use Rattle.bike_migrate.specs.Raised.{OthersKept, tables_raised, Raises}
 use Rattle.bike_migrate.specs.Raising.{Holds, IsUnsoundAt, IsUnsound, MayCommitAny, TreesStandSince, failed, IsAsBefore, IsRaisedFrom, IsReady, IsToldBy, IsOutcome, ComesTo, IsWantFor, IsOutsideFor}
 use Rattle.bike_migrate.specs.Raising.{IsRaise}
@@ -30,7 +29,7 @@ use Rattle.bike_migrate.specs.declared.fault.RaiseCause.{RaiseCause}
 use Rattle.bike_migrate.specs.declared.fault.RaiseCause.TheVariants as cause
 use Rattle.bike_migrate.specs.declared.fault.UnsoundRow.{UnsoundRow}
 use Rattle.bike_migrate.proofs.FoundLemmas.{found_earlier, found_none, never_both, one_earlier}
-use Rattle.bike_migrate.proofs.OperatorLemmas.{raised_for, stores_raised, good_stores, stored_all_good}
+use Rattle.bike_migrate.proofs.OperatorLemmas.{raised_for, stores_raised, good_stores, stored_all_good, none_bad}
 use Rattle.bike_migrate.proofs.StandsLemmas.{stands_here, found_empty, IsFoundOf, Nothing, Whole, Before, found_there}
 
 same_of : (e f : Earlier) → found.Of e ≡ found.Of f → e ≡ f
@@ -43,10 +42,9 @@ all_good e db s it = of_are_good (tables_raised e db) s it.listed (record { soun
 unsound_never : (db : Database) (v : Option Earlier) (s : Operator) → StandsForAt v db s → (bad : UnsoundRow) → IsUnsound db bad → ⊥
 unsound_never db v s stands bad = by bad.earlier
   where
-    newest : IsFoundOf db found.Newest s → IsBadIn db bad.row → ⊥
+    newest : IsFoundOf db found.Newest s → IsAudited db (finding.Unsound bad.row) → ⊥
     newest (Nothing none nobody is) it = cc
-    newest (Whole stores is) (inl it) = stored_bad db (row_name bad.row) it.1.1 s stores
-    newest (Whole stores is) (inr it) = let never = ours_there db s stores recognition.Doubled it.0 in cc
+    newest (Whole stores is) it = stored_bad db (row_name bad.row) it.1.1 s stores
     newest (Before e stores is) it = cc
 
     by : (w : Option Earlier) → IsUnsoundAt db w bad.row → ⊥
@@ -58,7 +56,7 @@ unsound_never db v s stands bad = by bad.earlier
         earlier (Whole stores is) = cc
         earlier (Before f stores is) =
             let here : StoresAt e db s = subst (λ x. StoresAt x db s) (sym (same_of e f is)) stores in
-            it.1.bad (stored_all_good e db s here (all_good e db s here) (row_name bad.row).0 (row_name bad.row).1)
+            none_bad e (tables_raised e db) (row_name bad.row).0 (row_name bad.row).1 (stored_all_good e db s here (all_good e db s here)) it.1
 
 module _ {S : Type 0} (g : Ghosts S) (settles : Settles g) (old : Held S) (settled : IsTrue (state g old).is_open → (state g old).now ≡ (state g old).committed) (live : IsLive (state g old))
     (new : Held S) where

@@ -14,9 +14,9 @@ use Rattle.bike_sql.proofs.ReadLemmas.{query_stopped}
 use Rattle.bike_sql.proofs.WalkLaw.{answers_all}
 use Rattle.bike_sql.specs.Stands.{Stands}
 use Rattle.bike_recognition.specs.declared.earlier_versions.earlier.Earlier.{Earlier}
-use Rattle.bike_recognition.specs.declared.earlier_versions.earlier.Earlier.TheVariants.{First, Second}
+use Rattle.bike_recognition.specs.declared.earlier_versions.earlier.Earlier.TheVariants.{First, Second, Third}
 use Rattle.bike_recognition.specs.EarlierVersions.Earlier.{stations_layout}
-use Rattle.bike_migrate.specs.Raised.{old_stations}
+use Rattle.bike_migrate.proofs.FillLemmas.{all_stations}
 use Rattle.bike_migrate.specs.Stations.{AsksRows}
 
 module _ {S : Type 0} (g : Ghosts S) (P : Database → Type 0) (all : Database → List Row) (text : List ℕ) (params : Row) (one : (db : Database) → P db → HasOneAnswer db text params (all db))
@@ -51,7 +51,18 @@ module _ {S : Type 0} (g : Ghosts S) (P : Database → Type 0) (all : Database �
     quiet = quiet mode s;
   }
 
--- the old stations
-pub asks_old : (e : Earlier) (text : List ℕ) → AsksRows (stations_layout e) text → (db : Database) → Stands db 1 (stations_layout e) → HasOneAnswer db text [] (old_stations e db)
+-- all rows of a table of stations
+pub asks_old : (e : Earlier) (text : List ℕ) → AsksRows (stations_layout e) text → (db : Database) → Stands db 1 (stations_layout e) → HasOneAnswer db text [] (all_stations e db)
 asks_old First text asks db was = asks db was
 asks_old Second text asks db was = asks db was
+asks_old Third text asks db was = asks db was
+
+-- a read where more was known
+pub reads_under : {S X E : Type 0} {g : Ghosts S} {P Q : Database → Type 0} {old new : Held S} {result : Result X E} {says : Database → X → Type 0} → ((db : Database) → Q db → P db)
+    → ReadsWhere g P old new result says → ReadsWhere g Q old new result says
+reads_under {g = g} {old = old} {new = new} tells it = record {
+  found = λ clean has. it.found clean (tells _ has);
+  same = λ clean has. it.same clean (tells _ has);
+  failed = λ clean has. it.failed clean (tells _ has);
+  quiet = record { mode = it.quiet.mode; survives = survives_weaker (state g old) (state g new) _ _ (λ clean db none has. none (tells _ has)) it.quiet.survives };
+}

@@ -159,9 +159,9 @@ module _ (layout : Layout) (keys : ℕ) (old new : State) (was : Stands old.now 
 
 -- ---- DROP TABLE
 
-module _ (layout : Layout) (keys : ℕ) (old new : Database) (was : Stands old keys layout) (it : Drops layout.name was.tree old new) where
+module _ (layout : Layout) (old new : Database) (here tree : ℕ) (there : HasTable old.schema here (table_of layout tree)) (it : Drops layout.name tree old new) where
   abbrev stay : Table → Bool
-  stay t = not (t.tree == was.tree)
+  stay t = not (t.tree == tree)
 
   abbrev fewer : List Table
   fewer = filter stay old.schema.tables
@@ -173,7 +173,7 @@ module _ (layout : Layout) (keys : ℕ) (old new : Database) (was : Stands old k
   spared at t has other =
       let called = λ (u : Table). same_name u.name t.name in
       let in_tree = λ (u : Table). u.tree == t.tree in
-      let kept : stay t ≡ true = ap not (ne_eqb t.tree was.tree (trees_apart old.schema was.at at (table_of layout was.tree) t was.has has (or_parts (is_same_text t.name layout.name) false other).0)) in
+      let kept : stay t ≡ true = ap not (ne_eqb t.tree tree (trees_apart old.schema here at (table_of layout tree) t there has (or_parts (is_same_text t.name layout.name) false other).0)) in
       let place = first_kept called stay 0 0 old.schema.tables at t (has.found ∙ ap Some (omega arith)) has.there (same_itself t.name) kept in
       let found : unwrap_or (option_map stay (find in_tree old.schema.tables)) true ≡ true = ap (λ o. unwrap_or (option_map stay o) true) has.by_tree ∙ kept in
       record {
@@ -188,7 +188,7 @@ module _ (layout : Layout) (keys : ℕ) (old new : Database) (was : Stands old k
             all_at (λ (u : Table). new.trees u.tree ≡ old.trees u.tree) fewer place.0 t
             (subst (λ ts. AllByRecursion (λ (u : Table). new.trees u.tree ≡ old.trees u.tree) ts) tables_are it.rows) place.2;
         indexes = λ i listed on. subst (λ (s : Schema). Has s.indexes i) (sym it.schema)
-            (filter_has (λ (j : Index). not (j.table == was.tree)) old.schema.indexes i listed (ap (λ n. not (n == was.tree)) on ∙ kept));
+            (filter_has (λ (j : Index). not (j.table == tree)) old.schema.indexes i listed (ap (λ n. not (n == tree)) on ∙ kept));
       }
 
   pub spares_dropping : Spares (layout.name ∷ []) old new

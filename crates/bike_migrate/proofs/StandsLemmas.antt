@@ -14,7 +14,7 @@ use Rattle.bike_operator.specs.Operator.{Operator, no_operator}
 use Rattle.bike_book.specs.declared.version.TheConstants.{NEWEST}
 use Rattle.bike_book.specs.Tables.{TableName, Tables, Meta, keys_of}
 use Rattle.bike_book.proofs.LedgerRows.{meta_found}
-use Rattle.bike_schema.specs.Layouts.{layout_in, name_of}
+use Rattle.bike_schema.specs.Layouts.{layout_of, name_of}
 use Rattle.bike_schema.specs.Stands.{Stores, IsOf}
 use Rattle.bike_schema.specs.Tables.{tables_of, HasTables, HasNone}
 use Rattle.bike_schema.proofs.MakesLemmas.{rows_of_table}
@@ -22,9 +22,11 @@ use Rattle.bike_recognition.specs.Recognition.{TableStands, meta_version, versio
 use Rattle.bike_recognition.specs.declared.version.MetaVersion.{MetaVersion}
 use Rattle.bike_recognition.specs.declared.version.MetaVersion.TheVariants.{Version}
 use Rattle.bike_recognition.specs.declared.earlier_versions.earlier.Earlier.{Earlier}
-use Rattle.bike_recognition.specs.declared.earlier_versions.earlier.Earlier.TheVariants.{First, Second}
+use Rattle.bike_recognition.specs.declared.earlier_versions.earlier.Earlier.TheVariants.{First, Second, Third}
 use Rattle.bike_recognition.specs.declared.earlier_versions.found.Found.{Found}
 use Rattle.bike_recognition.specs.declared.earlier_versions.found.Found.TheVariants as found
+use Rattle.bike_recognition.specs.Wanted.{Lies}
+use Rattle.bike_recognition.specs.EarlierVersions.Kept.{kept_layout, KeptLies}
 use Rattle.bike_recognition.specs.EarlierVersions.Earlier.{layout_at, tables_at, AreNewerFree, IsAt}
 use Rattle.bike_recognition.specs.EarlierVersions.Found.{IsNewest, IsOfEarlier, IsByVersion, IsFoundAs}
 use Rattle.bike_recognition.specs.EarlierVersions.Stores.{StoresAt, StandsForAt, TreesStandForAt}
@@ -51,18 +53,26 @@ module _ (a b : Schema) (trees : Trees) (same : a.tables ≡ b.tables) where
   across : (keys : ℕ) (layout : Layout) → Stands (with_schema a trees) keys layout → Stands (with_schema b trees) keys layout
   across keys layout it = of_bare b keys layout (subst (λ ts. Stands (bare ts trees) keys layout) same (to_bare a keys layout it))
 
-  table_across : (t : TableName) → Stands (with_schema a trees) (keys_of t) (layout_in a t) → Stands (with_schema b trees) (keys_of t) (layout_in b t)
-  table_across t it = of_bare b (keys_of t) (layout_in b t) (subst (λ ts. Stands (bare ts trees) (keys_of t) (layout_in (bare ts trees).schema t)) same (to_bare a (keys_of t) (layout_in a t) it))
+  lies_bare : (s : Schema) (layout : Layout) → Lies (with_schema s trees) layout → Lies (bare s.tables trees) layout
+  lies_bare s layout it =
+      record { at = it.at; tree = it.tree; has = record { found = it.has.found; there = it.has.there; by_tree = it.has.by_tree; stored = it.has.stored }; unreferred = it.unreferred; apart = it.apart }
 
-  at_across : (e : Earlier) (t : TableName) → Stands (with_schema a trees) (keys_of t) (layout_at e a t) → Stands (with_schema b trees) (keys_of t) (layout_at e b t)
-  at_across e t it = of_bare b (keys_of t) (layout_at e b t) (subst (λ ts. Stands (bare ts trees) (keys_of t) (layout_at e (bare ts trees).schema t)) same (to_bare a (keys_of t) (layout_at e a t) it))
+  bare_lies : (s : Schema) (layout : Layout) → Lies (bare s.tables trees) layout → Lies (with_schema s trees) layout
+  bare_lies s layout it =
+      record { at = it.at; tree = it.tree; has = record { found = it.has.found; there = it.has.there; by_tree = it.has.by_tree; stored = it.has.stored }; unreferred = it.unreferred; apart = it.apart }
+
+  kept_across : KeptLies (with_schema a trees) → KeptLies (with_schema b trees)
+  kept_across it = record {
+    keyed = it.keyed;
+    lies = bare_lies b (kept_layout it.keyed) (subst (λ ts. Lies (bare ts trees) (kept_layout it.keyed)) same (lies_bare a (kept_layout it.keyed) it.lies));
+  }
 
   none_across : HasNone a → HasNone b
   none_across none = subst (λ ts. HasNone (record { tables = ts; indexes = []; views = [] })) same none
 
   stores_across : (s : Operator) → Stores (with_schema a trees) s → Stores (with_schema b trees) s
   stores_across s it = record {
-    has = λ t. table_across t (it.has t);
+    has = λ t. across (keys_of t) (layout_of t) (it.has t);
     sound = it.sound;
     listed = it.listed;
     listing = it.listing;
@@ -76,15 +86,18 @@ module _ (a b : Schema) (trees : Trees) (same : a.tables ≡ b.tables) where
   free_across : (e : Earlier) → AreNewerFree e a → AreNewerFree e b
   free_across First free = subst (λ ts. AreNewerFree First (record { tables = ts; indexes = []; views = [] })) same free
   free_across Second free = subst (λ ts. AreNewerFree Second (record { tables = ts; indexes = []; views = [] })) same free
+  free_across Third free = subst (λ ts. AreNewerFree Third (record { tables = ts; indexes = []; views = [] })) same free
 
   tables_across : (e : Earlier) → tables_at e (with_schema b trees) ≡ tables_at e (with_schema a trees)
   tables_across First = ap (λ ts. tables_at First (bare ts trees)) (sym same)
   tables_across Second = ap (λ ts. tables_at Second (bare ts trees)) (sym same)
+  tables_across Third = ap (λ ts. tables_at Third (bare ts trees)) (sym same)
 
   stores_at_across : (e : Earlier) (s : Operator) → StoresAt e (with_schema a trees) s → StoresAt e (with_schema b trees) s
   stores_at_across e s it = record {
     is_at = record {
-      has = λ t. record { stands = λ has. at_across e t ((it.is_at.has t).stands has) };
+      has = λ t. record { stands = λ has. across (keys_of t) (layout_at e t) ((it.is_at.has t).stands has) };
+      kept = kept_across it.is_at.kept;
       free = free_across e it.is_at.free;
     };
     sound = it.sound;
@@ -110,7 +123,7 @@ found_empty db f none (inr it) = absurd (it.0 none)
 module _ (db : Database) (f : Found) where
   newest_is : HasTables db → IsNewest db f → f ≡ found.Newest
   newest_is has (inl it) = it.1
-  newest_is has (inr it) = absurd (it.0 (inl has))
+  newest_is has (inr it) = absurd (it.0 has)
 
   earlier_is : (e : Earlier) → IsAt e db → IsOfEarlier db (Some e) f → f ≡ found.Of e
   earlier_is e at (inl it) = it.1
@@ -138,9 +151,14 @@ module _ (db : Database) (f : Found) where
   second_told s it =
       ap (λ (t : Tables). version_in (row_with 1 (Int (pos 1) ∷ []) t.meta)) it.tables ∙ ap version_in (meta_found 2 s.now (cash_of s.entries) (revenue_of s.entries))
 
+  third_told : (s : Operator) → StoresAt Third db s → meta_version db ≡ Version 3
+  third_told s it =
+      ap (λ (t : Tables). version_in (row_with 1 (Int (pos 1) ∷ []) t.meta)) it.tables ∙ ap version_in (meta_found 3 s.now (cash_of s.entries) (revenue_of s.entries))
+
   found_of : (e : Earlier) (s : Operator) → StoresAt e db s → IsFoundAs db f → f ≡ found.Of e
   found_of First s it is = earlier_is First it.is_at (by_told (Version 1) ((it.is_at.has Meta).stands refl) (first_told s it) is)
   found_of Second s it is = earlier_is Second it.is_at (by_told (Version 2) ((it.is_at.has Meta).stands refl) (second_told s it) is)
+  found_of Third s it is = earlier_is Third it.is_at (by_told (Version 3) ((it.is_at.has Meta).stands refl) (third_told s it) is)
 
 -- what a database is found to be that stands at a version
 pub data IsFoundOf (db : Database) (f : Found) (s : Operator) : Type 0 where

@@ -1,5 +1,5 @@
 -- What the statements do to a database.
-use Rattle.std.proofs.Common.{◌≡◌, ℕ, true, false, List, [], ◌∷◌, map, length, get_or, zero, suc, ◌+◌, ◌<◌, ◌≤◌, arith, codes, None, Some, Ok, refl, sym, ap, ap₂, subst, ◌∙◌, inl, inr}
+use Rattle.std.proofs.Common.{◌≡◌, ℕ, Bool, true, false, List, [], ◌∷◌, map, length, drop, get_or, zero, suc, ◌+◌, ◌<◌, ◌≤◌, arith, codes, ℤ, pos, None, Some, Ok, refl, sym, ap, ap₂, subst, ◌∙◌, inl, inr}
 use Rattle.std.specs.List.{list_all, range_with_len, zip}
 use Rattle.std.proofs.lemmas.List.{length-map, get_or-map}
 use Rattle.std.proofs.lemmas.Simd.{map-map}
@@ -52,10 +52,10 @@ use Rattle.bike_sql.proofs.KeyLemmas.{IsKeyAt}
 use Rattle.bike_sql.proofs.WriteLaws.{row_put, row_updated, row_terms, width}
 use Rattle.bike_book.specs.declared.columns.stations.TheConstants as stations
 use Rattle.bike_book.specs.declared.version.TheConstants.{NEWEST}
-use Rattle.bike_book.specs.Tables.{TableName, Meta, Stations, MoreNames, keys_of}
+use Rattle.bike_book.specs.Tables.{TableName, Meta, Stations, History, MoreNames, keys_of}
 use Rattle.bike_book.specs.Rows.{number_value}
 use Rattle.bike_book.specs.Writes.{Add}
-use Rattle.bike_schema.specs.Calls.{WasFree, Admits}
+use Rattle.bike_schema.specs.Calls.{WasFree}
 use Rattle.bike_schema.specs.Layouts.{layout_of, name_of}
 use Rattle.bike_schema.specs.Makes.{Puts}
 use Rattle.bike_schema.specs.Tables.{IsOurs, tables_of, is_parent}
@@ -66,17 +66,23 @@ use Rattle.bike_schema.proofs.MakeTexts.{IsOnlyCreate, understood_as}
 use Rattle.bike_schema.proofs.MakesLemmas.{adds_row, sets_columns}
 use Rattle.bike_recognition.specs.Recognition.{TableStands}
 use Rattle.bike_recognition.specs.declared.earlier_versions.earlier.Earlier.{Earlier}
-use Rattle.bike_recognition.specs.declared.earlier_versions.earlier.Earlier.TheVariants.{First, Second}
+use Rattle.bike_recognition.specs.declared.earlier_versions.earlier.Earlier.TheVariants.{First, Second, Third}
 use Rattle.bike_recognition.specs.EarlierVersions.Earlier.{stations_name, stations_layout}
-use Rattle.bike_migrate.specs.Raised.{MakesTable, MakesIndex, filled_names, WritesOnly, DropsStations, version_write}
-use Rattle.bike_migrate.specs.Stations.{station_row, may_hold, IsStationRow, AsksRows}
+use Rattle.bike_migrate.specs.Raised.{MakesTable, MakesIndex, station_names, version_names, request_names, request_row, WritesOnly, DropsTable, version_write}
+use Rattle.bike_migrate.specs.Stations.{station_row, may_hold, IsStationRow, IsRequestRow, AsksRows}
 use Rattle.bike_schema.proofs.MakeLemmas.{adds}
 use Rattle.bike_schema.proofs.GrowthLemmas.{still_unnamed, made_stands, made_empty, all_stay}
 use Rattle.bike_sql.proofs.IndexLaw as index
-use Rattle.bike_schema.specs.declared.indexes.TheConstants.{MORE_NAMES_BY_LANGUAGE, MORE_NAMES_BY_THING}
-use Rattle.bike_schema.specs.Indexes.{TableIndex, more_names_by_language, more_names_by_thing}
+use Rattle.bike_schema.specs.declared.indexes.TheConstants.{MORE_NAMES_BY_LANGUAGE, MORE_NAMES_BY_THING, HISTORY_BY_KEY}
+use Rattle.bike_schema.specs.Indexes.{TableIndex, more_names_by_language, more_names_by_thing, history_by_key}
 use Rattle.bike_schema.proofs.IndexLemmas.{Tells, index_added, index_there}
 use Rattle.bike_migrate.proofs.SpareLemmas.{spares_less, among_first, among_rest, spares_making, spares_indexing, spares_inserting, spares_updating, spares_dropping}
+use Rattle.bike_migrate.proofs.KeptStaysLemmas.{kept_beside, kept_indexed, kept_written}
+use Rattle.bike_migrate.proofs.KeptTexts.{kept_drops}
+use Rattle.bike_migrate.proofs.LyingDropLaw.{lying_dropped}
+use Rattle.bike_sql.proofs.DropLaw.{still_free}
+use Rattle.bike_recognition.specs.Wanted.{Lies}
+use Rattle.bike_recognition.specs.EarlierVersions.Kept.{kept_name, kept_layout, KeptLies}
 
 -- ---- texts that write
 
@@ -100,29 +106,37 @@ create_write text only old new count h =
 pub creates : (t : TableName) (old new : State) → is_parent old.now.schema (name_of t) ≡ false → (count : ℕ) → Executes (text_of t) [] old new (Ok count) → MakesTable t old.now new.now
 creates t old new unnamed count ran =
     let it = adds (text_of t) (layout_of t) (declared t) old new count ran in
+    let spared = spares_making (text_of t) old new count (create_write (text_of t) (declared t).only old new count ran) in
     record {
       sound = it.sound;
       stands = made_stands (layout_of t) old.now new.now it (keys_of t) unnamed;
       no_rows = made_empty (layout_of t) old.now new.now it (keys_of t) unnamed;
       unnamed = still_unnamed (layout_of t) old.now new.now it;
       stays = all_stay (layout_of t) old.now new.now it;
-      spares = spares_making (text_of t) old new count (create_write (text_of t) (declared t).only old new count ran);
+      spares = spared;
+      kept = kept_beside (layout_of t) old.now new.now it spared;
     }
 
 -- ---- CREATE INDEX
 
--- the statements that make the indexes of further names, by their languages and by what they name
+-- the statements that make the indexes of further names, by their languages and by what they name, and that of the history
 abbrev pub language_text : List ℕ
 language_text = MORE_NAMES_BY_LANGUAGE.now
 
 abbrev pub thing_text : List ℕ
 thing_text = MORE_NAMES_BY_THING.now
 
+abbrev pub by_key_text : List ℕ
+by_key_text = HISTORY_BY_KEY.now
+
 pub language_only : IsOnlyIndex (first language_text)
 language_only = index_only.1.1.1.0
 
 pub thing_only : IsOnlyIndex (first thing_text)
 thing_only = index_only.1.1.1.1.0
+
+pub by_key_only : IsOnlyIndex (first by_key_text)
+by_key_only = index_only.1.1.1.1.1.0
 
 pub index_writes : (text : List ℕ) → IsOnlyIndex (first text) → (s : Schema) → IsWriteIn s text
 index_writes text only s c is = subst IsWrite (sym (index.understood_as text only s c is).makes.1) tt
@@ -132,10 +146,13 @@ makes_index : (text : List ℕ) (i : TableIndex) → IsOnlyIndex (first text) �
     → Executes text [] old new (Ok count) → MakesIndex i old.now new.now
 makes_index text i only tells old new was count ran =
     let it = index_added (name_of i.table) text tells.only old new count ran in
+    let made = index.index_made text only old new count ran in
+    let spared = spares_indexing (name_of i.table) text old.now new.now it in
     record {
-      indexes = index.index_made text only old new count ran;
+      indexes = made;
       has = index_there text i tells old.now new.now was.at was.tree was.has it;
-      spares = spares_indexing (name_of i.table) text old.now new.now it;
+      spares = spared;
+      kept = kept_indexed old.now new.now made spared;
     }
 
 pub makes_language : (old new : State) → TableStands MoreNames old.now → (count : ℕ) → Executes language_text [] old new (Ok count) → MakesIndex more_names_by_language old.now new.now
@@ -143,6 +160,9 @@ makes_language = makes_index language_text more_names_by_language language_only 
 
 pub makes_thing : (old new : State) → TableStands MoreNames old.now → (count : ℕ) → Executes thing_text [] old new (Ok count) → MakesIndex more_names_by_thing old.now new.now
 makes_thing = makes_index thing_text more_names_by_thing thing_only each_told.1.1.1.1.0
+
+pub makes_by_key : (old new : State) → TableStands History old.now → (count : ℕ) → Executes by_key_text [] old new (Ok count) → MakesIndex history_by_key old.now new.now
+makes_by_key = makes_index by_key_text history_by_key by_key_only each_told.1.1.1.1.1.0
 
 -- ---- UPDATE of the version
 
@@ -159,21 +179,18 @@ updates_version = (λ tree. (refl, refl, refl), refl)
 pub version_writes : (db : Database) → IsOurs db → IsWriteIn db.schema version_text
 version_writes db ours = let it = ours.has Meta in means_writes db.schema version_text _ (update_means version_query (layout_of Meta) version_text updates_version db.schema it.at it.tree it.has).0 tt
 
-pub sets_version : Does (Admits version_write) (λ db. WasFree version_write (tables_of db)) (Puts (version_write ∷ [])) version_text (number_value 1 ∷ number_value NEWEST ∷ [])
+pub sets_version : Does IsOurs (λ db. WasFree version_write (tables_of db)) (Puts (version_write ∷ [])) version_text (number_value 1 ∷ number_value NEWEST ∷ [])
 unfolding everything
-sets_version = sets_columns Meta _ _ (λ s. row_updated (unique_key Meta) 0 ((2, 1) ∷ []) _ (λ tree. (refl, refl, refl), refl) refl refl refl (λ r. refl) (λ r. refl))
+sets_version = sets_columns Meta _ _ (row_updated (unique_key Meta) 0 ((2, 1) ∷ []) _ (λ tree. (refl, refl, refl), refl) refl refl refl (λ r. refl) (λ r. refl))
 
 -- the version is set, and nothing else
 pub version_set : (old new : State) → IsOurs old.now → (count : ℕ) → ExecutesInside 0 version_text (number_value 1 ∷ number_value NEWEST ∷ []) old new (Ok count)
-    → WritesOnly (version_write ∷ []) old.now new.now
+    → WritesOnly version_names (version_write ∷ []) old.now new.now
 version_set old new ours count ran =
     let it = ours.has Meta in
-    record {
-      makes = (sets_version.does old new (ours, tt) (Ok count) ran).0.makes;
-      spares = spares_less filled_names (name_of Meta ∷ []) old.now new.now (among_first (name_of Meta) (name_of Stations ∷ []))
-          (spares_updating (layout_of Meta) (keys_of Meta) old new it version_text _ count _
-          (update_means version_query (layout_of Meta) version_text updates_version old.now.schema it.at it.tree it.has) ran.0);
-    }
+    let made = (sets_version.does old new ours (Ok count) ran).0.makes in
+    let spared = spares_updating (layout_of Meta) (keys_of Meta) old new it version_text _ count _ (update_means version_query (layout_of Meta) version_text updates_version old.now.schema it.at it.tree it.has) ran.0 in
+    record { makes = made; spares = spared; kept = kept_written version_names (version_write ∷ []) old.now new.now made spared refl }
 
 -- ---- INSERT of a station
 
@@ -238,23 +255,71 @@ bound_all cs vs h = absurd (let e = h in cc)
 pub station_bound : (row : Row) → IsStationRow row → map bound_value (station_row row) ≡ station_row row
 station_bound row it = bound_all (layout_of Stations).columns (station_row row) (station_suits row it)
 
-pub adds_station : (row : Row) → IsStationRow row → Does (Admits (Add Stations (station_row row))) (λ db. WasFree (Add Stations (station_row row)) (tables_of db))
+pub adds_station : (row : Row) → IsStationRow row → Does IsOurs (λ db. WasFree (Add Stations (station_row row)) (tables_of db))
     (Puts (Add Stations (station_row row) ∷ [])) station_text (station_row row)
 unfolding everything
-adds_station row it = let suit = station_suits row it in adds_row Stations (λ s. row_put (unique_key Stations) inserts_station refl suit (λ rows. refl))
+adds_station row it = let suit = station_suits row it in adds_row Stations (row_put (unique_key Stations) inserts_station refl suit (λ rows. refl))
 
 -- the station is added, and nothing else
 pub station_added : (row : Row) → IsStationRow row → (old new : State) → IsOurs old.now → (count : ℕ) → ExecutesInside 0 station_text (station_row row) old new (Ok count)
-    → WritesOnly (Add Stations (station_row row) ∷ []) old.now new.now
+    → WritesOnly station_names (Add Stations (station_row row) ∷ []) old.now new.now
 station_added row suits old new ours count ran =
     let it = ours.has Stations in
     let values = Values (row_terms (layout_of Stations)) (width (layout_of Stations)) in
-    record {
-      makes = ((adds_station row suits).does old new (ours, λ is. absurd cc) (Ok count) ran).0.makes;
-      spares = spares_less filled_names (name_of Stations ∷ []) old.now new.now (among_rest (name_of Meta) (name_of Stations ∷ []))
-          (spares_inserting (layout_of Stations) (keys_of Stations) old new it station_text (station_row row) count (width (layout_of Stations)) (row_terms (layout_of Stations))
-          (insert_is old.now.schema it.at (table_of (layout_of Stations) it.tree) it.has station_text values (inserts_station old.now.schema it.tree)) ran.0);
-    }
+    let made = ((adds_station row suits).does old new ours (Ok count) ran).0.makes in
+    let spared = spares_less station_names (name_of Stations ∷ []) old.now new.now (among_rest (name_of Meta) (name_of Stations ∷ []))
+    (spares_inserting (layout_of Stations) (keys_of Stations) old new it station_text (station_row row) count (width (layout_of Stations)) (row_terms (layout_of Stations))
+    (insert_is old.now.schema it.at (table_of (layout_of Stations) it.tree) it.has station_text values (inserts_station old.now.schema it.tree)) ran.0) in
+    record { makes = made; spares = spared; kept = kept_written station_names (Add Stations (station_row row) ∷ []) old.now new.now made spared refl }
+
+-- ---- INSERT of a request
+
+abbrev pub request_text : List ℕ
+request_text = insert_text History
+
+inserts_request : (s : Schema) (tree : ℕ) → IsInsert s (table_of (layout_of History) tree) (first request_text) (Values (row_terms (layout_of History)) (width (layout_of History)))
+unfolding everything
+inserts_request s tree = (refl, refl, refl, λ base. refl)
+
+pub request_writes : (db : Database) → IsOurs db → IsWriteIn db.schema request_text
+request_writes db ours =
+    let it = ours.has History in
+    means_writes db.schema request_text _ (insert_is db.schema it.at (table_of (layout_of History) it.tree) it.has request_text (Values (row_terms (layout_of History)) (width (layout_of History)))
+    (inserts_request db.schema it.tree)).0 tt
+
+-- the columns of its texts
+abbrev text_columns : List Column
+text_columns = drop 2 (layout_of History).columns
+
+texts_suit : (row : Row) → IsRequestRow row → suit_all text_columns (map (column row) (range_with_len 0 4)) ≡ true
+texts_suit row it = all_suit text_columns row 0 it
+
+request_suits : (number : ℕ) (row : Row) → IsRequestRow row → suit_all (layout_of History).columns (request_row (number, row)) ≡ true
+request_suits number row it = texts_suit row it
+
+pub request_bound : (number : ℕ) (row : Row) → IsRequestRow row → map bound_value (request_row (number, row)) ≡ request_row (number, row)
+request_bound number row it = bound_all (layout_of History).columns (request_row (number, row)) (request_suits number row it)
+
+-- a call that binds the number, moment 0 and the row's columns binds that row
+pub request_values : (number : ℕ) (n : ℤ) (a b c d : Value) (row : Row) → n ≡ pos number → a ≡ column row 0 → b ≡ column row 1 → c ≡ column row 2 → d ≡ column row 3 → IsRequestRow row
+    → ◌≡◌ {A = Row} (Int n ∷ Int (pos 0) ∷ bound_value a ∷ bound_value b ∷ bound_value c ∷ bound_value d ∷ []) (request_row (number, row))
+request_values number n a b c d row p i j k l it = rw (p, i, j, k, l) (request_bound number row it)
+
+pub adds_request : (number : ℕ) (row : Row) → IsRequestRow row → Does IsOurs (λ db. WasFree (Add History (request_row (number, row))) (tables_of db))
+    (Puts (Add History (request_row (number, row)) ∷ [])) request_text (request_row (number, row))
+unfolding everything
+adds_request number row it = let suit = texts_suit row it in adds_row History (row_put (unique_key History) inserts_request refl suit (λ rows. refl))
+
+-- the request is added, and nothing else
+pub request_added : (number : ℕ) (row : Row) → IsRequestRow row → (old new : State) → IsOurs old.now → (count : ℕ) → ExecutesInside 0 request_text (request_row (number, row)) old new (Ok count)
+    → WritesOnly request_names (Add History (request_row (number, row)) ∷ []) old.now new.now
+request_added number row suits old new ours count ran =
+    let it = ours.has History in
+    let values = Values (row_terms (layout_of History)) (width (layout_of History)) in
+    let made = ((adds_request number row suits).does old new ours (Ok count) ran).0.makes in
+    let spared = spares_inserting (layout_of History) (keys_of History) old new it request_text (request_row (number, row)) count (width (layout_of History)) (row_terms (layout_of History))
+    (insert_is old.now.schema it.at (table_of (layout_of History) it.tree) it.has request_text values (inserts_request old.now.schema it.tree)) ran.0 in
+    record { makes = made; spares = spared; kept = kept_written request_names (Add History (request_row (number, row)) ∷ []) old.now new.now made spared refl }
 
 -- ---- DROP
 
@@ -267,15 +332,73 @@ drop_writes e text is db was c understood_is = elim (drop_means db.schema was.at
     found : (e : Earlier) (was : Stands db 1 (stations_layout e)) → table_named db.schema (stations_name e) ≡ Some was.at
     found First was = was.has.found
     found Second was = was.has.found
+    found Third was = was.has.found
 
 pub drops : (e : Earlier) (text : List ℕ) → IsDrop (first text) (stations_name e) → (old new : State) → IsDatabase old.now → Stands old.now 1 (stations_layout e) → (count : ℕ)
-    → Executes text [] old new (Ok count) → DropsStations e old.now new.now
+    → Executes text [] old new (Ok count) → DropsTable (stations_name e) old.now new.now
 drops First text is old new sound was count ran =
     let it = table_dropped text 1 (stations_layout First) is old new sound was count ran in
-    record { sound = it.sound; gone = it.free; others = it.others; spares = spares_dropping (stations_layout First) 1 old.now new.now was it }
+    record {
+      sound = it.sound;
+      gone = it.free;
+      frees = still_free (stations_name First) was.tree old.now new.now it;
+      others = it.others;
+      spares = spares_dropping (stations_layout First) old.now new.now was.at was.tree was.has it;
+    }
 drops Second text is old new sound was count ran =
     let it = table_dropped text 1 (stations_layout Second) is old new sound was count ran in
-    record { sound = it.sound; gone = it.free; others = it.others; spares = spares_dropping (stations_layout Second) 1 old.now new.now was it }
+    record {
+      sound = it.sound;
+      gone = it.free;
+      frees = still_free (stations_name Second) was.tree old.now new.now it;
+      others = it.others;
+      spares = spares_dropping (stations_layout Second) old.now new.now was.at was.tree was.has it;
+    }
+drops Third text is old new sound was count ran =
+    let it = table_dropped text 1 (stations_layout Third) is old new sound was count ran in
+    record {
+      sound = it.sound;
+      gone = it.free;
+      frees = still_free (stations_name Third) was.tree old.now new.now it;
+      others = it.others;
+      spares = spares_dropping (stations_layout Third) old.now new.now was.at was.tree was.has it;
+    }
+
+kept_found : (db : Database) (keyed : Bool) (it : Lies db (kept_layout keyed)) → table_named db.schema kept_name ≡ Some it.at
+kept_found db true it = it.has.found
+kept_found db false it = it.has.found
+
+abbrev pub drop_kept_text : List ℕ
+drop_kept_text = codes "DROP TABLE kept"
+
+pub drop_kept_writes : (db : Database) → KeptLies db → IsWriteIn db.schema drop_kept_text
+drop_kept_writes db it c understood_is = elim (drop_means db.schema it.lies.at kept_name (kept_found db it.keyed it.lies) drop_kept_text kept_drops) [
+  | inl means ↦ means_writes db.schema drop_kept_text _ means.0.0 tt c understood_is
+  | inr refused ↦ absurd (let both = sym refused ∙ understood_is in cc)
+]
+
+drops_lying : (keyed : Bool) (old new : State) → IsDatabase old.now → Lies old.now (kept_layout keyed) → (count : ℕ) → Executes drop_kept_text [] old new (Ok count) → DropsTable kept_name old.now new.now
+drops_lying true old new sound was count ran =
+    let it = lying_dropped drop_kept_text (kept_layout true) kept_drops old new sound was count ran in
+    record {
+      sound = it.sound;
+      gone = it.free;
+      frees = still_free kept_name was.tree old.now new.now it;
+      others = it.others;
+      spares = spares_dropping (kept_layout true) old.now new.now was.at was.tree was.has it;
+    }
+drops_lying false old new sound was count ran =
+    let it = lying_dropped drop_kept_text (kept_layout false) kept_drops old new sound was count ran in
+    record {
+      sound = it.sound;
+      gone = it.free;
+      frees = still_free kept_name was.tree old.now new.now it;
+      others = it.others;
+      spares = spares_dropping (kept_layout false) old.now new.now was.at was.tree was.has it;
+    }
+
+pub drops_kept : (old new : State) → IsDatabase old.now → KeptLies old.now → (count : ℕ) → Executes drop_kept_text [] old new (Ok count) → DropsTable kept_name old.now new.now
+drops_kept old new sound it count ran = drops_lying it.keyed old new sound it.lies count ran
 
 pub first_drops : IsDrop (first (codes "DROP TABLE stations")) (codes "stations")
 unfolding everything
@@ -285,6 +408,10 @@ pub second_drops : IsDrop (first (codes "DROP TABLE stations_2")) (codes "statio
 unfolding everything
 second_drops = (refl, refl)
 
+pub third_drops : IsDrop (first (codes "DROP TABLE stations_3")) (codes "stations_3")
+unfolding everything
+third_drops = (refl, refl)
+
 -- ---- SELECT of all old stations
 
 first_key : IsKeyAt 1 (stations_layout First) (1 ∷ [])
@@ -292,6 +419,9 @@ first_key = record { first = λ row. refl }
 
 second_key : IsKeyAt 1 (stations_layout Second) (1 ∷ [])
 second_key = record { first = λ row. refl }
+
+third_key : IsKeyAt 1 (stations_layout Third) (1 ∷ [])
+third_key = record { first = λ row. refl }
 
 first_selects : IsSelect (table_query 0 [] (by_columns (1 ∷ [])) (every_column (stations_layout First))) (stations_layout First) (codes "SELECT * FROM stations ORDER BY station_id")
 unfolding everything
@@ -306,3 +436,10 @@ first_asks db was = ordered_rows first_key was first_selects
 
 pub second_asks : AsksRows (stations_layout Second) (codes "SELECT * FROM stations_2 ORDER BY station_id")
 second_asks db was = ordered_rows second_key was second_selects
+
+third_selects : IsSelect (table_query 0 [] (by_columns (1 ∷ [])) (every_column (stations_layout Third))) (stations_layout Third) (codes "SELECT * FROM stations_3 ORDER BY station_id")
+unfolding everything
+third_selects = (λ tree. refl, refl)
+
+pub third_asks : AsksRows (stations_layout Third) (codes "SELECT * FROM stations_3 ORDER BY station_id")
+third_asks db was = ordered_rows third_key was third_selects

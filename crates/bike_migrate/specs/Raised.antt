@@ -1,18 +1,19 @@
 -- What raising makes of a database of an earlier version.
-use Rattle.std.specs.Prelude.{◌≡◌, ℕ, Bool, false, List, [], ◌∷◌, map}
+use Rattle.std.specs.Prelude.{◌≡◌, ℕ, Bool, false, if◌then◌else◌, List, [], ◌∷◌, ◌++◌, map, IsTrue}
 use Rattle.std.specs.List.{list_any, AllByRecursion}
-use Rattle.sqlite_value.specs.Order.{Row}
+use Rattle.sqlite_value.specs.Order.{Row, column}
 use Rattle.sqlite_schema.specs.declared.schema.Schema.{Schema}
 use Rattle.sqlite.specs.Effect.{Database, IsDatabase}
 use Rattle.bike_sql.specs.Makes.{IsFree}
 use Rattle.bike_sql.specs.Layout.{Layout}
 use Rattle.bike_sql.specs.Stands.{is_same_text, rows_of, Stands, Stays, Indexes}
 use Rattle.bike_book.specs.declared.version.TheConstants.{NEWEST}
-use Rattle.bike_book.specs.Tables.{TableName, Tables, Meta, Stations, MoreNames, keys_of, with_rows}
+use Rattle.bike_book.specs.Tables.{TableName, Tables, Meta, Stations, History, MoreNames, keys_of, with_rows}
+use Rattle.bike_book.specs.Stored.{with_numbers}
 use Rattle.bike_book.specs.Rows.{number_value}
 use Rattle.bike_book.specs.Writes.{RowWrite, Add, Set, tables_after}
 use Rattle.bike_schema.specs.Layouts.{layout_of, name_of}
-use Rattle.bike_schema.specs.Indexes.{TableIndex, HasIndex, more_names_by_language, more_names_by_thing}
+use Rattle.bike_schema.specs.Indexes.{TableIndex, HasIndex, more_names_by_language, more_names_by_thing, history_by_key}
 use Rattle.bike_schema.specs.Makes.{Makes, OthersStay}
 use Rattle.bike_schema.specs.Tables.{tables_of, HasTables, is_parent, product_names}
 use Rattle.bike_sql.specs.Drops as drops
@@ -20,28 +21,44 @@ use Rattle.bike_recognition.specs.Recognition.{meta_version}
 use Rattle.bike_recognition.specs.declared.version.MetaVersion.TheVariants.{Version}
 use Rattle.bike_recognition.specs.declared.earlier_versions.earlier.Earlier.{Earlier}
 use Rattle.bike_migrate.specs.Stations.{station_row}
-use Rattle.bike_recognition.specs.EarlierVersions.Earlier.{IsAt, number_of, stations_name, stations_layout, tables_at}
-use Rattle.bike_migrate.specs.Spared.{Spares}
+use Rattle.bike_recognition.specs.EarlierVersions.Earlier.{IsAt, number_of, bounds_docks, stations_name}
+use Rattle.bike_recognition.specs.EarlierVersions.Earlier.{stations_layout, tables_at}
+use Rattle.bike_recognition.specs.EarlierVersions.Kept.{KeptLies, kept_name, kept_rows}
+use Rattle.bike_migrate.specs.Spared.{is_among, Spares}
 
 -- It is of this earlier version, as the row of `meta` tells, too.
 pub record IsEarlier (e : Earlier) (db : Database) : Type 0 where
   pub is_at : IsAt e db
   pub version : meta_version db ≡ Version (number_of e)
 
--- the rows of its table of stations, as they stand there
+-- ---- the old tables
+
+-- the rows of its old table of stations, as they stand there; none where that table is the newest
 abbrev pub old_stations : Earlier → Database → List Row
-old_stations e db = rows_of 1 (stations_name e) db
+old_stations e db = if bounds_docks e then rows_of 1 (stations_name e) db else []
+
+-- these are the rows of its old tables: of stations, and of `kept` in the order of their rowids
+abbrev pub AreOldRows : Earlier → List Row → List Row → Database → Type 0
+AreOldRows e stations kept db = (stations ≡ old_stations e db) × (kept ≡ kept_rows db)
 
 -- its table of stations stands
 abbrev pub HasOld : Earlier → Database → Type 0
 HasOld e db = Stands db 1 (stations_layout e)
 
--- it is of this version, and these are the rows of its table of stations
-abbrev pub HasStations : Earlier → List Row → Database → Type 0
-HasStations e rows db = IsAt e db × (rows ≡ old_stations e db)
+-- .. and `kept` lies there
+abbrev pub HasOldTables : Earlier → Database → Type 0
+HasOldTables e db = HasOld e db × KeptLies db
 
-abbrev pub WasRead : Earlier → List Row → Database → Type 0
-WasRead e rows db = IsEarlier e db × (rows ≡ old_stations e db)
+-- it is of this version, and these are the rows of its old tables
+abbrev pub HasOldRows : Earlier → List Row → List Row → Database → Type 0
+HasOldRows e stations kept db = IsAt e db × AreOldRows e stations kept db
+
+abbrev pub WasRead : Earlier → List Row → List Row → Database → Type 0
+WasRead e stations kept db = IsEarlier e db × AreOldRows e stations kept db
+
+-- the names of the tables that go
+abbrev pub old_names : Earlier → List (List ℕ)
+old_names e = kept_name ∷ (if bounds_docks e then stations_name e ∷ [] else [])
 
 -- ---- the tables
 
@@ -53,9 +70,21 @@ version_write = Set Meta (number_value 1 ∷ []) ((2, number_value NEWEST) ∷ [
 abbrev pub station_writes : List Row → List RowWrite
 station_writes = map (λ row. Add Stations (station_row row))
 
--- both
-abbrev pub fill_writes : List Row → List RowWrite
-fill_writes rows = version_write ∷ station_writes rows
+-- a row of `kept` as one of `history`, with its number and of moment 0
+abbrev pub request_row : ℕ × Row → Row
+request_row e = number_value e.0 ∷ number_value 0 ∷ map (column e.1) (0 ∷ 1 ∷ 2 ∷ 3 ∷ [])
+
+-- each of these rows added to `history`, numbered from 1
+abbrev pub request_writes : List Row → List RowWrite
+request_writes rows = map (λ e. Add History (request_row e)) (with_numbers rows)
+
+-- the version, and the stations where the version has an old table of them
+abbrev pub first_writes : Earlier → List Row → List RowWrite
+first_writes e stations = version_write ∷ (if bounds_docks e then station_writes stations else [])
+
+-- all of it
+abbrev pub fill_writes : Earlier → List Row → List Row → List RowWrite
+fill_writes e stations kept = first_writes e stations ++ request_writes kept
 
 -- THE TABLES RAISED: what they are at the version, with that change
 abbrev pub tables_raised : Earlier → Database → Tables
@@ -74,11 +103,20 @@ pub record HasNameIndexes (s : Schema) : Type 0 where
   pub by_language : HasIndex s more_names_by_language
   pub by_thing : HasIndex s more_names_by_thing
 
--- ---- on the way there: every table of another name than the newest stays, and so the old table of stations
+-- The schema has the indexes of the tables that were made.
+pub record HasNewIndexes (e : Earlier) (s : Schema) : Type 0 where
+  pub names : IsTrue (bounds_docks e) → HasNameIndexes s
+  pub requests : HasIndex s history_by_key
+
+-- ---- on the way there: every table of another name than the newest stays, and so the old ones
 
 -- each table that stands stays
 abbrev pub AllStay : Database → Database → Type 0
 AllStay old new = (keys : ℕ) (layout : Layout) → Stands old keys layout → Stays old new keys layout
+
+-- `kept` lies there still
+abbrev pub KeptStays : Database → Database → Type 0
+KeptStays old new = KeptLies old → KeptLies new
 
 -- no foreign key names these names
 abbrev pub AreUnnamed : List (List ℕ) → Database → Type 0
@@ -87,28 +125,46 @@ AreUnnamed names db = AllByRecursion (λ name. is_parent db.schema name ≡ fals
 abbrev pub IsUnnamed : TableName → Database → Type 0
 IsUnnamed t = AreUnnamed (name_of t ∷ [])
 
+-- what no foreign key named, none names
+abbrev pub StayUnnamed : Database → Database → Type 0
+StayUnnamed old new = (name : List ℕ) → is_parent old.schema name ≡ false → is_parent new.schema name ≡ false
+
 -- the table was made, with no rows
 pub record MakesTable (t : TableName) (old new : Database) : Type 0 where
   pub sound : IsDatabase new
   pub stands : Stands new (keys_of t) (layout_of t)
   pub no_rows : rows_of (keys_of t) (name_of t) new ≡ []
-  pub unnamed : (name : List ℕ) → is_parent old.schema name ≡ false → is_parent new.schema name ≡ false
+  pub unnamed : StayUnnamed old new
   pub stays : AllStay old new
   pub spares : Spares [] old new
+  pub kept : KeptStays old new
 
 -- the index was made
 pub record MakesIndex (i : TableIndex) (old new : Database) : Type 0 where
   pub indexes : Indexes old new
   pub has : HasIndex new.schema i
   pub spares : Spares [] old new
+  pub kept : KeptStays old new
 
 -- .. and so were both of further names
 pub record MakesIndexes (old new : Database) : Type 0 where
   pub indexes : Indexes old new
   pub has : HasNameIndexes new.schema
   pub spares : Spares [] old new
+  pub kept : KeptStays old new
 
--- .. and so were those that both earlier versions lack
+-- the table of the history was made, with its index and no rows
+pub record MakesHistory (old new : Database) : Type 0 where
+  pub sound : IsDatabase new
+  pub history : Stands new (keys_of History) (layout_of History)
+  pub no_history : rows_of (keys_of History) (name_of History) new ≡ []
+  pub index : HasIndex new.schema history_by_key
+  pub unnamed : StayUnnamed old new
+  pub stays : AllStay old new
+  pub spares : Spares [] old new
+  pub kept : KeptStays old new
+
+-- .. and so were the tables that the first two versions lack, beside it
 pub record MakesNewer (old new : Database) : Type 0 where
   pub sound : IsDatabase new
   pub stations : Stands new (keys_of Stations) (layout_of Stations)
@@ -118,40 +174,80 @@ pub record MakesNewer (old new : Database) : Type 0 where
   pub indexes : HasNameIndexes new.schema
   pub stays : AllStay old new
   pub spares : Spares [] old new
+  pub kept : KeptStays old new
 
--- the newest tables were made, and that of stations is empty
+-- .. the one after the other
+abbrev pub MakesLater : Database → Database → Type 0
+MakesLater old new = (mid : Database) × MakesHistory old mid × MakesNewer mid new
+
+-- the tables without the rows that are added as they are filled
+abbrev pub emptied : Earlier → Tables → Tables
+emptied e t = with_rows History [] (if bounds_docks e then with_rows Stations [] t else t)
+
+-- the newest tables were made, and those are empty that get their rows from the old ones
 pub record MakesTables (e : Earlier) (old new : Database) : Type 0 where
   pub sound : IsDatabase new
   pub has : HasTables new
-  pub tables : tables_of new ≡ with_rows Stations [] (tables_at e old)
-  pub indexes : HasNameIndexes new.schema
+  pub tables : tables_of new ≡ emptied e (tables_at e old)
+  pub indexes : HasNewIndexes e new.schema
   pub others : OthersStay old new
   pub spares : Spares [] old new
+  pub kept : KeptStays old new
 
--- the tables whose rows change as they are filled
-abbrev pub filled_names : List (List ℕ)
-filled_names = name_of Meta ∷ name_of Stations ∷ []
+-- the tables whose rows change as the version is set, and as the stations are added
+abbrev pub version_names : List (List ℕ)
+version_names = name_of Meta ∷ []
 
--- these writes were made, and nothing else
-pub record WritesOnly (writes : List RowWrite) (old new : Database) : Type 0 where
+abbrev pub station_names : List (List ℕ)
+station_names = name_of Meta ∷ name_of Stations ∷ []
+
+-- both, where the version has an old table of stations
+abbrev pub first_names : Earlier → List (List ℕ)
+first_names e = if bounds_docks e then station_names else version_names
+
+-- the table whose rows change as the requests are added
+abbrev pub request_names : List (List ℕ)
+request_names = name_of History ∷ []
+
+-- the tables whose rows change as all are filled
+abbrev pub filled_names : Earlier → List (List ℕ)
+filled_names e = name_of History ∷ first_names e
+
+-- these writes were made, and nothing else, to tables of these names
+pub record WritesOnly (names : List (List ℕ)) (writes : List RowWrite) (old new : Database) : Type 0 where
   pub makes : Makes writes old new
-  pub spares : Spares filled_names old new
+  pub spares : Spares names old new
+  pub kept : KeptStays old new
 
 -- they are filled
 pub record Fills (e : Earlier) (old new : Database) : Type 0 where
   pub raised : IsRaised e old new
-  pub indexes : HasNameIndexes new.schema
+  pub indexes : HasNewIndexes e new.schema
   pub others : OthersStay old new
-  pub spares : Spares filled_names old new
+  pub spares : Spares (filled_names e) old new
+  pub kept : KeptLies new
 
 -- ---- at the end
 
--- the old table of stations is gone, and each other stays
-pub record DropsStations (e : Earlier) (old new : Database) : Type 0 where
+-- the table of this name is gone, and each other stays
+pub record DropsTable (name : List ℕ) (old new : Database) : Type 0 where
   pub sound : IsDatabase new
-  pub gone : IsFree new.schema (stations_name e)
-  pub others : drops.OthersStay (stations_name e) old new
-  pub spares : Spares (stations_name e ∷ []) old new
+  pub gone : IsFree new.schema name
+  pub frees : (other : List ℕ) → IsFree old.schema other → IsFree new.schema other
+  pub others : drops.OthersStay name old new
+  pub spares : Spares (name ∷ []) old new
+
+-- nothing has one of these names
+abbrev pub AreGone : List (List ℕ) → Schema → Type 0
+AreGone names s = AllByRecursion (λ name. IsFree s name) names
+
+-- the old tables are gone, and each other stays
+pub record DropsOld (e : Earlier) (old new : Database) : Type 0 where
+  pub sound : IsDatabase new
+  pub gone : AreGone (old_names e) new.schema
+  pub others : (keys : ℕ) (layout : Layout) → is_among (old_names e) layout.name ≡ false → Stands old keys layout
+      → Stays old new keys layout
+  pub spares : Spares (old_names e) old new
 
 -- the name is that of a table of the product, at some version
 abbrev pub is_product_name : List ℕ → Bool
@@ -165,14 +261,14 @@ OthersKept old new =
 
 -- the tables that a raise changes or drops
 abbrev pub changed_names : Earlier → List (List ℕ)
-changed_names e = stations_name e ∷ filled_names
+changed_names e = old_names e ++ filled_names e
 
 -- THE DATABASE IS RAISED, and nothing else is changed.
 pub record Raises (e : Earlier) (old new : Database) : Type 0 where
   pub raised : IsRaised e old new
-  -- nothing has the name of the old table of stations
-  pub gone : IsFree new.schema (stations_name e)
-  pub indexes : HasNameIndexes new.schema
+  -- nothing has the name of an old table
+  pub gone : AreGone (old_names e) new.schema
+  pub indexes : HasNewIndexes e new.schema
   pub others : OthersKept old new
   -- whatever the columns, keys and rules of a table are, and whether it is the product's or not
   pub spares : Spares (changed_names e) old new

@@ -17,7 +17,7 @@ use Rattle.bike_schema.specs.Tables.{HasNone}
 use Rattle.bike_schema.specs.Indexes.{HasRoom}
 use Rattle.bike_schema.specs.declared.fault.StatementFault.{StatementFault}
 use Rattle.bike_schema.specs.declared.fault.StatementFault.TheVariants as statement
-use Rattle.bike_audit.specs.Audit.{row_name, IsAudited, IsBadIn}
+use Rattle.bike_audit.specs.Audit.{row_name, IsAudited}
 use Rattle.bike_audit.specs.declared.finding.Finding.TheVariants as finding
 use Rattle.bike_audit.specs.declared.tables.BadRow.{BadRow}
 use Rattle.bike_recognition.specs.declared.earlier_versions.earlier.Earlier.{Earlier}
@@ -26,7 +26,7 @@ use Rattle.bike_recognition.specs.EarlierVersions.Earlier.{stations_name}
 use Rattle.bike_recognition.specs.EarlierVersions.Found.{IsFoundAs}
 use Rattle.bike_recognition.specs.EarlierVersions.Stores.{StandsForAt, TreesStandForAt}
 use Rattle.bike_migrate.specs.Raised.{IsEarlier, tables_raised, OthersKept, Raises}
-use Rattle.bike_migrate.specs.Verdicts.{AllGoodBefore, IsFirstBadBefore, IsVerdictBefore}
+use Rattle.bike_migrate.specs.Verdicts.{AllGoodAt, IsFirstBadAt, IsVerdictAt}
 use Rattle.bike_migrate.specs.declared.fault.RaiseCause.{RaiseCause}
 use Rattle.bike_migrate.specs.declared.fault.RaiseCause.TheVariants.{Foreign, Unsound, Newer, NoMemory, StoreFailed}
 use Rattle.bike_migrate.specs.declared.fault.RaiseFault.{RaiseFault}
@@ -41,9 +41,9 @@ name_at v t = name_of t
 
 -- the database is of the version, and this is the first bad row of its tables; at the newest the audit says which
 abbrev pub IsUnsoundAt : Database → Option Earlier → BadRow → Type 0
-IsUnsoundAt db None bad = IsFoundAs db found.Newest × IsBadIn db bad
+IsUnsoundAt db None bad = IsFoundAs db found.Newest × IsAudited db (finding.Unsound bad)
 IsUnsoundAt db (Some e) bad =
-    IsFoundAs db (found.Of e) × IsFirstBadBefore (tables_raised e db) (row_name bad).0 (row_name bad).1
+    IsFoundAs db (found.Of e) × IsFirstBadAt e (tables_raised e db) (row_name bad).0 (row_name bad).1
 
 abbrev pub IsUnsound : Database → UnsoundRow → Type 0
 IsUnsound db bad = IsUnsoundAt db bad.earlier bad.row
@@ -51,7 +51,7 @@ IsUnsound db bad = IsUnsoundAt db bad.earlier bad.row
 -- what the audit tells of a database of the newest version
 abbrev pub IsOnNewest : Database → Option BadRow → Type 0
 IsOnNewest db None = IsAudited db finding.Sound
-IsOnNewest db (Some bad) = IsBadIn db bad
+IsOnNewest db (Some bad) = IsAudited db (finding.Unsound bad)
 
 -- ---- what comes back
 
@@ -68,7 +68,7 @@ pub record MayCommit (e : Earlier) (old : Database) (trees : Trees) : Type 0 whe
   pub sound : IsDatabase old
   pub db : Database
   pub raises : Raises e old db
-  pub good : AllGoodBefore (tables_raised e old)
+  pub good : AllGoodAt e (tables_raised e old)
   pub trees_are : trees ≡ db.trees
 
 -- .. of a database of some earlier version
@@ -87,7 +87,7 @@ Becomes e old new None = Raises e old new
 Becomes e old new (Some bad) = Unit {0}
 
 pub record IsJudged (e : Earlier) (old new : Database) (bad : Option (TableName × Row)) : Type 0 where
-  pub verdict : IsVerdictBefore (tables_raised e old) bad
+  pub verdict : IsVerdictAt e (tables_raised e old) bad
   pub becomes : Becomes e old new bad
 
 -- why it isn't raised, where this is the first bad row of the version, if any is bad
@@ -157,7 +157,7 @@ module _ {S : Type 0} (g : Ghosts S) where
   pub record RaisesInPlace (e : Earlier) (old new : Held S) (result : Result (Option BadRow) StatementFault)
       : Type 0 where
     pub ends : HasCleanDisk (state g new) → IsEarlier e (state g old).now
-        → IfOk result (λ bad. IsVerdictBefore (tables_raised e (state g old).now) (option_map row_name bad)
+        → IfOk result (λ bad. IsVerdictAt e (tables_raised e (state g old).now) (option_map row_name bad)
         × BecomesAt e old new bad)
     pub outside : OnOk result (new.in_transaction ≡ false)
     pub survives : Survives (state g old) (state g new)
@@ -169,7 +169,7 @@ module _ {S : Type 0} (g : Ghosts S) where
   pub record IsRaisedFrom (old new : Held S) : Type 0 where
     pub earlier : Earlier
     pub found : IsFoundAs (state g old).now (found.Of earlier)
-    pub good : AllGoodBefore (tables_raised earlier (state g old).now)
+    pub good : AllGoodAt earlier (tables_raised earlier (state g old).now)
     pub shown : Shows (state g old) (state g new) (state g new).now (state g new).now false
     pub raises : Raises earlier (state g old).now (state g new).now
 

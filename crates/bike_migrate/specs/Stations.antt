@@ -1,5 +1,5 @@
 -- The rows of an old table of stations.
-use Rattle.std.specs.Prelude.{◌≡◌, ℕ, ◌<◌, pos, int_le, Bool, true, false, List, [], map, length, take, slice_get}
+use Rattle.std.specs.Prelude.{◌≡◌, ℕ, ◌<◌, pos, int_le, Bool, true, false, List, [], ◌∷◌, map, length, take, slice_get}
 use Rattle.std.specs.Prelude.{Option, Some, None}
 use Rattle.std.specs.List.{range_with_len, list_all, zip}
 use Rattle.sqlite_value.specs.declared.value.Value.{Value}
@@ -37,6 +37,10 @@ has_kinds row kinds =
 -- each column of it holds what it may hold in the newest table
 abbrev pub IsStationRow : Row → Type 0
 IsStationRow row = has_kinds row (map (λ c. c.kind) (layout_of Stations).columns) ≡ true
+
+-- each column of a row of `kept` holds what it may hold in the newest table
+abbrev pub IsRequestRow : Row → Type 0
+IsRequestRow row = has_kinds row (Words ∷ Words ∷ Words ∷ Words ∷ []) ≡ true
 
 -- These are the rows as they are copied, each under the key that it had.
 pub record AreCopies (rows copies : List Row) : Type 0 where

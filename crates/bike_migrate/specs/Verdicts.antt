@@ -5,8 +5,10 @@ use Rattle.std.specs.declared.cmp.Ordering.{Ordering}
 use Rattle.std.specs.declared.cmp.Ordering.TheVariants.{Less, Equal, Greater}
 use Rattle.sqlite_value.specs.Order.{Row, row_cmp}
 use Rattle.bike_book.specs.Tables.{TableName, Tables, keys_of, table_place, Stations}
-use Rattle.bike_readings.specs.Rules.{row_under, IsGoodKey}
+use Rattle.bike_readings.specs.Rules.{row_under, IsGoodKey, AllGood, IsFirstBad}
 use Rattle.bike_judges.specs.Least.{least_key}
+use Rattle.bike_recognition.specs.declared.earlier_versions.earlier.Earlier.{Earlier}
+use Rattle.bike_recognition.specs.declared.earlier_versions.earlier.Earlier.TheVariants.{First, Second, Third}
 use Rattle.bike_migrate.specs.Stations.{has_few}
 
 -- a row under a key of stations has no more docks than an earlier version allows
@@ -14,7 +16,7 @@ abbrev pub KeepsBound : Tables → TableName → Row → Type 0
 KeepsBound t Stations key = IfSome (row_under t Stations key) (λ row. has_few row ≡ true)
 KeepsBound t _ key = Unit {0}
 
--- A KEY OF A TABLE IS GOOD at an earlier version. The tables are told as raised.
+-- A KEY OF A TABLE IS GOOD at a version that bounds the docks. The tables are told as raised.
 pub record IsGoodBefore (t : Tables) (name : TableName) (key : Row) : Type 0 where
   pub good : IsGoodKey t name key
   pub few : KeepsBound t name key
@@ -34,6 +36,25 @@ pub record IsFirstBadBefore (t : Tables) (name : TableName) (key : Row) : Type 0
 abbrev pub IsVerdictBefore : Tables → Option (TableName × Row) → Type 0
 IsVerdictBefore t None = AllGoodBefore t
 IsVerdictBefore t (Some bad) = IsFirstBadBefore t bad.0 bad.1
+
+-- ---- at each version
+
+-- all keys are good: by the rules of the audit, and by the bound of docks where the version has it
+abbrev pub AllGoodAt : Earlier → Tables → Type 0
+AllGoodAt First t = AllGoodBefore t
+AllGoodAt Second t = AllGoodBefore t
+AllGoodAt Third t = AllGood t
+
+-- the key is the first bad one
+abbrev pub IsFirstBadAt : Earlier → Tables → TableName → Row → Type 0
+IsFirstBadAt First t name key = IsFirstBadBefore t name key
+IsFirstBadAt Second t name key = IsFirstBadBefore t name key
+IsFirstBadAt Third t name key = IsFirstBad t name key
+
+-- THE VERDICT on the tables of the version, told as raised: all keys are good, or this is the first bad one
+abbrev pub IsVerdictAt : Earlier → Tables → Option (TableName × Row) → Type 0
+IsVerdictAt e t None = AllGoodAt e t
+IsVerdictAt e t (Some bad) = IsFirstBadAt e t bad.0 bad.1
 
 -- ---- the first bad row of the audit's and of the first station over the bound
 

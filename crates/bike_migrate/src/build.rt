@@ -1,6 +1,6 @@
 //! The newest tables, made and filled inside the connection's transaction.
 
-ghost use Rattle.bike_book.specs.Tables.{Regions, Stations, MoreNames};
+ghost use Rattle.bike_book.specs.Tables.{Regions, Stations, History, MoreNames};
 ghost use Rattle.sqlite_resolve.specs.Compile.{first};
 ghost use Rattle.bike_sql.specs.Drops.{IsDrop};
 ghost use Rattle.bike_recognition.specs.EarlierVersions.Earlier.{newer_names, stations_name, IsAt};
@@ -8,10 +8,11 @@ ghost use Rattle.bike_recognition.specs.declared.earlier_versions.earlier.Earlie
 ghost use Rattle.bike_recognition.specs.Recognition.{TableStands};
 ghost use Rattle.sqlite.specs.Effect.{IsDatabase};
 ghost use Rattle.bike_migrate.specs.Calls.{ChangesInside};
-ghost use Rattle.bike_schema.specs.Indexes.{more_names_by_language, more_names_by_thing};
-ghost use Rattle.bike_migrate.specs.Raised.{IsUnnamed, AreUnnamed, HasStations, HasOld};
-ghost use Rattle.bike_migrate.specs.Raised.{MakesTable, MakesIndex, MakesIndexes, MakesNewer, MakesTables, Fills};
-ghost use Rattle.bike_migrate.specs.Raised.{DropsStations};
+ghost use Rattle.bike_schema.specs.Indexes.{more_names_by_language, more_names_by_thing, history_by_key};
+ghost use Rattle.bike_recognition.specs.EarlierVersions.Kept.{KeptLies, kept_name};
+ghost use Rattle.bike_migrate.specs.Raised.{IsUnnamed, AreUnnamed, HasOldRows, HasOld, HasOldTables};
+ghost use Rattle.bike_migrate.specs.Raised.{MakesTable, MakesIndex, MakesIndexes, MakesHistory, MakesNewer};
+ghost use Rattle.bike_migrate.specs.Raised.{MakesLater, MakesTables, Fills, DropsTable, DropsOld};
 
 use crate::copy::fill;
 use crate::inside::run;
@@ -65,13 +66,44 @@ fn create_indexes<S: Alter>(conn: &mut Connection<S>) -> Result<(), StatementFau
     index_by_thing(conn)
 }
 
-/// Makes the tables that both earlier versions lack.
+/// Makes the table of the history.
+fn create_history<S: Alter>(conn: &mut Connection<S>) -> Result<(), StatementFault>
+    ensures { ChangesInside S.Store (IsUnnamed History) conn.old conn.new result (MakesTable History) }
+{
+    run(conn, table!(create history), &[])
+}
+
+/// Makes the index of the history by callers and keys.
+fn index_by_key<S: Alter>(conn: &mut Connection<S>) -> Result<(), StatementFault>
+    ensures { ChangesInside S.Store (TableStands History) conn.old conn.new result (MakesIndex history_by_key) }
+{
+    run(conn, indexes::HISTORY_BY_KEY, &[])
+}
+
+/// Makes what every earlier version lacks.
+fn make_history<S: Alter>(conn: &mut Connection<S>) -> Result<(), StatementFault>
+    ensures { ChangesInside S.Store (IsUnnamed History) conn.old conn.new result MakesHistory }
+{
+    create_history(conn)?;
+    index_by_key(conn)
+}
+
+/// Makes what the first two versions lack beside that.
 fn make_newer<S: Alter>(conn: &mut Connection<S>) -> Result<(), StatementFault>
-    ensures { ChangesInside S.Store (AreUnnamed (newer_names Second)) conn.old conn.new result MakesNewer }
+    ensures { ChangesInside S.Store (λ db. IsUnnamed Stations db × IsUnnamed MoreNames db) conn.old conn.new result
+        MakesNewer }
 {
     create_stations(conn)?;
     create_names(conn)?;
     create_indexes(conn)
+}
+
+/// Makes what the first two versions lack.
+fn make_later<S: Alter>(conn: &mut Connection<S>) -> Result<(), StatementFault>
+    ensures { ChangesInside S.Store (AreUnnamed (newer_names Second)) conn.old conn.new result MakesLater }
+{
+    make_history(conn)?;
+    make_newer(conn)
 }
 
 /// Makes the tables that the version lacks.
@@ -81,22 +113,25 @@ fn make_tables<S: Alter>(conn: &mut Connection<S>, earlier: Earlier) -> Result<(
     match earlier {
         Earlier::First => {
             create_regions(conn)?;
-            make_newer(conn)
+            make_later(conn)
         }
-        Earlier::Second => make_newer(conn),
+        Earlier::Second => make_later(conn),
+        Earlier::Third => make_history(conn),
     }
 }
 
-/// Makes the newest tables and fills them: `rows` are those of the old table of stations, which stays.
+/// Makes the newest tables and fills them: these are the rows of the old tables, which stay.
 pub(crate) fn build<S: Alter>(
     conn: &mut Connection<S>,
     earlier: Earlier,
-    rows: &[Row],
+    stations: &[Row],
+    kept: &[Row],
 ) -> Result<(), StatementFault>
-    ensures { ChangesInside S.Store (HasStations earlier rows.now) conn.old conn.new result (Fills earlier) }
+    ensures { ChangesInside S.Store (HasOldRows earlier stations.now kept.now) conn.old conn.new result
+        (Fills earlier) }
 {
     make_tables(conn, earlier)?;
-    fill(conn, rows)
+    fill(conn, earlier, stations, kept)
 }
 
 /// The statement that drops its table of stations.
@@ -106,16 +141,38 @@ fn drop_text(earlier: Earlier) -> &'static str
     match earlier {
         Earlier::First => "DROP TABLE stations",
         Earlier::Second => "DROP TABLE stations_2",
+        Earlier::Third => "DROP TABLE stations_3",
     }
 }
 
-/// Drops the old table of stations.
-pub(crate) fn drop_stations<S: Alter>(
+/// Drops its table of stations.
+fn drop_stations<S: Alter>(conn: &mut Connection<S>, earlier: Earlier) -> Result<(), StatementFault>
+    ensures { ChangesInside S.Store (λ db. IsDatabase db × HasOld earlier db) conn.old conn.new result
+        (DropsTable (stations_name earlier)) }
+{
+    run(conn, drop_text(earlier), &[])
+}
+
+/// Drops `kept`.
+fn drop_kept<S: Alter>(conn: &mut Connection<S>) -> Result<(), StatementFault>
+    ensures { ChangesInside S.Store (λ db. IsDatabase db × KeptLies db) conn.old conn.new result
+        (DropsTable kept_name) }
+{
+    run(conn, "DROP TABLE kept", &[])
+}
+
+/// Drops the old tables: `kept`, and that of stations where it isn't the newest.
+pub(crate) fn drop_old<S: Alter>(
     conn: &mut Connection<S>,
     earlier: Earlier,
 ) -> Result<(), StatementFault>
-    ensures { ChangesInside S.Store (λ db. IsDatabase db × HasOld earlier db) conn.old conn.new result
-        (DropsStations earlier) }
+    ensures { ChangesInside S.Store (λ db. IsDatabase db × HasOldTables earlier db) conn.old conn.new result
+        (DropsOld earlier) }
 {
-    run(conn, drop_text(earlier), &[])
+    drop_kept(conn)?;
+    if earlier.bounds_docks() {
+        drop_stations(conn, earlier)
+    } else {
+        Ok(())
+    }
 }

@@ -1,6 +1,6 @@
 //! The verdict on the tables of an earlier version, once they are raised.
 
-ghost use Rattle.std.specs.Prelude.{◌≡◌, take, option_map};
+ghost use Rattle.std.specs.Prelude.{◌≡◌, take, option_map, IsTrue};
 ghost use Rattle.bike_audit.specs.Audit.{row_name};
 ghost use Rattle.bike_sql.specs.Calls.{ReadsWhere};
 ghost use Rattle.bike_schema.specs.Tables.{IsOurs, tables_of};
@@ -8,12 +8,13 @@ ghost use Rattle.bike_recognition.specs.Names.{table_named};
 ghost use Rattle.bike_migrate.specs.Stations.{AreCopies};
 ghost use Rattle.bike_judges.specs.Judging.{key_row};
 ghost use Rattle.bike_book.specs.Tables.{Stations};
-ghost use Rattle.bike_migrate.specs.Verdicts.{IsVerdictBefore, first_of, lesser_of, against_stations};
+ghost use Rattle.bike_recognition.specs.EarlierVersions.Earlier.{bounds_docks};
+ghost use Rattle.bike_migrate.specs.Verdicts.{IsVerdictBefore, IsVerdictAt, first_of, lesser_of, against_stations};
 
 use crate::stations::first_over;
 use bike_audit::{BadRow, Watch, first_bad_row};
 use bike_judges::{BadKey, least};
-use bike_recognition::TableName;
+use bike_recognition::{Earlier, TableName};
 use bike_schema::StatementFault;
 use sqlite::{Alter, Connection, Row};
 use std::alloc::Global;
@@ -38,7 +39,7 @@ fn against_stations(table: TableName) -> Ordering
         | TableName::Rentals
         | TableName::Orders
         | TableName::Entries
-        | TableName::Kept
+        | TableName::History
         | TableName::Counts
         | TableName::MoreNames => Ordering::Greater,
     }
@@ -83,7 +84,7 @@ fn first_of(found: Option<BadRow>, over: Option<Row>) -> Option<BadRow>
 
 /// The first bad row of the raised tables, by the rules of the audit and the bound of docks, where `rows` are those of
 /// the old table of stations. `watch` is told of each table before it is judged.
-pub(crate) fn judge<S: Alter, P: Watch>(
+fn judge_bounded<S: Alter, P: Watch>(
     alloc: Global,
     conn: &mut Connection<S>,
     rows: &[Row],
@@ -96,4 +97,24 @@ pub(crate) fn judge<S: Alter, P: Watch>(
     let found = first_bad_row(alloc, conn, watch)?;
     let over = first_over(rows)?;
     Ok(first_of(found, over))
+}
+
+/// The first bad row of the tables raised from this version, where `rows` are those of its old table of stations.
+/// `watch` is told of each table before it is judged.
+pub(crate) fn judge<S: Alter, P: Watch>(
+    alloc: Global,
+    conn: &mut Connection<S>,
+    earlier: Earlier,
+    rows: &[Row],
+    watch: &mut P,
+) -> Result<Option<BadRow>, StatementFault>
+    ensures { ReadsWhere S.Store IsOurs conn.old conn.new result
+        (λ db bad. (IsTrue (bounds_docks earlier) → AreCopies rows.now (tables_of db).stations)
+        → IsVerdictAt earlier (tables_of db) (option_map row_name bad)) }
+{
+    if earlier.bounds_docks() {
+        judge_bounded(alloc, conn, rows, watch)
+    } else {
+        first_bad_row(alloc, conn, watch)
+    }
 }

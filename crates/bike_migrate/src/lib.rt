@@ -1,8 +1,9 @@
 //! Raising a file of an earlier version of the schema to the newest.
 //!
-//! `raise` makes the newest tables beside the old table of stations, in one transaction, and audits them; then the old
-//! table is dropped and all is committed, or all is undone. An operator is the same before and after. A file that
-//! stands for none is told with its first bad row, and is as it was.
+//! `raise` makes the newest tables beside the old ones, in one transaction, and audits them; then the old tables are
+//! dropped and all is committed, or all is undone. An operator is the same before and after: one of an earlier version
+//! has its requests in the order in which they were kept, of moment 0. A file that stands for none is told with its
+//! first bad row, and is as it was.
 #![tactic(auto)]
 
 mod build;

@@ -11,10 +11,10 @@ ghost use Rattle.bike_migrate.specs.Raising.{IsOnNewest, IsJudged, Attempts, IsC
 ghost use Rattle.bike_migrate.specs.Raising.{EndsTransaction};
 ghost use Rattle.bike_migrate.specs.Raising.{RaisesInPlace, cause_of, ComesTo, IsRaise};
 
-use crate::build::{build, drop_stations};
+use crate::build::{build, drop_old};
 use crate::fault::{RaiseCause, RaiseFault, UnsoundRow};
 use crate::judge::judge;
-use crate::stations::read_stations;
+use crate::stations::read_old;
 use bike_audit::{BadRow, Finding, NoWatch, Watch, audit};
 use bike_recognition::{Earlier, Found, check_open, find_version_of};
 use bike_schema::{StatementFault, has_room};
@@ -22,29 +22,29 @@ use bike_sql::inside::{begin, commit, is_at_rest, undo};
 use sqlite::{Alter, Connection, Row};
 use std::alloc::Global;
 
-/// Makes the newest tables and judges them. Where no row is bad the old table of stations is dropped. `rows` are its
-/// rows.
+/// Makes the newest tables and judges them. Where no row is bad the old tables are dropped, which have these rows.
 fn raise_inside<S: Alter, P: Watch>(
     alloc: Global,
     conn: &mut Connection<S>,
     earlier: Earlier,
-    rows: &[Row],
+    stations: &[Row],
+    kept: &[Row],
     watch: &mut P,
 ) -> Result<Option<BadRow>, StatementFault>
-    ensures { DoesInside S.Store (WasRead earlier rows.now) conn.old conn.new result
+    ensures { DoesInside S.Store (WasRead earlier stations.now kept.now) conn.old conn.new result
         (λ old new bad. IsJudged earlier old new (option_map row_name bad)) }
 {
-    build(conn, earlier, rows)?;
-    match judge(alloc, conn, rows, watch)? {
+    build(conn, earlier, stations, kept)?;
+    match judge(alloc, conn, earlier, stations, watch)? {
         Some(bad) => Ok(Some(bad)),
         None => {
-            drop_stations(conn, earlier)?;
+            drop_old(conn, earlier)?;
             Ok(None)
         }
     }
 }
 
-/// Reads the stations, begins the transaction and raises the database in it. Nothing is committed.
+/// Reads the old rows, begins the transaction and raises the database in it. Nothing is committed.
 fn attempt<S: Alter, P: Watch>(
     alloc: Global,
     conn: &mut Connection<S>,
@@ -53,9 +53,16 @@ fn attempt<S: Alter, P: Watch>(
 ) -> Result<Option<BadRow>, StatementFault>
     ensures { Attempts S.Store earlier conn.old conn.new result }
 {
-    let rows = read_stations(conn, earlier)?;
+    let rows = read_old(alloc, conn, earlier)?;
     begin(conn)?;
-    raise_inside(alloc, conn, earlier, rows.as_slice(), watch)
+    raise_inside(
+        alloc,
+        conn,
+        earlier,
+        rows.stations.as_slice(),
+        rows.kept.as_slice(),
+        watch,
+    )
 }
 
 /// Commits the transaction. `StoreFailed` says nothing of whether it was.

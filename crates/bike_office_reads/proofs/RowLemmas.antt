@@ -1,12 +1,12 @@
 -- What the rows that are found say of the operator.
-use Rattle.std.proofs.Common.{◌≡◌, ◌+◌, ◌<◌, ◌≤◌, inl, ℕ, ℤ, List, [], ◌∷◌, map, length, slice_get, nat_le, ◌&&◌, Bool, true, false, T, Option, Some, None, Result, Ok, if◌then◌else◌, refl, sym, ap}
+use Rattle.std.proofs.Common.{◌≡◌, ◌+◌, ◌<◌, ◌≤◌, inl, ℕ, suc, ℤ, cond, List, [], ◌∷◌, map, length, slice_get, nat_le, ◌&&◌, Bool, true, false, T, Option, Some, None, Result, Ok, Err, if◌then◌else◌, refl, sym, ap}
 use Rattle.std.proofs.Common.{subst, ◌∙◌, arith}
 use Rattle.std.specs.Prelude.{option_map, IfOk}
 use Rattle.std.specs.Option.{ok_or}
 use Rattle.std.proofs.lemmas.Bool.{leb-true}
 use Rattle.std.specs.declared.cmp.Ordering.{Ordering}
 use Rattle.std.specs.declared.cmp.Ordering.TheVariants.{Less, Equal, Greater}
-use Rattle.std.specs.Ordering.{nat_cmp, is_lt, MatchOrdering}
+use Rattle.std.specs.Ordering.{nat_cmp, is_lt, eq_by_cmp, MatchOrdering}
 use Rattle.std.specs.Cmp.{ranks}
 use Rattle.std.specs.FinMap as fin
 use Rattle.std.specs.FinMap.Entries.{is_sorted, below_all}
@@ -16,24 +16,24 @@ use Rattle.sqlite_rules.specs.Lists.{Has}
 use Rattle.bike_sql.specs.View.{last_of}
 use Rattle.bike_fields.specs.Values.{SegmentRow}
 use Rattle.bike_catalogue.specs.Rows.{PlanRow}
-use Rattle.bike_commands.specs.Commands.{text_of}
-use Rattle.bike_commands.specs.Replies.{reply_text, IsReply}
+use Rattle.bike_commands.specs.Replies.{IsReply}
 use Rattle.bike_ledger.specs.Entries.{Entry}
 use Rattle.bike_ledger.specs.Ledger.{balance_of, refunded_of}
 use Rattle.bike_operator.specs.declared.records.Rental.{Rental}
 use Rattle.bike_operator.specs.declared.records.Closing.{Closing}
-use Rattle.bike_operator.specs.Operator.{Operator, Rider, AcceptedRequest, item_numbered}
+use Rattle.bike_operator.specs.Operator.{Operator, Rider, AcceptedRequest, Key, item_at, item_numbered, key_in, kept_under, texts_cmp}
+use Rattle.bike_operator.specs.Sound.{IsAccepted, IsHistory}
 use Rattle.bike_operator.specs.View.{rider_view, rider_at}
 use Rattle.bike_operator.specs.declared.view.RiderView.{RiderView}
 use Rattle.bike_book.specs.Tables.{Riders, Rentals}
-use Rattle.bike_book.specs.Rows.{number_value, rider_row, rental_row, plan_row, kept_row}
+use Rattle.bike_book.specs.Rows.{number_value, rider_row, rental_row, plan_row}
 use Rattle.bike_book.specs.Stored.{stored_rider}
-use Rattle.bike_book.specs.Found.{row_under, last_row, WhereListed, IsLast}
+use Rattle.bike_book.specs.Found.{row_under, last_row, WhereListed, IsLast, AreRowOf}
 use Rattle.bike_book.proofs.FoundKeys.{found_by_key}
 use Rattle.bike_book.proofs.Keys.{numbers}
 use Rattle.bike_book.proofs.MapRows.{has_get}
 use Rattle.bike_schema.specs.declared.fault.StatementFault.{StatementFault}
-use Rattle.bike_schema.specs.Columns.{number_in, moment_in, whole_in, flag_in, ident_in, name_in, or_none, read_or_failed}
+use Rattle.bike_schema.specs.Columns.{number_in, moment_in, whole_in, flag_in, ident_in, name_in, request_count_in, or_none, read_or_failed}
 use Rattle.bike_schema.proofs.ReadLemmas.{flag_read, name_read, number_read, moment_read, whole_read, ident_read, optional_moment_read, optional_whole_read, optional_ident_read}
 use Rattle.bike_office_reads.specs.declared.kept.KeptRow.{KeptRow}
 use Rattle.bike_office_reads.specs.Accounts.{KeepsSame, stored_rental_at}
@@ -183,14 +183,34 @@ made_if {made = made} fault result P b result_is is it = subst (λ r. IfOk r P) 
     by true = it
     by false = tt
 
--- ---- kept requests
+-- ---- the history
+
+-- what is kept under a key stands in the history
+standing : (key : Key) (h : List AcceptedRequest) (a : AcceptedRequest) → kept_under key h ≡ Some a → (at : ℕ) × (item_at at h ≡ Some a)
+standing key [] a e = absurd cc
+standing key (x ∷ h) a e = go (eq_by_cmp texts_cmp key (key_in x.request)) e (standing key h a) where
+  go : (b : Bool) → cond b (Some x) (kept_under key h) ≡ Some a → (kept_under key h ≡ Some a → (at : ℕ) × (item_at at h ≡ Some a)) → (at : ℕ) × (item_at at (x ∷ h) ≡ Some a)
+  go true e behind = (0, e)
+  go false e behind = let it = behind e in (suc it.0, it.1)
+
+-- so it was accepted
+pub kept_good : (now : ℕ) (key : Key) (h : List AcceptedRequest) (a : AcceptedRequest) → IsHistory now h → kept_under key h ≡ Some a → IsAccepted now a
+kept_good now key h a sound e = let it = standing key h a e in sound.requests (suc it.0) a it.1
 
 -- the row of what is kept
-pub kept_found : (caller key : List ℕ) (o : Option AcceptedRequest) {row : Row} (x : KeptRow) → ((k : AcceptedRequest) → o ≡ Some k → IsReply k.reply) → KeepsRow row x
-    → Some row ≡ option_map (λ (k : AcceptedRequest). kept_row caller key (text_of k.request.command) (reply_text k.reply)) o → KeepsSame o (Some x)
-kept_found caller key None x good reads is = absurd cc
-kept_found caller key (Some k) x good reads is = reads caller key k (good k refl) cc
+pub kept_found : (o : Option AcceptedRequest) {row : Row} (x : KeptRow) → ((a : AcceptedRequest) → o ≡ Some a → IsReply a.reply) → KeepsRow row x → AreRowOf o (Some row) → KeepsSame o (Some x)
+kept_found None x good reads is = absurd is
+kept_found (Some a) x good reads is = reads is.number a (good a refl) is.row_is
 
-pub nothing_kept : (caller key : List ℕ) (o : Option AcceptedRequest) → None ≡ option_map (λ (k : AcceptedRequest). kept_row caller key (text_of k.request.command) (reply_text k.reply)) o → KeepsSame o None
-nothing_kept caller key None is = tt
-nothing_kept caller key (Some k) is = absurd cc
+pub nothing_kept : (o : Option AcceptedRequest) → AreRowOf o None → KeepsSame o None
+nothing_kept None is = tt
+nothing_kept (Some a) is = absurd is
+
+-- the number of the last row
+pub count_read : (row : Option Row) {found : Row} (result : Result ℕ StatementFault) → row ≡ Some found → result ≡ read_or_failed (request_count_in (column found 0))
+    → IfOk result (λ x. (n : ℕ) → IsLast n row → x ≡ n)
+count_read row {found} result there read = subst (λ o. IfOk result (λ x. (n : ℕ) → IsLast n o → x ≡ n)) (sym there) (by result read)
+  where
+    by : (result : Result ℕ StatementFault) → result ≡ read_or_failed (request_count_in (column found 0)) → IfOk result (λ x. (n : ℕ) → IsLast n (Some found) → x ≡ n)
+    by (Ok x) read = λ n is. let same : ◌≡◌ {A = Result ℕ StatementFault} (Ok x) (Ok n) = read ∙ ap (λ v. read_or_failed (request_count_in v)) is in cc
+    by (Err e) read = tt

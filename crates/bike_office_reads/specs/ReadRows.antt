@@ -4,16 +4,15 @@ use Rattle.std.specs.Ordering.{is_eq}
 use Rattle.sqlite_value.specs.declared.value.Value.TheVariants.{Text}
 use Rattle.sqlite_value.specs.Order.{Row, column, value_cmp}
 use Rattle.sqlite_sql.specs.Aggregate.{count}
-use Rattle.bike_commands.specs.Commands.{text_of}
-use Rattle.bike_commands.specs.Replies.{reply_text, IsReply}
+use Rattle.bike_commands.specs.Replies.{IsReply}
 use Rattle.bike_operator.specs.declared.records.Closing.{Closing}
 use Rattle.bike_fields.specs.declared.name_kind.NameKind.{NameKind}
 use Rattle.bike_fields.specs.NameKinds.{kind_text}
 use Rattle.bike_catalogue.specs.Rows.{MoreNameRow}
 use Rattle.bike_operator.specs.Operator.{AcceptedRequest, NameKey}
 use Rattle.bike_operator.specs.Names.{part_at}
-use Rattle.bike_book.specs.Rows.{closing_columns, kept_row}
-use Rattle.bike_book.specs.Stored.{stored_name}
+use Rattle.bike_book.specs.Rows.{closing_columns}
+use Rattle.bike_book.specs.Stored.{stored_name, stored_request}
 use Rattle.bike_office_reads.specs.declared.kept.KeptRow.{KeptRow}
 use Rattle.bike_office_reads.specs.Accounts.{KeepsSame}
 use Rattle.bike_schema.specs.Within.{is_within}
@@ -26,11 +25,10 @@ IsCountOf n row = row ≡ count n ∷ []
 abbrev pub HasClosing : Row → Option Closing → Type 0
 HasClosing row closing = map (column row) (6 ∷ 7 ∷ 8 ∷ []) ≡ closing_columns closing
 
--- the row keeps what it was made of, under any caller and key
+-- the row keeps what it was made of, whatever its number
 abbrev pub KeepsRow : Row → KeptRow → Type 0
 KeepsRow row x =
-    (caller key : List ℕ) (a : AcceptedRequest) → IsReply a.reply
-    → row ≡ kept_row caller key (text_of a.request.command) (reply_text a.reply)
+    (number : ℕ) (a : AcceptedRequest) → IsReply a.reply → row ≡ stored_request (number, a)
     → KeepsSame (Some a) (Some x)
 
 -- the further name of an entry of the operator's

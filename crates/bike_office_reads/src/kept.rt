@@ -1,17 +1,18 @@
-//! What is kept of accepted requests.
+//! The history of accepted requests.
 
-ghost use Rattle.std.specs.Prelude.{◌≡◌, [], ◌∷◌, IfOk};
+ghost use Rattle.std.specs.Prelude.{◌≡◌, [], ◌∷◌, slice_get, length, IfOk};
 ghost use Rattle.sqlite_value.specs.declared.value.Value.TheVariants.{Text};
 ghost use Rattle.bike_operator.specs.Operator.{key_of, kept_under};
-ghost use Rattle.bike_book.specs.Tables.{Kept};
-ghost use Rattle.bike_book.specs.Found.{row_under};
+ghost use Rattle.bike_book.specs.Tables.{History};
+ghost use Rattle.bike_book.specs.Found.{rows_by, last_row, IsLast};
 ghost use Rattle.bike_schema.specs.Answers.{Answers};
 ghost use Rattle.bike_office_reads.specs.Accounts.{KeepsSame};
 ghost use Rattle.bike_office_reads.specs.ReadRows.{KeepsRow};
 
-use bike_book::columns::kept;
+use bike_book::RequestCount;
+use bike_book::columns::history;
 use bike_commands::Reply;
-use bike_schema::{StatementFault, text_at};
+use bike_schema::{StatementFault, request_count_at, text_at};
 use bike_sql::lookup::first_row;
 use sqlite::{Alter, Connection, Row, params};
 use std::alloc::Global;
@@ -25,28 +26,29 @@ pub struct KeptRow {
     pub reply: Reply,
 }
 
-/// The row of `kept` of this caller and key.
+/// The row of `history` of this caller and key.
 fn find_kept_row<S: Alter>(
     conn: &mut Connection<S>,
     caller: &str,
     key: &str,
 ) -> Result<Option<Row>, StatementFault>
     ensures { Answers S.Store conn.old conn.new result
-        (λ s m row. row ≡ row_under s m Kept (Text caller.now ∷ Text key.now ∷ [])) }
+        (λ s m row. row ≡ slice_get (rows_by s m History (2 ∷ 3 ∷ []) (Text caller.now ∷ Text key.now ∷ [])) 0) }
 {
     first_row(
         conn,
-        "SELECT * FROM kept WHERE caller = ?1 AND req_key = ?2",
+        "SELECT * FROM history WHERE caller = ?1 AND req_key = ?2 ORDER BY number LIMIT 1",
         params![caller, key],
     )
 }
 
-/// What a row of `kept` keeps, whatever its caller and key. `StoreFailed` where its reply is the text of none.
+/// What a row of `history` keeps, whatever its number, caller and key. `StoreFailed` where its reply is the text of
+/// none.
 fn read_kept(alloc: Global, row: &Row) -> Result<KeptRow, StatementFault>
     ensures { IfOk result (KeepsRow row.now) }
 {
-    let command = text_at(alloc, row, kept::COMMAND)?;
-    let text = text_at(alloc, row, kept::REPLY)?;
+    let command = text_at(alloc, row, history::COMMAND)?;
+    let text = text_at(alloc, row, history::REPLY)?;
     match Reply::read(text.as_str()) {
         Some(reply) => Ok(KeptRow { command, reply }),
         None => Err(StatementFault::StoreFailed),
@@ -68,4 +70,33 @@ pub fn find_kept<S: Alter>(
         Some(row) => Ok(Some(read_kept(alloc, &row)?)),
         None => Ok(None),
     }
+}
+
+/// The last row of `history`.
+fn find_last_request<S: Alter>(conn: &mut Connection<S>) -> Result<Option<Row>, StatementFault>
+    ensures { Answers S.Store conn.old conn.new result (λ s m row. row ≡ last_row s m History) }
+{
+    first_row(
+        conn,
+        "SELECT * FROM history ORDER BY number DESC LIMIT 1",
+        &[],
+    )
+}
+
+/// The number with which the last row begins, and 0 where there is none.
+fn last_request(row: &Option<Row>) -> Result<RequestCount, StatementFault>
+    ensures { IfOk result (λ x. (n : _) → IsLast n row.now → x ≡ n) }
+{
+    match row {
+        Some(row) => request_count_at(row, history::NUMBER),
+        None => RequestCount::new(0).ok_or(StatementFault::StoreFailed),
+    }
+}
+
+/// How many requests were accepted, as the last one's number says. Every fault is the database's.
+pub fn request_count<S: Alter>(conn: &mut Connection<S>) -> Result<RequestCount, StatementFault>
+    ensures { Answers S.Store conn.old conn.new result (λ s m x. x ≡ length s.history) }
+{
+    let row = find_last_request(conn)?;
+    last_request(&row)
 }

@@ -1,4 +1,4 @@
-//! The reads of the tables of riders, rentals, plans, further names, the ledger and kept requests. Each answers what
+//! The reads of the tables of riders, rentals, plans, further names, the ledger and the history. Each answers what
 //! the operator has whose tables stand in the database, and changes nothing.
 //!
 //! Some give rows, for a walk or a page that reads them (`select_names`, `find_plan_row_from`). `collect_rows` reads
@@ -19,7 +19,7 @@ mod segments;
 
 pub use collect::{ReadRow, collect_rows, short_text_at};
 pub use entries::entry_count;
-pub use kept::{KeptRow, find_kept};
+pub use kept::{KeptRow, find_kept, request_count};
 pub use meta::{MetaRow, find_meta};
 pub use names::{NameRow, find_names, find_system_key, read_names, select_names};
 pub use newest::newest_tells;

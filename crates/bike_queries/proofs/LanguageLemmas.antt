@@ -32,7 +32,7 @@ use Rattle.bike_laws.proofs.SingleSteps.MapLemmas.{IsKeyOrder, text_order, tied}
 use Rattle.bike_book.specs.Tables.{TableName, MoreNames, keys_of, rows_in}
 use Rattle.bike_book.specs.Stored.{stored_name}
 use Rattle.bike_book.proofs.MapRows.{both, below_has}
-use Rattle.bike_schema.specs.Layouts.{layout_of, layout_in, InEach}
+use Rattle.bike_schema.specs.Layouts.{layout_of}
 use Rattle.bike_schema.proofs.AnswerLemmas.{FindsIn, in_table}
 use Rattle.bike_feed_texts.specs.Trees.{names_by_language}
 use Rattle.bike_queries.specs.After.{is_from, begins_from, first_after, language_row, next_language, start_after}
@@ -80,22 +80,22 @@ abbrev value_query : ℕ → Query
 value_query place = limit_query only_one (table_query 0 (from_tests place) (by_columns (place ∷ [])) (col 1 place ∷ []))
 
 value_in : (t : TableName) {text : List ℕ} (at place : ℕ) (id : List ℕ) → ((r : Row) → column (columns_of (table_of (layout_of t) 0) r) at ≡ column r place)
-    → InEach t (λ layout. IsSelect (value_query place) layout text)
+    → IsSelect (value_query place) (layout_of t) text
     → FindsIn text (Text id ∷ []) (λ tables. value_from at id (rows_in tables t))
 value_in t {text} at place id shown is =
     in_table t (value_from at id) (λ db has.
-    let it = select_means (value_query place) (layout_in db.schema t) text (is db.schema) db.schema (has t).at (has t).tree (has t).has in
+    let it = select_means (value_query place) (layout_of t) text is db.schema (has t).at (has t).tree (has t).has in
     record {
       all = _;
       one =
-          least_answer (keys_of t) (layout_in db.schema t) db (has t) text (Text id ∷ []) place (from_tests place) it.0 it.1 at shown (is_from id)
+          least_answer (keys_of t) (layout_of t) db (has t) text (Text id ∷ []) place (from_tests place) it.0 it.1 at shown (is_from id)
           (λ r. and_true _ ∙ from_test (column r place) (Text id) refl) (same_from id);
       first = first_taken _;
     })
 
 pub finds_language_from : (id : List ℕ) → FindsIn (codes "SELECT language FROM more_names WHERE language >= ?1 ORDER BY language LIMIT 1") (Text id ∷ []) (λ t. value_from 2 id t.more_names)
 unfolding everything
-finds_language_from id = value_in MoreNames 2 3 id (λ r. refl) (λ s. (λ tree. refl, refl))
+finds_language_from id = value_in MoreNames 2 3 id (λ r. refl) (λ tree. refl, refl)
 
 -- ---- the keys of a list's map are those of the list in order
 

@@ -29,4 +29,4 @@ lists_stations_from start = record {
 pub lists_counts_within : (first last : List ℕ)
     → ListsIn (codes "SELECT * FROM counts WHERE station_id >= ?1 AND station_id <= ?2 ORDER BY station_id, type_id") (Text first ∷ Text last ∷ []) (λ t. rows_within (Text first) (Text last) t.counts)
 unfolding everything
-lists_counts_within first last = lists_within Counts 1 (Text first) (Text last) refl refl (λ r. refl) (λ s. (λ tree. refl, refl))
+lists_counts_within first last = lists_within Counts 1 (Text first) (Text last) refl refl (λ r. refl) (λ tree. refl, refl)

@@ -26,9 +26,9 @@ use Rattle.bike_sql.proofs.WalkLaw.{Finds}
 use Rattle.bike_book.specs.Tables.{TableName, rows_in, Rentals, Entries}
 use Rattle.bike_book.specs.Rows.{number_value}
 use Rattle.bike_book.proofs.Keys.{value_cmp-number_value}
-use Rattle.bike_schema.specs.Layouts.{layout_of, InEach}
+use Rattle.bike_schema.specs.Layouts.{layout_of}
 use Rattle.bike_schema.proofs.AnswerLemmas.{FindsIn, in_table}
-use Rattle.bike_schema.proofs.KeyLemmas.{key_places, key_in_schema}
+use Rattle.bike_schema.proofs.KeyLemmas.{key_places, table_key}
 use Rattle.bike_queries.specs.Spans.{lies_in}
 use Rattle.bike_schema.proofs.WithinLaw.{and_true, shows_every}
 
@@ -65,12 +65,12 @@ span_params number begin end = number_value number ∷ number_value begin ∷ nu
 -- the table's first column is its rowid, and the column that is tested is stored at the place
 pub spanned_in : (t : TableName) {text : List ℕ} (at place : ℕ) (number begin end : ℕ) → ((r : Row) → column (columns_of (table_of (layout_of t) 0) r) 0 ≡ column r 0)
     → ((r : Row) → column (columns_of (table_of (layout_of t) 0) r) at ≡ column r place)
-    → InEach t (λ layout. IsSelect (span_query t place) layout text) → FindsIn text (span_params number begin end) (λ tables. slice_get (filter (is_spanned at number begin end) (rows_in tables t)) 0)
+    → IsSelect (span_query t place) (layout_of t) text → FindsIn text (span_params number begin end) (λ tables. slice_get (filter (is_spanned at number begin end) (rows_in tables t)) 0)
 spanned_in t {text} at place number begin end first shown is =
     in_table t (λ rows. slice_get (filter (is_spanned at number begin end) rows) 0) (λ db has.
     subst (λ rows. Finds db text (span_params number begin end) (slice_get rows 0)) (map_same_list _)
-    (first_passing (key_in_schema db.schema t) (has t) (every_column (layout_of t)) (λ row. row) (shows_every t (span_params number begin end)) (span_tests place) (is_spanned at number begin end)
-    (is db.schema) (λ r.
+    (first_passing (table_key t) (has t) (every_column (layout_of t)) (λ row. row) (shows_every t (span_params number begin end)) (span_tests place) (is_spanned at number begin end)
+    is (λ r.
     ap₂ (λ a b. a && b) (over_test (column r 0) _) (ap₂ (λ a b. a && (b && true)) (at_least_test (column r place) _) (below_test (column r place) _)
     ∙ ap (λ b. not (is_lt (value_cmp (column r place) (number_value begin))) && b) (and_true _))
     ∙ ap₂ (λ a b. is_gt (value_cmp a (number_value number)) && is_between begin end b) (sym (first r)) (sym (shown r)))))
@@ -81,13 +81,13 @@ pub finds_entry_after : (number begin end : ℕ)
     → FindsIn (codes "SELECT * FROM entries WHERE entry > ?1 AND at >= ?2 AND at < ?3 ORDER BY entry LIMIT 1") (span_params number begin end)
     (λ t. slice_get (filter (is_spanned 5 number begin end) t.entries) 0)
 unfolding everything
-finds_entry_after number begin end = spanned_in Entries 5 6 number begin end (λ r. refl) (λ r. refl) (λ s. (λ tree. refl, refl))
+finds_entry_after number begin end = spanned_in Entries 5 6 number begin end (λ r. refl) (λ r. refl) (λ tree. refl, refl)
 
 pub finds_ended_after : (number begin end : ℕ)
     → FindsIn (codes "SELECT * FROM rentals WHERE rental > ?1 AND finish >= ?2 AND finish < ?3 ORDER BY rental LIMIT 1") (span_params number begin end)
     (λ t. slice_get (filter (is_spanned 7 number begin end) t.rentals) 0)
 unfolding everything
-finds_ended_after number begin end = spanned_in Rentals 7 8 number begin end (λ r. refl) (λ r. refl) (λ s. (λ tree. refl, refl))
+finds_ended_after number begin end = spanned_in Rentals 7 8 number begin end (λ r. refl) (λ r. refl) (λ tree. refl, refl)
 
 -- ---- numbers in place of values
 

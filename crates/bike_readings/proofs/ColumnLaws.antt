@@ -39,7 +39,8 @@ use Rattle.bike_texts.proofs.Chains.{language_reader, currency_reader, end_reade
 use Rattle.bike_operator.specs.declared.records.BikeState.{BikeState}
 use Rattle.bike_operator.specs.declared.records.BikeState.TheVariants.{Fit, Disabled, Retired}
 use Rattle.bike_book.specs.Rows.{number_value, truth, state_number, kind_number, end_text}
-use Rattle.bike_schema.specs.Columns.{number_of, flag_of, state_of, whole_in, text_in, number_in, moment_in, flag_in, state_in, ident_in, name_in, or_none}
+use Rattle.bike_schema.specs.Columns.{number_of, flag_of, state_of, whole_in, text_in, number_in, moment_in, flag_in, state_in, ident_in, name_in, or_none, request_count_in}
+use Rattle.bike_book.specs.Numbers.{count_of}
 use Rattle.bike_readings.specs.ColumnReaders.{language_in, currency_in, ascii_in, key_in, form_in, propulsion_in, named_kind_in, end_in, word_in, signed_in, kind_of, kind_in}
 use Rattle.bike_readings.specs.Bounds.{IsWithin, IsMoment, IsIdentOrNone}
 
@@ -86,6 +87,13 @@ number_column lo hi = of_whole (number_of lo hi) pos (IsWithin lo hi) (number_so
 
 pub moment_column : IsColumn moment_in number_value IsMoment
 moment_column = record { sound = λ v n e. let s = (number_column 0 _).sound v n e in (s.0, s.1.1); full = λ n g. (number_column 0 _).full n (omega arith, g) }
+
+count_sound : (z : ℤ) (n : ℕ) → count_of z ≡ Some n → (z ≡ pos n) × Unit {0}
+count_sound (pos m) n e = (ap pos (same_Some m n e), tt)
+count_sound (negsuc m) n e = absurd cc
+
+pub request_count_column : IsColumn request_count_in number_value Any
+request_count_column = of_whole count_of pos Any count_sound (λ n g. refl)
 
 abbrev pub IsBetween : ℤ → ℤ → ℤ → Type 0
 IsBetween lo hi z = (lo ≤ℤ z) × (z ≤ℤ hi)

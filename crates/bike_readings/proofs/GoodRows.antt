@@ -1,5 +1,5 @@
 -- All rows of the tables of an operator are good, and none is missing.
-use Rattle.std.proofs.Common.{◌≡◌, inl, inr, ℕ, ℤ, suc, ◌+◌, ◌<◌, pos, List, [], ◌∷◌, length, map, Option, Some, None, is_some, true, refl, sym, ap, ◌∙◌, subst, arith}
+use Rattle.std.proofs.Common.{◌≡◌, inl, inr, ℕ, ℤ, suc, ◌+◌, ◌<◌, ◌≤◌, pos, List, [], ◌∷◌, length, map, Option, Some, None, is_some, true, refl, sym, ap, ◌∙◌, subst, arith}
 use Rattle.std.specs.Prelude.{take, option_map}
 use Rattle.std.specs.Option.{IsSomeAnd}
 use Rattle.std.specs.declared.cmp.Ordering.{Ordering}
@@ -21,29 +21,27 @@ use Rattle.bike_operator.specs.declared.records.Place.{Place}
 use Rattle.bike_operator.specs.declared.records.Place.TheVariants as place
 use Rattle.bike_operator.specs.declared.records.Rental.{Rental}
 use Rattle.bike_operator.specs.declared.records.Closing.{Closing}
-use Rattle.bike_operator.specs.Operator.{Operator, Key, NameKey, DockKey, name_key, item_numbered}
+use Rattle.bike_operator.specs.Operator.{Operator, AcceptedRequest, Key, NameKey, DockKey, key_in, name_key, item_numbered}
 use Rattle.bike_operator.specs.Counts.{docks_available, docks_broken, available_of}
 use Rattle.bike_operator.specs.Sound.{IsSound, IsPlace, IsBooking, IsSetSystem, fares_of, fares_in}
 use Rattle.bike_laws.specs.SingleSteps.Numbers.{disabled_of}
 use Rattle.bike_laws.proofs.SingleSteps.ItemLemmas.{number_within}
-use Rattle.bike_book.specs.KeptRequests.{kept_of}
-use Rattle.bike_book.proofs.KeptLemmas.{are_kept}
 use Rattle.bike_book.specs.declared.version.TheConstants.{NEWEST}
-use Rattle.bike_book.specs.Tables.{Meta, System, Plans, Segments, Types, Regions, Stations, Docks, Bikes, Trucks, Riders, Rentals, Orders, Entries, Kept as KeptTable, Counts, MoreNames}
+use Rattle.bike_book.specs.Tables.{Meta, System, Plans, Segments, Types, Regions, Stations, Docks, Bikes, Trucks, Riders, Rentals, Orders, Entries, History, Counts, MoreNames}
 use Rattle.bike_book.specs.Rows.{number_value, meta_row}
 use Rattle.bike_book.specs.Stored.{Listed, IsListing, tables_for, meta_rows, system_rows, with_numbers, plans_segments, stored_plan, stored_type, stored_region, stored_station, stored_dock}
-use Rattle.bike_book.specs.Stored.{stored_bike, stored_truck, stored_rider, stored_rental, stored_order, stored_entry, stored_kept, stored_count, stored_name}
+use Rattle.bike_book.specs.Stored.{stored_bike, stored_truck, stored_rider, stored_rental, stored_order, stored_entry, stored_request, stored_count, stored_name}
 use Rattle.bike_book.proofs.MapRows.{StoresKeys, BeginsWithKey, has_get}
 use Rattle.bike_book.proofs.Keys.{numbers, texts, pairs, triples, docks}
 use Rattle.bike_book.proofs.FoundKeys.{found_listed}
 use Rattle.bike_book.proofs.FoundNumbers.{same_length}
 use Rattle.bike_readings.specs.Readings.{meta_read, system_read, plan_read, segment_read, type_read, region_read, station_read, dock_read, bike_read, truck_read, rider_read, rental_read, order_read}
-use Rattle.bike_readings.specs.Readings.{entry_read, kept_read, count_read, name_read}
+use Rattle.bike_readings.specs.Readings.{entry_read, request_read, count_read, name_read}
 use Rattle.bike_readings.proofs.CatalogueRows.{system_reading, segment_reading}
 use Rattle.bike_readings.specs.Bounds.{IsStoredSegment}
 use Rattle.bike_readings.proofs.SoundBounds.{segment_stored}
 use Rattle.bike_readings.specs.Demands.{IsGoodMeta, IsGoodPlan, IsGoodSegment, IsGoodType, IsGoodRegion, IsGoodStation, IsGoodDock, IsGoodPlace, IsGoodBike, IsGoodTruck, IsGoodRider, IsGoodRental}
-use Rattle.bike_readings.specs.Demands.{IsGoodOrder, IsGoodEntry, IsGoodKept, IsGoodCount, IsGoodName, HasFare, IsOneFare}
+use Rattle.bike_readings.specs.Demands.{IsGoodOrder, IsGoodEntry, IsGoodRequest, IsGoodCount, IsGoodName, HasFare, IsOneFare}
 use Rattle.bike_readings.specs.ReadOff.{rental_in}
 use Rattle.bike_readings.specs.Rules.{HasNone}
 use Rattle.bike_readings.proofs.ByNumber.{at_number}
@@ -52,7 +50,8 @@ use Rattle.bike_readings.proofs.ReadBack.{has_numbered}
 use Rattle.bike_readings.proofs.Segments.{row_among}
 use Rattle.bike_readings.proofs.FurtherNames.{name_room}
 use Rattle.bike_readings.proofs.Fares.{fare_passes, fare_among, two_fares}
-use Rattle.bike_readings.proofs.ReadOffBack.{meta_is, plan_is, type_is, region_is, station_is, dock_is, bike_is, truck_is, rider_is, rental_is, order_is, entry_is, kept_is, count_is, name_is}
+use Rattle.bike_readings.proofs.ReadOffBack.{meta_is, plan_is, type_is, region_is, station_is, dock_is, bike_is, truck_is, rider_is, rental_is, order_is, entry_is, request_is, count_is, name_is}
+use Rattle.bike_readings.proofs.Histories.{none_before, if_some}
 use Rattle.bike_readings.proofs.RowRules.{some_and, AreGoodRows, LacksNone}
 
 -- ---- rows of maps and of numbered lists
@@ -165,6 +164,15 @@ module _ (s : Operator) (m : Listed) (sound : IsSound s) (listing : IsListing s 
         fare = fare_good n e below found number e.kind refl it.booking;
       })
 
+  request_good : (n : ℕ) (a : AcceptedRequest) (below : ℕ) → item_numbered n s.history ≡ Some a → n ≡ below + 1 → IsSomeAnd (request_read (stored_request (n, a))) (IsGoodRequest s below)
+  request_good n a below found place =
+      some_and (IsGoodRequest s below) (request_read (stored_request (n, a))) (n, a) (request_is s m sound listing n a found) (record {
+        number_is = place;
+        by_now = (sound.history.requests n a found).by_now;
+        in_order = if_some (λ (b : AcceptedRequest). b.moment ≤ a.moment) (item_numbered below s.history) (λ b there. sound.history.in_order below n b a there found (omega (arith, place)));
+        anew = none_before (key_in a.request) s.history below (λ i b low there own. let same = sound.history.once (suc i) n b a there found (sym own) in omega (arith, same, low, place));
+      })
+
   -- ---- bicycles
 
   -- where a bicycle is, by the rows of rentals and orders
@@ -273,9 +281,7 @@ module _ (s : Operator) (m : Listed) (sound : IsSound s) (listing : IsListing s 
       some_and (IsGoodOrder s below) (order_read (stored_order (n, o))) (n, o) (order_is s m sound listing n o found)
       (record { number_is = place; room = omega (arith, few, high, place); good = sound.orders.orders n o found })) row has
   all_rows_good Entries row has = numbered_good stored_entry (λ e. refl) entry_read (IsGoodEntry s) s.entries entry_good row has
-  all_rows_good KeptTable row has =
-      map_good pairs stored_kept kept_read (IsGoodKept s) (kept_of s.history) (λ k v below found low. some_and (IsGoodKept s below) (kept_read (stored_kept (k, v))) (k, v) (kept_is s m sound listing k v found)
-      (are_kept s sound k v found)) row has
+  all_rows_good History row has = numbered_good stored_request (λ e. refl) request_read (IsGoodRequest s) s.history request_good row has
   all_rows_good Counts row has = map_good pairs (stored_count s) count_read (IsGoodCount s) m.counts (λ k v below found low. count_good k v below found) row has
   all_rows_good MoreNames row has = map_good triples stored_name name_read (IsGoodName s) s.more_names (λ k v below found low. name_good k v below found) row has
 
@@ -309,5 +315,5 @@ module _ (s : Operator) (m : Listed) (sound : IsSound s) (listing : IsListing s 
   none_lacking Rentals key none = tt
   none_lacking Orders key none = tt
   none_lacking Entries key none = tt
-  none_lacking KeptTable key none = tt
+  none_lacking History key none = tt
   none_lacking MoreNames key none = tt

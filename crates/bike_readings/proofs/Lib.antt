@@ -5,9 +5,9 @@ pub mod FleetRows
 pub mod LedgerRows
 pub mod SoundBounds
 pub mod TextUtf8
-pub mod KeptRows
+pub mod RequestRows
 pub mod ReadLemmas
-mod KeptLemmas
+mod RequestTexts
 pub mod ReadLists
 pub mod ByNumber
 pub mod Ranks
@@ -17,7 +17,7 @@ pub mod ReadBack
 pub mod Segments
 pub mod Broken
 pub mod RowRules
-pub mod StoredHistory
+pub mod Histories
 pub mod ReadOffBack
 pub mod Fares
 pub mod GoodRows

@@ -12,30 +12,28 @@ use Rattle.bike_ledger.specs.Ledger.{balance_of, cash_of, revenue_of, refunded_o
 use Rattle.bike_operator.specs.declared.records.Bike.{Bike}
 use Rattle.bike_operator.specs.declared.records.Rental.{Rental}
 use Rattle.bike_operator.specs.declared.records.Order.{Order}
-use Rattle.bike_operator.specs.Operator.{Operator, Station, Truck, Rider, Key, NameKey, DockKey, dock_key, key_of, name_key, item_numbered}
+use Rattle.bike_operator.specs.Operator.{Operator, Station, Truck, Rider, AcceptedRequest, Key, NameKey, DockKey, dock_key, key_of, name_key, item_numbered}
 use Rattle.bike_operator.specs.Counts.{docks_available, docks_broken, available_of}
 use Rattle.bike_operator.specs.Sound.{IsSound, IsSetSystem, HasDock, IsNameAt}
 use Rattle.bike_laws.specs.SingleSteps.Numbers.{disabled_of}
-use Rattle.bike_book.specs.KeptRequests.{Kept, kept_of}
-use Rattle.bike_book.proofs.KeptLemmas.{are_kept}
 use Rattle.bike_book.specs.declared.version.TheConstants.{NEWEST}
 use Rattle.bike_book.specs.Stored.{Listed, IsListing, tables_for, meta_rows, system_rows, plans_segments, stored_plan, stored_type, stored_region, stored_station, stored_dock, stored_bike}
-use Rattle.bike_book.specs.Stored.{stored_truck, stored_rider, stored_rental, stored_order, stored_entry, stored_kept, stored_count, stored_name}
+use Rattle.bike_book.specs.Stored.{stored_truck, stored_rider, stored_rental, stored_order, stored_entry, stored_request, stored_count, stored_name}
 use Rattle.bike_book.proofs.Keys.{numbers, texts, pairs, triples, docks}
 use Rattle.bike_readings.specs.Readings.{meta_read, system_read, plan_read, type_read, region_read, station_read, dock_read, bike_read, truck_read, rider_read, rental_read, order_read, entry_read}
-use Rattle.bike_readings.specs.Readings.{kept_read, count_read, name_read}
+use Rattle.bike_readings.specs.Readings.{request_read, count_read, name_read}
 use Rattle.bike_readings.specs.Bounds.{IsStoredSegment}
 use Rattle.bike_readings.proofs.CatalogueRows.{meta_reading, plan_reading, type_reading, region_reading, station_reading, dock_reading, name_reading, system_reading}
 use Rattle.bike_readings.proofs.FleetRows.{bike_reading, truck_reading, order_reading}
 use Rattle.bike_readings.proofs.LedgerRows.{rider_reading, rental_reading, entry_reading, count_reading}
-use Rattle.bike_readings.proofs.KeptRows.{kept_reading}
-use Rattle.bike_readings.specs.ReadOff.{first, moment_of, with_segments, plan_in, station_in, rider_in, rental_in, entry_in, name_in, dock_in, count_in, segments_of, operator_of, listed_of, first_of, history_in, as_stored}
+use Rattle.bike_readings.proofs.RequestRows.{request_reading}
+use Rattle.bike_readings.specs.ReadOff.{first, moment_of, with_segments, plan_in, station_in, rider_in, rental_in, entry_in, name_in, dock_in, count_in, segments_of, operator_of, listed_of, first_of}
 use Rattle.bike_readings.specs.ReadOff.{misplaced_bike, bike_in}
 use Rattle.bike_readings.proofs.ReadBack.{map_back, numbered_back}
 use Rattle.bike_readings.proofs.Segments.{segments_back}
 use Rattle.bike_readings.proofs.Broken.{broken_back}
 use Rattle.bike_readings.proofs.SoundBounds.{meta_stored, segment_stored, dock_stored, type_stored, region_stored, station_stored, bike_stored, truck_stored, rider_stored, rental_stored, order_stored}
-use Rattle.bike_readings.proofs.SoundBounds.{entry_stored, count_stored}
+use Rattle.bike_readings.proofs.SoundBounds.{entry_stored, request_stored, count_stored}
 use Rattle.bike_book.specs.Rows.{meta_row}
 
 module _ (s : Operator) (m : Listed) (sound : IsSound s) (listing : IsListing s m) where
@@ -103,8 +101,8 @@ module _ (s : Operator) (m : Listed) (sound : IsSound s) (listing : IsListing s 
       let number = (sound.ledger.entries n e found).number_is in
       ap (λ (k : ℕ). entry_read (stored_entry (k, e))) (sym number) ∙ entry_reading.full e (entry_stored s sound n e found)
 
-  pub kept_is : (key : Key) (k : Kept) → fin.get (kept_of s.history) key ≡ Some k → kept_read (stored_kept (key, k)) ≡ Some (key, k)
-  kept_is key k found = kept_reading.full (key, k) (are_kept s sound key k found)
+  pub request_is : (n : ℕ) (a : AcceptedRequest) → item_numbered n s.history ≡ Some a → request_read (stored_request (n, a)) ≡ Some (n, a)
+  request_is n a found = request_reading.full (n, a) (request_stored s sound n a found)
 
   pub count_is : (station type_id : List ℕ) (key : Key) → key ≡ key_of station type_id → fin.contains_key s.stations station ≡ true → fin.contains_key s.types type_id ≡ true
       → count_read (stored_count s (key, tt)) ≡ Some (station, type_id, available_of s station type_id, disabled_of s station type_id)
@@ -145,7 +143,7 @@ module _ (s : Operator) (m : Listed) (sound : IsSound s) (listing : IsListing s 
       let k = dock_back key (ap is_some found) in
       ap (option_map (λ (e : List ℕ × ℕ × Bool). (dock_key e.0 e.1, tt))) k.3 ∙ ap (λ (q : DockKey). Some (q, tt)) (sym k.2)
 
-  pub operator_back : operator_of (tables_for s m) ≡ as_stored s
+  pub operator_back : operator_of (tables_for s m) ≡ s
   operator_back =
       let system = system_back s.system sound.catalogue.system in
       let plans = map_back texts (plan_in (plans_segments (fin.entries s.plans))) stored_plan s.plans plan_back in
@@ -161,7 +159,7 @@ module _ (s : Operator) (m : Listed) (sound : IsSound s) (listing : IsListing s 
       let entries =
       numbered_back entry_in stored_entry s.entries
       (λ n e found. ap (option_map (λ (x : Entry). (x.number, x))) (entry_is n e found) ∙ ap (λ (k : ℕ). Some (k, e)) (sound.ledger.entries n e found).number_is) in
-      let kept = ap history_in (map_back pairs kept_read stored_kept (kept_of s.history) kept_is) in
+      let history = numbered_back request_read stored_request s.history request_is in
       let more_names = map_back triples name_in stored_name s.more_names name_back in
       let now = moment_back in
       λ i. record {
@@ -177,7 +175,7 @@ module _ (s : Operator) (m : Listed) (sound : IsSound s) (listing : IsListing s 
         rentals = rentals i;
         orders = orders i;
         entries = entries i;
-        history = kept i;
+        history = history i;
         more_names = more_names i;
         now = now i;
       }

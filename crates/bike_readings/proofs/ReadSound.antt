@@ -1,5 +1,4 @@
 -- The operator that is read off tables whose keys are all good is sound, and its docks and counts are listed right.
-use Rattle.std.specs.Prelude.{map}
 use Rattle.std.proofs.Common.{◌≡◌, inl, ℕ, ℤ, ◌+◌, ◌-◌, ◌<◌, ◌≤◌, List, [], ◌∷◌, length, Bool, true, false, Option, Some, None, is_some, refl, sym, ap, ◌∙◌, subst, arith}
 use Rattle.std.specs.Prelude.{option_map, take}
 use Rattle.std.specs.Ordering.{nat_cmp}
@@ -8,7 +7,6 @@ use Rattle.std.specs.declared.cmp.Ordering.TheVariants.{Less, Equal, Greater}
 use Rattle.std.specs.Cmp.{ranked}
 use Rattle.std.proofs.lemmas.Option.{same_Some}
 use Rattle.std.specs.FinMap as fin
-use Rattle.std.specs.FinMap.{FinMap}
 use Rattle.std.specs.FinSet as set
 use Rattle.sqlite_value.specs.declared.value.Value.TheVariants.{Text}
 use Rattle.sqlite_value.specs.Order.{Row}
@@ -28,27 +26,27 @@ use Rattle.bike_operator.specs.declared.records.Bike.{Bike}
 use Rattle.bike_operator.specs.declared.records.Rental.{Rental}
 use Rattle.bike_operator.specs.declared.records.Closing.{Closing}
 use Rattle.bike_operator.specs.declared.records.Order.{Order}
-use Rattle.bike_operator.specs.Operator.{Operator, Station, Truck, Rider, Key, NameKey, DockKey, dock_key, key_of, name_key, item_numbered, texts_cmp}
+use Rattle.bike_operator.specs.Operator.{Operator, Station, Truck, Rider, AcceptedRequest, Key, NameKey, DockKey, dock_key, key_of, name_key, item_numbered}
 use Rattle.bike_operator.specs.Counts.{is_open, open_rentals}
 use Rattle.bike_operator.specs.Names.{part_at}
 use Rattle.bike_operator.specs.Sound.{IsSound, IsCatalogueSound, AreNamesSound, IsNameAt, AreBikesSound, AreOrdersSound, AreRentalsSound, IsLedgerSound, IsTypeAt, IsRegionAt, IsStationAt, HasDock}
-use Rattle.bike_operator.specs.Sound.{IsBrokenDock, IsBikeAt, IsPlace, IsTruckAt, IsOrderAt, IsRentalAt, IsRiderNumber, IsEntryAt, fares_of, fares_in}
+use Rattle.bike_operator.specs.Sound.{IsBrokenDock, IsBikeAt, IsPlace, IsTruckAt, IsOrderAt, IsRentalAt, IsRiderNumber, IsEntryAt, IsAccepted, IsHistory, fares_of, fares_in}
 use Rattle.bike_laws.proofs.SingleSteps.MapLemmas.{there_of}
-use Rattle.bike_book.specs.KeptRequests.{Kept, IsKept as IsKeptAt}
-use Rattle.bike_book.specs.Tables.{TableName, Tables, keys_of, Meta, Plans, Types, Regions, Stations, Docks, Bikes, Trucks, Riders, Rentals, Orders, Entries, Kept as KeptTable, Counts, MoreNames}
+use Rattle.bike_book.specs.Tables.{TableName, Tables, keys_of, Meta, Plans, Types, Regions, Stations, Docks, Bikes, Trucks, Riders, Rentals, Orders, Entries, History, Counts, MoreNames}
 use Rattle.bike_book.specs.Rows.{number_value}
-use Rattle.bike_book.specs.Stored.{IsListing, IsDockKey, IsCountKey, tables_for, stored_plan, stored_type, stored_region, stored_station, stored_bike, stored_truck, stored_rider, stored_rental, stored_kept}
+use Rattle.bike_book.specs.Stored.{IsListing, IsDockKey, IsCountKey, tables_for, stored_plan, stored_type, stored_region, stored_station, stored_bike, stored_truck, stored_rider, stored_rental}
 use Rattle.bike_book.specs.Stored.{stored_order, stored_count}
 use Rattle.bike_book.proofs.MapRows.{found_entries, has_get}
 use Rattle.bike_book.proofs.Keys.{numbers, texts, pairs, docks, IsPair, IsTriple}
-use Rattle.bike_readings.specs.Readings.{type_read, region_read, station_read, dock_read, bike_read, truck_read, rider_read, rental_read, order_read, entry_read, kept_read, count_read, name_read}
+use Rattle.bike_readings.specs.Readings.{type_read, region_read, station_read, dock_read, bike_read, truck_read, rider_read, rental_read, order_read, entry_read, request_read, count_read, name_read}
 use Rattle.bike_readings.specs.Readings.{plan_read}
 use Rattle.bike_readings.proofs.CatalogueRows.{region_reading, name_reading}
 use Rattle.bike_readings.proofs.LedgerRows.{rental_reading}
-use Rattle.bike_readings.proofs.StoredHistory.{history_sound, kept_again}
-use Rattle.bike_readings.specs.ReadOff.{plan_in, station_in, rider_in, rental_in, dock_in, operator_of, listed_of, first_of, misplaced_bike, bike_in, kept_in}
+use Rattle.bike_readings.proofs.RequestRows.{request_reading}
+use Rattle.bike_readings.proofs.Histories.{IsNext, history_of}
+use Rattle.bike_readings.specs.ReadOff.{plan_in, station_in, rider_in, rental_in, dock_in, operator_of, listed_of, first_of, misplaced_bike, bike_in}
 use Rattle.bike_readings.specs.Demands.{IsGoodPlan, IsGoodType, IsGoodRegion, IsGoodStation, IsGoodDock, IsGoodPlace, IsGoodBike, IsGoodTruck, IsGoodRider, IsGoodRental, IsGoodOrder, IsGoodEntry}
-use Rattle.bike_readings.specs.Demands.{IsGoodKept, IsGoodCount, IsGoodName, names_before, IsRiding, HasFare, IsFareOf, IsFirstFare, IsOneFare}
+use Rattle.bike_readings.specs.Demands.{IsGoodRequest, IsGoodCount, IsGoodName, names_before, IsRiding, HasFare, IsFareOf, IsFirstFare, IsOneFare}
 use Rattle.bike_readings.specs.Rules.{AreInOrder, rows_below, HasNone, AreOf}
 use Rattle.bike_readings.proofs.ReadLists.{has_read}
 use Rattle.bike_readings.proofs.ByNumber.{at_number}
@@ -59,7 +57,7 @@ use Rattle.bike_readings.proofs.Fares.{counted, is_fare_of, fare_parts, no_fares
 use Rattle.bike_readings.proofs.RowRules.{some_with, some_is, AreGoodRows, LacksNone}
 use Rattle.bike_readings.proofs.ReadRows.{mapped, few_in, IsMeta, meta_are}
 use Rattle.bike_readings.proofs.TablesRead.{system_table, plans_table, plan_read_off, segments_table, types_table, regions_table, stations_table, docks_table, counts_table, bikes_table, trucks_table}
-use Rattle.bike_readings.proofs.TablesRead.{riders_table, kept_table, names_table, rentals_table, orders_table, entries_table}
+use Rattle.bike_readings.proofs.TablesRead.{riders_table, names_table, rentals_table, orders_table, entries_table, requests_table}
 
 module _ (t : Tables) (up : AreInOrder t) (rows : AreGoodRows (operator_of t) t) where
   abbrev s : Operator
@@ -143,10 +141,17 @@ module _ (t : Tables) (up : AreInOrder t) (rows : AreGoodRows (operator_of t) t)
       let fact = some_is (IsGoodEntry s (below_of Entries at.item)) (entry_read at.item) it.value (rows Entries at.item at.has) it.value_is in
       subst IsEntryFact it.part_is (fact.good, fact.fare)
 
-  kept_fact : (key : Key) (k : Kept) → fin.get (kept_in t.kept) key ≡ Some k → IsKeptAt key k
-  kept_fact key k found =
-      let at = (kept_table t up rows).found key k found in
-      some_is (IsGoodKept s (below_of KeptTable at.item)) (kept_read at.item) (key, k) (rows KeptTable at.item at.has) at.read_is
+  request_fact : (n : ℕ) (a : AcceptedRequest) → item_numbered n s.history ≡ Some a → IsAccepted s.now a × IsNext s.history n a
+  request_fact n a found =
+      let at = (requests_table t up rows).found n a found in
+      let law = (request_reading.sound at.item (n, a) at.read_is).1 in
+      let fact = some_is (IsGoodRequest s (below_of History at.item)) (request_read at.item) (n, a) (rows History at.item at.has) at.read_is in (
+        record { request = law.request; reply = law.reply; accepted = law.accepted; by_now = fact.by_now },
+        record { below = below_of History at.item; number_is = fact.number_is; in_order = fact.in_order; anew = fact.anew },
+      )
+
+  history_sound : IsHistory s.now s.history
+  history_sound = history_of s.history (λ n a found. (request_fact n a found).1) s.now (λ n a found. (request_fact n a found).0)
 
   -- a further name of what is there, and that it is within the limit
   record IsWithinLimit (key : NameKey) (name : List ℕ) : Type 0 where
@@ -417,7 +422,7 @@ module _ (t : Tables) (up : AreInOrder t) (rows : AreGoodRows (operator_of t) t)
 
     sound : IsSound s
     sound =
-        record { catalogue = catalogue_sound; bikes = bikes_sound; orders = orders_sound; rentals = rentals_sound; ledger = ledger_sound; history = history_sound (kept_in t.kept) kept_fact s.now; names = names_sound; now = meta.by_last }
+        record { catalogue = catalogue_sound; bikes = bikes_sound; orders = orders_sound; rentals = rentals_sound; ledger = ledger_sound; history = history_sound; names = names_sound; now = meta.by_last }
 
     tables : t ≡ tables_for s (listed_of t)
     tables =
@@ -435,7 +440,7 @@ module _ (t : Tables) (up : AreInOrder t) (rows : AreGoodRows (operator_of t) t)
         let rentals = (rentals_table t up rows).rows_are in
         let orders = (orders_table t up rows).rows_are in
         let entries = (entries_table t up rows).rows_are in
-        let kept = (kept_table t up rows).rows_are ∙ ap (λ (k : FinMap texts_cmp Kept). map stored_kept (fin.entries k)) (sym (kept_again (kept_in t.kept) kept_fact)) in
+        let history = (requests_table t up rows).rows_are in
         let counts = (counts_table t up rows).rows_are in
         let more_names = (names_table t up rows).rows_are in
         λ i. record {
@@ -453,7 +458,7 @@ module _ (t : Tables) (up : AreInOrder t) (rows : AreGoodRows (operator_of t) t)
           rentals = rentals i;
           orders = orders i;
           entries = entries i;
-          kept = kept i;
+          history = history i;
           counts = counts i;
           more_names = more_names i;
         }

@@ -1,5 +1,5 @@
 -- The laws of the rules, from rows to tables and to the tables in a database.
-use Rattle.std.proofs.Common.{◌≡◌, ℕ, List, [], map, slice_index_or, Option, Some, None, refl, sym, ap, ◌∙◌, subst, subst₂}
+use Rattle.std.proofs.Common.{◌≡◌, ℕ, List, [], map, slice_index_or, Option, Some, None, refl, sym, ap, ◌∙◌, subst}
 use Rattle.std.specs.Prelude.{unwrap_or, option_map, option_and_then, slice_get}
 use Rattle.std.specs.Ordering.{nat_cmp, ordering_reverse}
 use Rattle.std.specs.declared.cmp.Ordering.{Ordering}
@@ -16,21 +16,19 @@ use Rattle.bike_sql.proofs.OrderLemmas.{Rises, rises}
 use Rattle.bike_sql.proofs.TreeLemmas.{by_key_total}
 use Rattle.bike_operator.specs.Operator.{Operator}
 use Rattle.bike_book.specs.Tables.{TableName, Tables, rows_in as rows_in_tables, tables_by, keys_of, table_place, Meta, System, Plans, Segments, Types, Regions, Stations, Docks, Bikes, Trucks, Riders}
-use Rattle.bike_book.specs.Tables.{Rentals, Orders, Entries, Kept, Counts, MoreNames}
-use Rattle.bike_operator.specs.Sound.{IsSound}
-use Rattle.bike_book.specs.Stored.{tables_for, IsListing}
+use Rattle.bike_book.specs.Tables.{Rentals, Orders, Entries, History, Counts, MoreNames}
+use Rattle.bike_book.specs.Stored.{tables_for}
 use Rattle.sqlite_trees.specs.Tree.{Trees}
 use Rattle.bike_schema.specs.Layouts.{every_table, name_of}
 use Rattle.bike_schema.specs.Tables.{tables_of}
 use Rattle.bike_schema.specs.Stands.{Stores}
-use Rattle.bike_readings.specs.ReadOff.{operator_of, listed_of, as_stored}
+use Rattle.bike_readings.specs.ReadOff.{operator_of, listed_of}
 use Rattle.bike_readings.specs.Rules.{AllGood, IsGoodKey, IsFirstBad, AreOf}
 use Rattle.bike_readings.specs.Laws.{GoodAreOf, OfAreGood, OfIsReadOff, BadAreOfNone, OneVerdict, StoredInOrder, StoredGood, StoredReadOff, StoredBad}
 use Rattle.bike_readings.proofs.RowRules.{AreGoodKeys, keys_good, rows_good, lacks_none}
 use Rattle.bike_readings.proofs.GoodRows.{all_rows_good, none_lacking}
 use Rattle.bike_readings.proofs.ReadOffBack.{operator_back, listed_back}
 use Rattle.bike_readings.proofs.ReadSound.{are_of}
-use Rattle.bike_readings.proofs.StoredHistory.{as_stored_sound, as_stored_listing, as_stored_tables}
 
 -- ---- of tables
 
@@ -42,17 +40,11 @@ of_is_read_off t s m of = (ap operator_of of.tables ∙ operator_back s m of.sou
 
 pub of_are_good : OfAreGood
 of_are_good t s m of = subst AllGood (sym of.tables) good where
-  sound : IsSound (as_stored s)
-  sound = as_stored_sound s of.sound
-
-  listing : IsListing (as_stored s) m
-  listing = as_stored_listing s of.sound m of.listing
-
-  keys : AreGoodKeys (as_stored s) (tables_for (as_stored s) m)
-  keys = keys_good (as_stored s) (tables_for (as_stored s) m) (all_rows_good (as_stored s) m sound listing) (none_lacking (as_stored s) m sound listing)
+  keys : AreGoodKeys s (tables_for s m)
+  keys = keys_good s (tables_for s m) (all_rows_good s m of.sound of.listing) (none_lacking s m of.sound of.listing)
 
   good : AllGood (tables_for s m)
-  good = subst₂ AreGoodKeys (sym (operator_back s m of.sound of.listing)) (as_stored_tables s of.sound m) keys
+  good = subst (λ (o : Operator). AreGoodKeys o (tables_for s m)) (sym (operator_back s m of.sound of.listing)) keys
 
 pub bad_are_of_none : BadAreOfNone
 bad_are_of_none t bad verdict s m of = verdict.bad (of_are_good t s m of bad.0 bad.1)
@@ -79,7 +71,7 @@ its_own Riders = refl
 its_own Rentals = refl
 its_own Orders = refl
 its_own Entries = refl
-its_own Kept = refl
+its_own History = refl
 its_own Counts = refl
 its_own MoreNames = refl
 
@@ -127,7 +119,7 @@ rows_by rows Riders = refl
 rows_by rows Rentals = refl
 rows_by rows Orders = refl
 rows_by rows Entries = refl
-rows_by rows Kept = refl
+rows_by rows History = refl
 rows_by rows Counts = refl
 rows_by rows MoreNames = refl
 

@@ -18,7 +18,7 @@ use Rattle.bike_operator.specs.declared.records.Bike.{Bike}
 use Rattle.bike_operator.specs.declared.records.Rental.{Rental}
 use Rattle.bike_operator.specs.declared.records.Closing.{Closing}
 use Rattle.bike_operator.specs.declared.records.Order.{Order}
-use Rattle.bike_operator.specs.Operator.{Operator, Station, Truck, Rider, name_key, item_at, item_numbered}
+use Rattle.bike_operator.specs.Operator.{Operator, Station, Truck, Rider, AcceptedRequest, name_key, item_at, item_numbered}
 use Rattle.bike_operator.specs.Counts.{count, docks_up_to, docks_broken, available_of, is_broken}
 use Rattle.bike_operator.specs.View.{has_end, has_region}
 use Rattle.bike_operator.specs.Sound.{IsSetSystem, HasDock, IsPlace, IsStop, IsOpenOrClosed, IsBooking, IsSound}
@@ -29,7 +29,7 @@ use Rattle.bike_book.specs.Rows.{second_text, third_text}
 use Rattle.bike_readings.specs.SoundRows.{HasBounds}
 use Rattle.bike_readings.specs.Bounds.{IsNumbered, IsSerial, IsCount, IsMoment, IsIdentOrNone, IsStoredMeta, IsStoredPlan, IsStoredSegment, IsStoredType, IsStoredRegion, IsStoredStation, IsStoredDock}
 use Rattle.bike_readings.specs.Bounds.{IsStoredPlace, IsStoredBike, IsStoredTruck, IsOpenOrStored, IsStoredRental, IsStoredOrder, IsStoredRentalOf, IsStoredAmount, IsStoredEntry, IsStoredCount}
-use Rattle.bike_readings.specs.Bounds.{IsStoredName}
+use Rattle.bike_readings.specs.Bounds.{IsStoredRequest, IsStoredName}
 
 -- ---- what is there
 
@@ -244,6 +244,11 @@ module _ (s : Operator) (sound : IsSound s) where
         at = by_now e.at it.by_now;
       }
 
+  pub request_stored : (number : ℕ) (a : AcceptedRequest) → item_numbered number s.history ≡ Some a → IsStoredRequest (number, a)
+  request_stored number a found =
+      let it = sound.history.requests number a found in
+      record { moment = by_now a.moment it.by_now; request = it.request; reply = it.reply; accepted = it.accepted }
+
   few_bikes : (test : ℕ × Bike → Bool) → IsCount (count test (fin.entries s.bikes))
   few_bikes test =
       let within = filtered_within test (fin.entries s.bikes) in
@@ -279,6 +284,7 @@ has_bounds s sound = record {
   rentals = rental_stored s sound;
   orders = order_stored s sound;
   entries = entry_stored s sound;
+  requests = request_stored s sound;
   counts = count_stored s sound;
   more_names = name_stored s sound;
 }

@@ -14,19 +14,19 @@ use Rattle.bike_operator.specs.declared.records.Bike.{Bike}
 use Rattle.bike_operator.specs.declared.records.Rental.{Rental}
 use Rattle.bike_operator.specs.Operator.{Operator, Key, NameKey, DockKey, dock_key, key_of, name_key, item_at}
 use Rattle.bike_operator.specs.Sound.{IsPlanAt}
-use Rattle.bike_book.specs.Tables.{Tables, System, Plans, Segments, Types, Regions, Stations, Docks, Bikes, Trucks, Riders, Rentals, Orders, Entries, Kept, Counts, MoreNames, TableName, keys_of}
+use Rattle.bike_book.specs.Tables.{Tables, System, Plans, Segments, Types, Regions, Stations, Docks, Bikes, Trucks, Riders, Rentals, Orders, Entries, History, Counts, MoreNames, TableName, keys_of}
 use Rattle.bike_book.specs.Stored.{plans_segments, stored_plan, stored_type, stored_region, stored_station, stored_dock, stored_bike, stored_truck, stored_rider, stored_rental, stored_order}
-use Rattle.bike_book.specs.Stored.{stored_entry, stored_kept, stored_count, stored_name}
+use Rattle.bike_book.specs.Stored.{stored_entry, stored_request, stored_count, stored_name}
 use Rattle.bike_book.proofs.Keys.{numbers, texts, pairs, triples, docks, IsPair, IsTriple, IsDockPair}
-use Rattle.bike_readings.specs.Readings.{plan_read, segment_read, type_read, region_read, dock_read, truck_read, rental_read, order_read, entry_read, kept_read, count_read, name_read}
+use Rattle.bike_readings.specs.Readings.{plan_read, segment_read, type_read, region_read, dock_read, truck_read, rental_read, order_read, entry_read, request_read, count_read, name_read}
 use Rattle.bike_readings.proofs.CatalogueRows.{plan_reading, segment_reading, type_reading, region_reading, station_reading, dock_reading, name_reading}
 use Rattle.bike_readings.proofs.LedgerRows.{count_reading, rider_reading, rental_reading, entry_reading}
 use Rattle.bike_readings.proofs.FleetRows.{bike_reading, truck_reading, order_reading}
-use Rattle.bike_readings.proofs.KeptRows.{kept_reading}
-use Rattle.bike_readings.specs.ReadOff.{with_segments, plan_in, station_in, rider_in, rental_in, entry_in, name_in, dock_in, count_in, segments_of, most_segments, operator_of, listed_of, first_of, kept_in}
+use Rattle.bike_readings.proofs.RequestRows.{request_reading}
+use Rattle.bike_readings.specs.ReadOff.{with_segments, plan_in, station_in, rider_in, rental_in, entry_in, name_in, dock_in, count_in, segments_of, most_segments, operator_of, listed_of, first_of}
 use Rattle.bike_readings.specs.ReadOff.{misplaced_bike, bike_in}
 use Rattle.bike_readings.specs.Demands.{IsGoodPlan, IsGoodSegment, IsGoodType, IsGoodRegion, IsGoodStation, IsGoodDock, IsGoodBike, IsGoodTruck, IsGoodRider, IsGoodRental, IsGoodOrder, IsGoodEntry}
-use Rattle.bike_readings.specs.Demands.{IsGoodKept, IsGoodCount, IsGoodName}
+use Rattle.bike_readings.specs.Demands.{IsGoodRequest, IsGoodCount, IsGoodName}
 use Rattle.bike_readings.specs.Rules.{AreInOrder, rows_below}
 use Rattle.bike_readings.proofs.ReadLists.{IsStored, AreRowsOf, read_map}
 use Rattle.bike_readings.proofs.Segments.{IsOfPlan, segments_are, item_found, segment_found, few_found}
@@ -34,7 +34,6 @@ use Rattle.bike_readings.proofs.Broken.{broken_as}
 use Rattle.bike_readings.proofs.RowRules.{some_with, AreGoodRows}
 use Rattle.bike_readings.proofs.ReadRows.{mapped, stored_plain, stored_part, AreRowsOfList, read_list, IsSystemOf, system_are}
 use Rattle.bike_book.specs.Rows.{count_row, dock_row, rental_row, rider_row, station_row}
-use Rattle.bike_fields.specs.Caller.{caller_text}
 
 are_segments : (gs : List SegmentRow) → ((i : ℕ) (g : SegmentRow) → item_at i gs ≡ Some g → IsSegment g) → AreSegments gs
 are_segments [] each = tt
@@ -131,7 +130,7 @@ module _ (t : Tables) (up : AreInOrder t) (rows : AreGoodRows (operator_of t) t)
       (λ a is fact. let available = fact.available_is in let disabled = fact.disabled_is in λ i. count_row a.0 a.1 (available i) (disabled i)))
       count_pair
 
-  -- ---- bicycles, trucks, riders, kept requests
+  -- ---- bicycles, trucks, riders
 
   -- the bicycle of a good row is the one that it spells
   good_bike : (r : Row) → Has t.bikes r → IsStored bike_in stored_bike r
@@ -153,14 +152,6 @@ module _ (t : Tables) (up : AreInOrder t) (rows : AreGoodRows (operator_of t) t)
       (λ a is fact. ap (λ (z : ℤ). rider_row a.0 a.1.is_blocked z) fact.balance_is))
       (λ r e has is. tt)
 
-  kept_pair : (r : Row) (e : _) → Has t.kept r → kept_read r ≡ Some e → IsPair e.0
-  kept_pair r e has is =
-      let it = (kept_reading.sound r e is).1 in
-      record { first = caller_text it.caller; second = it.name; is = it.key_is }
-
-  pub kept_table : AreRowsOf pairs stored_kept (λ e. refl) kept_read t.kept (kept_in t.kept)
-  kept_table = read_map pairs stored_kept (λ e. refl) kept_read t.kept (up Kept) (λ r has. stored_plain kept_reading (IsGoodKept s (below_of Kept r)) r (rows Kept r has)) kept_pair
-
   -- ---- names in further languages
 
   triple_read : (r : Row) (e : NameKey × List ℕ) → Has t.more_names r → name_in r ≡ Some e → IsTriple e.0
@@ -174,7 +165,7 @@ module _ (t : Tables) (up : AreInOrder t) (rows : AreGoodRows (operator_of t) t)
       (λ r has. stored_part name_reading (λ e. (name_key e.0 e.1 e.2.language, e.2.name)) stored_name (IsGoodName s (below_of MoreNames r)) r (rows MoreNames r has) (λ a is fact. refl))
       triple_read
 
-  -- ---- rentals, orders, entries
+  -- ---- rentals, orders, entries, requests
 
   pub rentals_table : AreRowsOfList (stored_rental s.entries) rental_in t.rentals s.rentals
   rentals_table =
@@ -200,3 +191,11 @@ module _ (t : Tables) (up : AreInOrder t) (rows : AreGoodRows (operator_of t) t)
       (λ r has.
       let it = some_with (IsGoodEntry s (below_of Entries r)) (entry_read r) (rows Entries r has) in
       (it.value, ap (option_map (λ (e : Entry). (e.number, e))) it.value_is ∙ ap (λ (n : ℕ). Some (n, it.value)) it.fact.number_is))
+
+  pub requests_table : AreRowsOfList stored_request request_read t.history s.history
+  requests_table =
+      read_list stored_request request_read t.history (up History)
+      (λ r has. stored_plain request_reading (IsGoodRequest s (below_of History r)) r (rows History r has))
+      (λ r has.
+      let it = some_with (IsGoodRequest s (below_of History r)) (request_read r) (rows History r has) in
+      (it.value.1, it.value_is ∙ ap (λ (n : ℕ). Some (n, it.value.1)) it.fact.number_is))

@@ -5,23 +5,22 @@ use Rattle.sqlite_value.specs.Order.{Row}
 use Rattle.bike_fields.specs.Values.{SegmentRow}
 use Rattle.bike_catalogue.specs.Rows.{PlanRow, TypeRow, RegionRow, MoreNameRow, IsSystem}
 use Rattle.bike_fields.specs.declared.name_kind.NameKind.{NameKind}
-use Rattle.bike_commands.specs.Commands.{text_of}
-use Rattle.bike_commands.specs.Replies.{reply_text}
 use Rattle.bike_ledger.specs.Entries.{Entry}
 use Rattle.bike_operator.specs.declared.records.Bike.{Bike}
 use Rattle.bike_operator.specs.declared.records.Rental.{Rental}
 use Rattle.bike_operator.specs.declared.records.Order.{Order}
-use Rattle.bike_operator.specs.Operator.{Station, Truck, Rider, Key, name_key}
-use Rattle.bike_book.specs.KeptRequests.{Kept, IsKept}
+use Rattle.bike_operator.specs.Operator.{Station, Truck, Rider, name_key}
+use Rattle.bike_book.specs.Stored.{stored_request}
 use Rattle.bike_book.specs.Rows.{meta_row, system_row, plan_row, segment_row, type_row, region_row, station_row}
-use Rattle.bike_book.specs.Rows.{dock_row, bike_row, truck_row, rider_row, rental_row, order_row, entry_row, kept_row}
-use Rattle.bike_book.specs.Rows.{count_row, name_row, first_text, second_text}
+use Rattle.bike_book.specs.Rows.{dock_row, bike_row, truck_row, rider_row, rental_row, order_row, entry_row}
+use Rattle.bike_book.specs.Rows.{count_row, name_row}
 use Rattle.bike_readings.specs.Readings.{meta_read, system_read, plan_read, segment_read, type_read, region_read}
 use Rattle.bike_readings.specs.Readings.{station_read, dock_read, bike_read, truck_read, rider_read, rental_read}
-use Rattle.bike_readings.specs.Readings.{order_read, entry_read, kept_read, count_read, name_read}
+use Rattle.bike_readings.specs.Readings.{order_read, entry_read, request_read, count_read, name_read}
 use Rattle.bike_readings.specs.Bounds.{IsNumbered, IsStoredMeta, IsStoredPlan, IsStoredSegment, IsStoredType}
 use Rattle.bike_readings.specs.Bounds.{IsStoredRegion, IsStoredStation, IsStoredDock, IsStoredBike, IsStoredTruck}
-use Rattle.bike_readings.specs.Bounds.{IsStoredRental, IsStoredOrder, IsStoredEntry, IsStoredCount, IsStoredName}
+use Rattle.bike_readings.specs.Bounds.{IsStoredRental, IsStoredOrder, IsStoredEntry, IsStoredRequest, IsStoredCount}
+use Rattle.bike_readings.specs.Bounds.{IsStoredName}
 
 -- The reader gives exactly the values within their bounds of which rows are made.
 pub record IsReading {X : Type 0} (read : Row → Option X) (row_of : X → Row) (Good : X → Type 0) : Type 0 where
@@ -75,6 +74,10 @@ OrderReading = IsReading order_read (λ (x : ℕ × Order). order_row x.0 x.1) (
 abbrev pub EntryReading : Type 0
 EntryReading = IsReading entry_read (λ (e : Entry). entry_row e.number e) IsStoredEntry
 
+-- an accepted request with its number
+abbrev pub RequestReading : Type 0
+RequestReading = IsReading request_read stored_request IsStoredRequest
+
 abbrev pub CountReading : Type 0
 CountReading =
     IsReading count_read (λ (x : List ℕ × List ℕ × ℕ × ℕ). count_row x.0 x.1 x.2 x.3)
@@ -85,9 +88,3 @@ abbrev pub NameReading : Type 0
 NameReading =
     IsReading name_read (λ (x : NameKind × List ℕ × MoreNameRow). name_row (name_key x.0 x.1 x.2.language) x.2.name)
     (λ x. IsStoredName x.1 x.2)
-
--- a kept request under the texts of its caller and key
-abbrev pub KeptReading : Type 0
-KeptReading =
-    IsReading kept_read (λ (x : Key × Kept). kept_row (first_text x.0) (second_text x.0) (text_of x.1.command)
-    (reply_text x.1.reply)) (λ x. IsKept x.0 x.1)

@@ -1,5 +1,5 @@
 -- The bounds that the records of stored rows keep, each of which the row alone tells.
-use Rattle.std.specs.Prelude.{◌≡◌, ℕ, ℤ, pos, ◌≤◌, ◌≤ℤ◌, List, true, Option, Some, None}
+use Rattle.std.specs.Prelude.{◌≡◌, ℕ, ℤ, pos, ◌≤◌, ◌≤ℤ◌, List, true, false, Option, Some, None}
 use Rattle.bike_fixed.specs.Whole.{last_moment}
 use Rattle.bike_fields.specs.declared.numbers.TheConstants.{GREATEST_NUMBER, GREATEST_SERIAL, MOST_CARRIED, MOST_DOCKS}
 use Rattle.bike_fields.specs.Bytes.{is_ident}
@@ -16,8 +16,10 @@ use Rattle.bike_operator.specs.declared.records.Bike.{Bike}
 use Rattle.bike_operator.specs.declared.records.Rental.{Rental}
 use Rattle.bike_operator.specs.declared.records.Closing.{Closing}
 use Rattle.bike_operator.specs.declared.records.Order.{Order}
-use Rattle.bike_operator.specs.Operator.{Station, Truck}
-use Rattle.bike_operator.specs.Sound.{IsPayment}
+use Rattle.bike_commands.specs.Requests.{IsRequest}
+use Rattle.bike_commands.specs.Replies.{IsReply}
+use Rattle.bike_operator.specs.Operator.{Station, Truck, AcceptedRequest}
+use Rattle.bike_operator.specs.Sound.{IsPayment, is_refused}
 use Rattle.bike_readings.specs.ColumnReaders.{greatest_count}
 
 -- ---- numbers
@@ -144,6 +146,13 @@ pub record IsStoredEntry (e : Entry) : Type 0 where
   pub rental : IsStoredRentalOf e.kind e.rental
   pub amount : IsStoredAmount e.kind e.amount
   pub at : IsMoment e.at
+
+-- a request of the program at a moment of the program, and its reply, which isn't a refusal; its number may be any
+pub record IsStoredRequest (e : ℕ × AcceptedRequest) : Type 0 where
+  pub moment : IsMoment e.1.moment
+  pub request : IsRequest e.1.request
+  pub reply : IsReply e.1.reply
+  pub accepted : is_refused e.1.reply ≡ false
 
 pub record IsStoredCount (station type_id : List ℕ) (available disabled : ℕ) : Type 0 where
   pub good_station : is_ident station ≡ true

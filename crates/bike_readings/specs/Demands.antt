@@ -19,9 +19,11 @@
 --   refunds over the fare                                       the rental
 --   delivered and bicycles on the truck over the count          the order
 --   entries and open rentals over their limit                   the first entry past it
+--   a request after now, or of a moment before the last         the request
+--   two requests of one caller and key                          the later request
 --   a number stored beside a record that isn't the figure       the row that has it
 use Rattle.std.specs.Prelude.{◌≡◌, ℕ, ℤ, ◌+◌, ◌<◌, ◌≤◌, ◌≤ℤ◌, pos, List, Bool, true, false, filter, length, Option}
-use Rattle.std.specs.Prelude.{Some, None, is_some}
+use Rattle.std.specs.Prelude.{Some, None, is_some, IfSome, take}
 use Rattle.std.specs.Ordering.{is_lt}
 use Rattle.std.specs.FinMap as fin
 use Rattle.bike_fields.specs.declared.numbers.TheConstants.{GREATEST_NUMBER}
@@ -41,13 +43,13 @@ use Rattle.bike_operator.specs.declared.records.Bike.{Bike}
 use Rattle.bike_operator.specs.declared.records.Rental.{Rental}
 use Rattle.bike_operator.specs.declared.records.Closing.{Closing}
 use Rattle.bike_operator.specs.declared.records.Order.{Order}
-use Rattle.bike_operator.specs.Operator.{Operator, Station, Truck, Rider, Key, text_cmp, item_numbered}
+use Rattle.bike_operator.specs.Operator.{Operator, Station, Truck, Rider, AcceptedRequest, text_cmp, item_numbered}
+use Rattle.bike_operator.specs.Operator.{key_in, kept_under}
 use Rattle.bike_operator.specs.Counts.{is_open, is_retired, open_rentals, docks_available, docks_broken, available_of}
 use Rattle.bike_operator.specs.Names.{has_named, is_own_language, further_names}
 use Rattle.bike_operator.specs.Sound.{IsTypeAt, IsStationAt, HasDock, IsTruckAt, IsOrderAt, IsOpenOrClosed}
 use Rattle.bike_operator.specs.Sound.{most_refunded, fares_of, IsRiderNumber, IsEntryAt}
 use Rattle.bike_laws.specs.SingleSteps.Numbers.{disabled_of}
-use Rattle.bike_book.specs.KeptRequests.{Kept, IsKept}
 use Rattle.bike_book.specs.declared.version.TheConstants.{NEWEST}
 use Rattle.bike_book.specs.Tables.{Tables}
 use Rattle.bike_readings.specs.ReadOff.{rental_at, order_at}
@@ -201,7 +203,7 @@ module _ (s : Operator) (below : ℕ) where
     pub room : below < MOST_ORDERS
     pub good : IsOrderAt s e.0 e.1
 
-  -- ---- entries, kept requests and counts
+  -- ---- entries, accepted requests and counts
 
   pub record IsGoodEntry (e : Entry) : Type 0 where
     pub number_is : e.number ≡ below + 1
@@ -209,8 +211,12 @@ module _ (s : Operator) (below : ℕ) where
     pub good : IsEntryAt s e.number e
     pub fare : IsOneFare s e e.kind
 
-  abbrev pub IsGoodKept : Key × Kept → Type 0
-  IsGoodKept e = IsKept e.0 e.1
+  -- not before the request before it, and the first of its caller and key
+  pub record IsGoodRequest (e : ℕ × AcceptedRequest) : Type 0 where
+    pub number_is : e.0 ≡ below + 1
+    pub by_now : e.1.moment ≤ s.now
+    pub in_order : IfSome (item_numbered below s.history) (λ a. a.moment ≤ e.1.moment)
+    pub anew : kept_under (key_in e.1.request) (take below s.history) ≡ None
 
   pub record IsGoodCount (e : List ℕ × List ℕ × ℕ × ℕ) : Type 0 where
     pub has_station : fin.contains_key s.stations e.0 ≡ true

@@ -8,7 +8,7 @@ use Rattle.bike_book.specs.Tables.{TableName, Tables}
 use Rattle.bike_book.specs.Stored.{Listed}
 use Rattle.bike_schema.specs.Tables.{tables_of, HasTables}
 use Rattle.bike_schema.specs.Stands.{Stores}
-use Rattle.bike_readings.specs.ReadOff.{operator_of, listed_of, as_stored}
+use Rattle.bike_readings.specs.ReadOff.{operator_of, listed_of}
 use Rattle.bike_readings.specs.Rules.{AreInOrder, IsFirstBad, IsVerdict, AreOf}
 
 -- ---- of tables
@@ -21,9 +21,9 @@ GoodAreOf = (t : Tables) → AreInOrder t → IsVerdict t None → AreOf t (oper
 abbrev pub OfAreGood : Type 0
 OfAreGood = (t : Tables) (s : Operator) (m : Listed) → AreOf t s m → IsVerdict t None
 
--- and what is read off them is the operator as they have it.
+-- and what is read off them is the operator.
 abbrev pub OfIsReadOff : Type 0
-OfIsReadOff = (t : Tables) (s : Operator) (m : Listed) → AreOf t s m → (operator_of t ≡ as_stored s) × (listed_of t ≡ m)
+OfIsReadOff = (t : Tables) (s : Operator) (m : Listed) → AreOf t s m → (operator_of t ≡ s) × (listed_of t ≡ m)
 
 -- Where a key is bad, the tables are those of no operator.
 abbrev pub BadAreOfNone : Type 0
@@ -46,11 +46,11 @@ StoredInOrder = (db : Database) → AreInOrder (tables_of db)
 abbrev pub StoredGood : Type 0
 StoredGood = (db : Database) → HasTables db → IsVerdict (tables_of db) None → Stores db (operator_of (tables_of db))
 
--- where they stand for an operator, all keys are good and what is read off them is the operator as they have it,
+-- where they stand for an operator, all keys are good and what is read off them is the operator,
 abbrev pub StoredReadOff : Type 0
 StoredReadOff =
     (db : Database) (s : Operator) → Stores db s
-    → IsVerdict (tables_of db) None × (operator_of (tables_of db) ≡ as_stored s)
+    → IsVerdict (tables_of db) None × (operator_of (tables_of db) ≡ s)
 
 -- and where a key is bad, they stand for none.
 abbrev pub StoredBad : Type 0

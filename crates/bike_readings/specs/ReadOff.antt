@@ -5,14 +5,11 @@ use Rattle.std.specs.Prelude.{ℕ, zero, suc, List, [], ◌∷◌, map, if◌the
 use Rattle.std.specs.Prelude.{option_and_then, unwrap_or}
 use Rattle.std.specs.List.{filter_map}
 use Rattle.std.specs.FinMap as fin
-use Rattle.std.specs.FinMap.{FinMap}
 use Rattle.std.specs.FinSet as set
 use Rattle.sqlite_value.specs.declared.value.Value.{Value}
 use Rattle.sqlite_value.specs.declared.value.Value.TheVariants.{Text}
 use Rattle.sqlite_value.specs.Order.{Row, column}
-use Rattle.bike_fields.specs.Caller.{◌>>=◌, caller_of}
-use Rattle.bike_fields.specs.declared.caller.Caller.{Caller}
-use Rattle.bike_fields.specs.declared.caller.Caller.TheVariants.{Office}
+use Rattle.bike_fields.specs.Caller.{◌>>=◌}
 use Rattle.bike_fields.specs.Values.{SegmentRow}
 use Rattle.bike_catalogue.specs.Rows.{PlanRow}
 use Rattle.bike_ledger.specs.Entries.{Entry}
@@ -21,18 +18,16 @@ use Rattle.bike_operator.specs.declared.records.Place.TheVariants as place
 use Rattle.bike_operator.specs.declared.records.Bike.{Bike}
 use Rattle.bike_operator.specs.declared.records.Rental.{Rental}
 use Rattle.bike_operator.specs.declared.records.Order.{Order}
-use Rattle.bike_operator.specs.Operator.{Operator, Station, Rider, AcceptedRequest, Key, NameKey, DockKey, key_of, name_key}
-use Rattle.bike_operator.specs.Operator.{dock_key, texts_cmp}
+use Rattle.bike_operator.specs.Operator.{Operator, Station, Rider, Key, NameKey, DockKey, key_of, name_key, dock_key}
 use Rattle.bike_sql.specs.View.{row_with}
 use Rattle.bike_book.specs.Tables.{Tables}
-use Rattle.bike_book.specs.Rows.{number_value, first_text, second_text}
-use Rattle.bike_book.specs.KeptRequests.{Kept, kept_of}
+use Rattle.bike_book.specs.Rows.{number_value}
 use Rattle.bike_book.specs.Stored.{Listed}
 use Rattle.bike_schema.specs.Columns.{ident_in, state_in, or_none}
 use Rattle.bike_readings.specs.ColumnReaders.{where_wide, numbered_in, serial_in, dock_in as dock_number_in}
 use Rattle.bike_readings.specs.Readings.{meta_read, system_read, plan_read, segment_read, type_read, region_read}
 use Rattle.bike_readings.specs.Readings.{station_read, dock_read, bike_read, truck_read, rider_read, rental_read}
-use Rattle.bike_readings.specs.Readings.{order_read, entry_read, kept_read, count_read, name_read}
+use Rattle.bike_readings.specs.Readings.{order_read, entry_read, request_read, count_read, name_read}
 
 abbrev pub first : {A : Type 0} → List A → Option A
 first [] = None
@@ -166,31 +161,6 @@ count_in row = option_map (λ e. (key_of e.0 e.1, tt)) (count_read row)
 abbrev pub moment_of : List Row → ℕ
 moment_of rows = unwrap_or (option_map (λ e. e.1) (first (filter_map meta_read rows))) 0
 
--- ---- what is kept
-
-abbrev pub kept_in : List Row → FinMap texts_cmp Kept
-kept_in rows = fin.from_sorted (filter_map kept_read rows)
-
--- the caller of a key
-abbrev pub caller_under : Key → Caller
-caller_under key = unwrap_or (caller_of (first_text key)) Office
-
--- what the table keeps of an accepted request: its moment isn't there
-abbrev pub accepted_in : Key × Kept → AcceptedRequest
-accepted_in e = record {
-  moment = 0;
-  request = record { caller = caller_under e.0; key = second_text e.0; command = e.1.command };
-  reply = e.1.reply;
-}
-
--- the requests that are kept, in the order of callers and keys
-abbrev pub history_in : FinMap texts_cmp Kept → List AcceptedRequest
-history_in kept = map accepted_in (fin.entries kept)
-
--- AN OPERATOR AS ITS TABLES HAVE IT: of its history they have neither the moments nor the order
-abbrev pub as_stored : Operator → Operator
-as_stored s = record s { history = history_in (kept_of s.history) }
-
 -- THE OPERATOR THAT IS READ OFF TABLES
 abbrev pub operator_of : Tables → Operator
 operator_of t = record {
@@ -206,7 +176,7 @@ operator_of t = record {
   rentals = map (λ e. e.1) (filter_map rental_in t.rentals);
   orders = map (λ e. e.1) (filter_map order_read t.orders);
   entries = map (λ e. e.1) (filter_map entry_in t.entries);
-  history = history_in (kept_in t.kept);
+  history = map (λ e. e.1) (filter_map request_read t.history);
   more_names = fin.from_sorted (filter_map name_in t.more_names);
   now = moment_of t.meta;
 }

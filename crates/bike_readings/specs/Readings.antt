@@ -6,7 +6,7 @@ use Rattle.sqlite_value.specs.Order.{Row, column}
 use Rattle.bike_fields.specs.declared.numbers.TheConstants.{GREATEST_PRICE, GREATEST_RANGE, LAST_MINUTE}
 use Rattle.bike_fields.specs.declared.numbers.TheConstants.{LONGEST_TIME_TO_LIVE, MOST_CARRIED}
 use Rattle.bike_fields.specs.declared.limits.TheConstants.{MOST_SEGMENTS}
-use Rattle.bike_fields.specs.Caller.{◌>>=◌, caller_text}
+use Rattle.bike_fields.specs.Caller.{◌>>=◌}
 use Rattle.bike_fields.specs.Values.{SegmentRow, is_range, is_after}
 use Rattle.bike_catalogue.specs.Rows.{PlanRow, TypeRow, RegionRow, MoreNameRow, SystemRow}
 use Rattle.bike_fields.specs.declared.name_kind.NameKind.{NameKind}
@@ -14,9 +14,9 @@ use Rattle.bike_ledger.specs.Entries.{Entry}
 use Rattle.bike_operator.specs.declared.records.Bike.{Bike}
 use Rattle.bike_operator.specs.declared.records.Rental.{Rental}
 use Rattle.bike_operator.specs.declared.records.Order.{Order}
-use Rattle.bike_operator.specs.Operator.{Station, Truck, Rider, Key, key_of}
+use Rattle.bike_operator.specs.Operator.{Station, Truck, Rider, AcceptedRequest}
 use Rattle.bike_schema.specs.Columns.{number_in, moment_in, flag_in, state_in, whole_in, ident_in, name_in, or_none}
-use Rattle.bike_book.specs.KeptRequests.{Kept}
+use Rattle.bike_schema.specs.Columns.{request_count_in}
 use Rattle.bike_readings.specs.ColumnReaders.{where_wide, language_in, currency_in, ascii_in, key_in, caller_in}
 use Rattle.bike_readings.specs.ColumnReaders.{form_in, propulsion_in, named_kind_in, end_in, word_in, command_in}
 use Rattle.bike_readings.specs.ColumnReaders.{reply_in, rate_in, latitude_in, longitude_in, greatest_count, count_in}
@@ -232,13 +232,19 @@ entry_read row = where_wide 6 row (do
   at ← moment_in (column row 5)
   Some (record { number = number; kind = kind; rider = rider; rental = rental; amount = amount; at = at }))
 
-abbrev pub kept_read : Row → Option (Key × Kept)
-kept_read row = where_wide 4 row (do
-  caller ← caller_in (column row 0)
-  key ← key_in (column row 1)
-  command ← command_in (column row 2)
-  reply ← reply_in (column row 3)
-  Some (key_of (caller_text caller) key, record { command = command; reply = reply }))
+-- an accepted request with its number
+abbrev pub request_read : Row → Option (ℕ × AcceptedRequest)
+request_read row = where_wide 6 row (do
+  number ← request_count_in (column row 0)
+  moment ← moment_in (column row 1)
+  caller ← caller_in (column row 2)
+  key ← key_in (column row 3)
+  command ← command_in (column row 4)
+  reply ← reply_in (column row 5)
+  Some (
+    number,
+    record { moment = moment; request = record { caller = caller; key = key; command = command }; reply = reply },
+  ))
 
 -- a station, a type, and how many of its bicycles there can be rented and how many can't
 abbrev pub count_read : Row → Option (List ℕ × List ℕ × ℕ × ℕ)

@@ -12,16 +12,16 @@ use Rattle.bike_operator.specs.Sound.{IsSound}
 use Rattle.bike_laws.specs.SingleSteps.Numbers.{disabled_of}
 use Rattle.bike_book.specs.Tables.{TableName, Tables, rows_in, keys_of, table_place, Meta, System, Plans, Segments}
 use Rattle.bike_book.specs.Tables.{Types, Regions, Stations, Docks, Bikes, Trucks, Riders, Rentals, Orders, Entries}
-use Rattle.bike_book.specs.Tables.{Kept, Counts, MoreNames}
+use Rattle.bike_book.specs.Tables.{History, Counts, MoreNames}
 use Rattle.bike_book.specs.Rows.{number_value}
 use Rattle.bike_book.specs.Stored.{Listed, IsListing, tables_for}
 use Rattle.bike_readings.specs.Readings.{meta_read, system_read, plan_read, segment_read, type_read, region_read}
 use Rattle.bike_readings.specs.Readings.{station_read, dock_read, bike_read, truck_read, rider_read, rental_read}
-use Rattle.bike_readings.specs.Readings.{order_read, entry_read, kept_read, count_read, name_read}
+use Rattle.bike_readings.specs.Readings.{order_read, entry_read, request_read, count_read, name_read}
 use Rattle.bike_readings.specs.ReadOff.{operator_of}
 use Rattle.bike_readings.specs.Demands.{IsGoodMeta, IsGoodPlan, IsGoodSegment, IsGoodType, IsGoodRegion, IsGoodStation}
 use Rattle.bike_readings.specs.Demands.{IsGoodDock, IsGoodBike, IsGoodTruck, IsGoodRider, IsGoodRental, IsGoodOrder}
-use Rattle.bike_readings.specs.Demands.{IsGoodEntry, IsGoodKept, IsGoodCount, IsGoodName}
+use Rattle.bike_readings.specs.Demands.{IsGoodEntry, IsGoodRequest, IsGoodCount, IsGoodName}
 
 -- ---- tables
 
@@ -54,7 +54,7 @@ IsGoodRow t s below Riders row = IsSomeAnd (rider_read row) (IsGoodRider s below
 IsGoodRow t s below Rentals row = IsSomeAnd (rental_read row) (IsGoodRental s below)
 IsGoodRow t s below Orders row = IsSomeAnd (order_read row) (IsGoodOrder s below)
 IsGoodRow t s below Entries row = IsSomeAnd (entry_read row) (IsGoodEntry s below)
-IsGoodRow t s below Kept row = IsSomeAnd (kept_read row) (IsGoodKept s below)
+IsGoodRow t s below History row = IsSomeAnd (request_read row) (IsGoodRequest s below)
 IsGoodRow t s below Counts row = IsSomeAnd (count_read row) (IsGoodCount s below)
 IsGoodRow t s below MoreNames row = IsSomeAnd (name_read row) (IsGoodName s below)
 

@@ -8,14 +8,16 @@ use Rattle.bike_ledger.specs.Entries.{Entry}
 use Rattle.bike_operator.specs.declared.records.Bike.{Bike}
 use Rattle.bike_operator.specs.declared.records.Rental.{Rental}
 use Rattle.bike_operator.specs.declared.records.Order.{Order}
-use Rattle.bike_operator.specs.Operator.{Operator, Station, Truck, Rider, name_key, item_at, item_numbered}
+use Rattle.bike_operator.specs.Operator.{Operator, Station, Truck, Rider, AcceptedRequest, name_key, item_at}
+use Rattle.bike_operator.specs.Operator.{item_numbered}
 use Rattle.bike_operator.specs.Counts.{docks_broken, available_of}
 use Rattle.bike_operator.specs.Sound.{HasDock}
 use Rattle.bike_laws.specs.SingleSteps.Numbers.{disabled_of}
 use Rattle.bike_book.specs.declared.version.TheConstants.{NEWEST}
 use Rattle.bike_readings.specs.Bounds.{IsNumbered, IsStoredMeta, IsStoredPlan, IsStoredSegment, IsStoredType}
 use Rattle.bike_readings.specs.Bounds.{IsStoredRegion, IsStoredStation, IsStoredDock, IsStoredBike, IsStoredTruck}
-use Rattle.bike_readings.specs.Bounds.{IsStoredRental, IsStoredOrder, IsStoredEntry, IsStoredCount, IsStoredName}
+use Rattle.bike_readings.specs.Bounds.{IsStoredRental, IsStoredOrder, IsStoredEntry, IsStoredRequest, IsStoredCount}
+use Rattle.bike_readings.specs.Bounds.{IsStoredName}
 
 -- Each record keeps the bounds of its row. The segment at position n of its plan, from 0, has the number n + 1.
 pub record HasBounds (s : Operator) : Type 0 where
@@ -35,6 +37,8 @@ pub record HasBounds (s : Operator) : Type 0 where
   pub rentals : (number : ℕ) (r : Rental) → item_numbered number s.rentals ≡ Some r → IsStoredRental number r
   pub orders : (number : ℕ) (o : Order) → item_numbered number s.orders ≡ Some o → IsStoredOrder number o
   pub entries : (number : ℕ) (e : Entry) → item_numbered number s.entries ≡ Some e → IsStoredEntry e
+  pub requests : (number : ℕ) (a : AcceptedRequest) → item_numbered number s.history ≡ Some a
+      → IsStoredRequest (number, a)
   pub counts : (station type_id : List ℕ) → fin.contains_key s.stations station ≡ true
       → fin.contains_key s.types type_id ≡ true
       → IsStoredCount station type_id (available_of s station type_id) (disabled_of s station type_id)

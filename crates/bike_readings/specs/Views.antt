@@ -1,6 +1,5 @@
 -- What the functions answer, as the records that rows spell.
 use Rattle.std.specs.Prelude.{ℕ, ℤ, List, [], Bool, option_map}
-use Rattle.bike_fields.specs.Caller.{caller_text}
 use Rattle.bike_fields.specs.Values.{SegmentRow}
 use Rattle.bike_catalogue.specs.Rows.{PlanRow, TypeRow, RegionRow, MoreNameRow, SystemRow}
 use Rattle.bike_fields.specs.declared.name_kind.NameKind.{NameKind}
@@ -13,8 +12,7 @@ use Rattle.bike_operator.specs.declared.records.Bike.{Bike}
 use Rattle.bike_operator.specs.declared.records.Rental.{Rental}
 use Rattle.bike_operator.specs.declared.records.Closing.{Closing}
 use Rattle.bike_operator.specs.declared.records.Order.{Order}
-use Rattle.bike_operator.specs.Operator.{Station, Truck, Rider, Key, key_of}
-use Rattle.bike_book.specs.KeptRequests.{Kept}
+use Rattle.bike_operator.specs.Operator.{Station, Truck, Rider, AcceptedRequest}
 use Rattle.bike_readings.specs.declared.catalogue.StoredMeta.{StoredMeta}
 use Rattle.bike_readings.specs.declared.catalogue.StoredSystem.{StoredSystem}
 use Rattle.bike_readings.specs.declared.catalogue.StoredPlan.{StoredPlan}
@@ -32,7 +30,7 @@ use Rattle.bike_readings.specs.declared.fleet.StoredTruck.{StoredTruck}
 use Rattle.bike_readings.specs.declared.fleet.StoredEnd.{StoredEnd}
 use Rattle.bike_readings.specs.declared.fleet.StoredEnd.TheVariants as stored_end
 use Rattle.bike_readings.specs.declared.fleet.StoredOrder.{StoredOrder}
-use Rattle.bike_readings.specs.declared.kept.StoredKept.{StoredKept}
+use Rattle.bike_readings.specs.declared.history.StoredRequest.{StoredRequest}
 use Rattle.bike_readings.specs.declared.ledger.StoredRider.{StoredRider}
 use Rattle.bike_readings.specs.declared.ledger.StoredClosing.{StoredClosing}
 use Rattle.bike_readings.specs.declared.ledger.StoredRental.{StoredRental}
@@ -165,6 +163,13 @@ abbrev pub entry_of : StoredEntry → Entry
 entry_of x =
     record { number = x.number; kind = x.kind; rider = x.rider; rental = x.rental; amount = x.amount; at = x.at }
 
--- under the texts of its caller and key
-abbrev pub kept_of : StoredKept → Key × Kept
-kept_of x = (key_of (caller_text x.caller) x.key, record { command = x.command; reply = x.reply })
+-- with its number
+abbrev pub request_of : StoredRequest → ℕ × AcceptedRequest
+request_of x = (
+  x.number,
+  record {
+    moment = x.moment;
+    request = record { caller = x.caller; key = x.key; command = x.command };
+    reply = x.reply;
+  },
+)

@@ -5,16 +5,17 @@ ghost use Rattle.sqlite_value.specs.Order.{column};
 ghost use Rattle.sqlite_sql.specs.Ops.{is_null};
 ghost use Rattle.bike_ledger.specs.Entries.{greatest_amount};
 ghost use Rattle.bike_schema.specs.Columns.{whole_in, text_in, number_in, moment_in, flag_in, state_in, ident_in};
-ghost use Rattle.bike_schema.specs.Columns.{name_in, or_none};
+ghost use Rattle.bike_schema.specs.Columns.{name_in, or_none, request_count_in};
 ghost use Rattle.bike_readings.specs.ColumnReaders.{ascii_in, language_in, currency_in, form_in, propulsion_in};
 ghost use Rattle.bike_readings.specs.ColumnReaders.{named_kind_in, word_in, signed_in, kind_in};
 
 use crate::part::Part;
+use bike_book::RequestCount;
 use bike_fields::{Ascii, Currency, Form, Ident, Language, Name, NameKind, Propulsion};
 use bike_fixed::{Cents, Moment, Within};
 use bike_ledger::EntryKind;
 use bike_operator::BikeState;
-use bike_schema::{cents_at, flag_at, moment_at, number_at, state_at};
+use bike_schema::{cents_at, flag_at, moment_at, number_at, request_count_at, state_at};
 use sqlite::types::ValueRef;
 
 /// Whether the column is NULL.
@@ -47,6 +48,17 @@ pub(crate) fn moment_in(part: &Part<'_>, at: usize) -> Option<Moment>
     let (row, at) = part.column(at);
     match moment_at(row, at) {
         Ok(moment) => Some(moment),
+        Err(_) => None,
+    }
+}
+
+/// The number of a request.
+pub(crate) fn request_count_in(part: &Part<'_>, at: usize) -> Option<RequestCount>
+    ensures { result ≡ request_count_in (column part.now at) }
+{
+    let (row, at) = part.column(at);
+    match request_count_at(row, at) {
+        Ok(number) => Some(number),
         Err(_) => None,
     }
 }

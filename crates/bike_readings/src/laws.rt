@@ -4,7 +4,7 @@ ghost use Rattle.bike_operator.specs.Operator.{Operator};
 ghost use Rattle.bike_operator.specs.Sound.{IsSound};
 ghost use Rattle.bike_readings.specs.BothWays.{MetaReading, SystemReading, PlanReading, SegmentReading, TypeReading};
 ghost use Rattle.bike_readings.specs.BothWays.{RegionReading, StationReading, DockReading, BikeReading, TruckReading};
-ghost use Rattle.bike_readings.specs.BothWays.{RiderReading, RentalReading, OrderReading, EntryReading, KeptReading};
+ghost use Rattle.bike_readings.specs.BothWays.{RiderReading, RentalReading, OrderReading, EntryReading, RequestReading};
 ghost use Rattle.bike_readings.specs.BothWays.{CountReading, NameReading};
 ghost use Rattle.bike_readings.specs.SoundRows.{HasBounds};
 
@@ -24,11 +24,11 @@ pub fn reads_both_ways()
     ensures bikes { BikeReading }
     ensures trucks { TruckReading }
     ensures riders { RiderReading }
-    // What was done: rentals, orders, entries and kept requests.
+    // What was done: rentals, orders, entries and requests.
     ensures rentals { RentalReading }
     ensures orders { OrderReading }
     ensures entries { EntryReading }
-    ensures kept { KeptReading }
+    ensures history { RequestReading }
     // Counts at stations, and names in further languages.
     ensures counts { CountReading }
     ensures more_names { NameReading }

@@ -2,7 +2,7 @@
 //!
 //! `specs/Readings` gives for each table the record that any row spells, or nothing; `specs/BothWays` says that this is
 //! exact. The functions answer just that of a `Part` of a row that the database lends. Texts stay in the
-//! row, and no memory is taken, but for a kept request.
+//! row, and no memory is taken, but for an accepted request.
 //!
 //! The rules by which tables stand for an operator are the audit's definition, with no code: `specs/ReadOff` gives the
 //! operator that any tables spell, `specs/Demands` what is demanded of each row, with the row to blame for each fault,
@@ -13,7 +13,7 @@
 mod catalogue;
 mod columns;
 mod fleet;
-mod kept;
+mod history;
 mod laws;
 mod ledger;
 mod names;
@@ -28,7 +28,7 @@ pub use catalogue::{
 pub use fleet::{
     StoredBike, StoredEnd, StoredOrder, StoredPlace, StoredTruck, read_bike, read_order, read_truck,
 };
-pub use kept::{StoredKept, read_kept};
+pub use history::{StoredRequest, read_request};
 pub use laws::{keeps_bounds, reads_both_ways};
 pub use ledger::{
     StoredClosing, StoredEntry, StoredRental, StoredRider, read_entry, read_rental, read_rider,

@@ -1,3 +1,5 @@
 pub mod StationsTexts
+pub mod KeptTexts
+pub mod KeptLemmas
 pub mod StandsLemmas
 pub mod FoundLemmas

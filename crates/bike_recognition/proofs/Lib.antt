@@ -1,8 +1,4 @@
 mod ClimbLemmas
-pub mod KeptLemmas
-mod KeyClimbLemmas
-mod KeyPassLemmas
-mod KeyTexts
 mod PassLemmas
 mod SchemaLemmas
 pub mod RowidTexts

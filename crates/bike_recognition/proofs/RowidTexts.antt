@@ -1,5 +1,5 @@
 -- The texts that ask for the rowids of each table.
-use Rattle.std.proofs.Common.{◌≡◌, ◌^◌, ℕ, List, [], ◌∷◌, Bool, true, false, Ok, Err, nat_lt, nat_le, codes, refl, subst, sym}
+use Rattle.std.proofs.Common.{◌≡◌, ◌^◌, ℕ, List, [], ◌∷◌, true, false, Ok, Err, nat_lt, nat_le, codes, refl, subst, sym}
 use Rattle.std.proofs.lemmas.Bool.{leb-false, lt-ltb}
 use Rattle.sqlite_sql.specs.Query.{Query}
 use Rattle.sqlite_schema.specs.declared.schema.Schema.{Schema}
@@ -14,8 +14,8 @@ use Rattle.bike_sql.specs.Reads.{draft_of, of_query, one_select, IsDraft}
 use Rattle.bike_sql.proofs.ReadLaws.{select_is}
 use Rattle.bike_sql.specs.Layout.{Layout, table_of}
 use Rattle.bike_sql.proofs.TextLemmas.{IsSelect, Drafts, alone, select_means}
-use Rattle.bike_book.specs.Tables.{Meta, System, Plans, Segments, Types, Regions, Stations, Docks, Bikes, Trucks, Riders, Rentals, Orders, Entries, Kept, Counts, MoreNames}
-use Rattle.bike_schema.specs.Layouts.{layout_of, layout_by}
+use Rattle.bike_book.specs.Tables.{Meta, System, Plans, Segments, Types, Regions, Stations, Docks, Bikes, Trucks, Riders, Rentals, Orders, Entries, History, Counts, MoreNames}
+use Rattle.bike_schema.specs.Layouts.{layout_of}
 use Rattle.bike_recognition.specs.Rowids.{rowids_query}
 use Rattle.bike_recognition.specs.Wanted.{AsksRowidsOf}
 
@@ -55,6 +55,10 @@ orders_rowids = by_key (layout_of Orders) (codes "SELECT ord FROM orders ORDER B
 pub entries_rowids : AsksRowidsOf (layout_of Entries) (codes "SELECT entry FROM entries ORDER BY entry")
 unfolding everything
 entries_rowids = by_key (layout_of Entries) (codes "SELECT entry FROM entries ORDER BY entry") (λ tree. refl, refl)
+
+pub history_rowids : AsksRowidsOf (layout_of History) (codes "SELECT number FROM history ORDER BY number")
+unfolding everything
+history_rowids = by_key (layout_of History) (codes "SELECT number FROM history ORDER BY number") (λ tree. refl, refl)
 
 -- ---- by the word `rowid`
 
@@ -150,18 +154,6 @@ docks_asked = (λ tree low. rw (low, low) refl, refl)
 
 pub docks_rowids : AsksRowidsOf (layout_of Docks) (codes "SELECT rowid FROM docks ORDER BY rowid")
 docks_rowids = by_rowid (layout_of Docks) (codes "SELECT rowid FROM docks ORDER BY rowid") docks_parsed docks_asked
-
-kept_parsed : IsParsed (codes "SELECT rowid FROM kept ORDER BY rowid")
-unfolding everything
-kept_parsed = (_, refl)
-
-kept_asked : (keyed : Bool) → AsksAlone (layout_by keyed Kept) kept_parsed.0
-unfolding everything kept_parsed
-kept_asked true = (λ tree low. rw (low, low) refl, refl)
-kept_asked false = (λ tree low. rw (low, low) refl, refl)
-
-pub kept_rowids : (keyed : Bool) → AsksRowidsOf (layout_by keyed Kept) (codes "SELECT rowid FROM kept ORDER BY rowid")
-kept_rowids keyed = by_rowid (layout_by keyed Kept) (codes "SELECT rowid FROM kept ORDER BY rowid") kept_parsed (kept_asked keyed)
 
 counts_parsed : IsParsed (codes "SELECT rowid FROM counts ORDER BY rowid")
 unfolding everything

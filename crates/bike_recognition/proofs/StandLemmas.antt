@@ -19,9 +19,9 @@ use Rattle.bike_sql.specs.Layout.{Layout, table_of}
 use Rattle.bike_sql.specs.Stands.{Stands}
 use Rattle.bike_sql.specs.View.{IsKeyed}
 use Rattle.bike_sql.proofs.KeyLemmas.{IsKeyOf}
-use Rattle.bike_sql.proofs.ChainLaws.{reads_both}
+use Rattle.bike_sql.proofs.ChainLaws.{reads_as, reads_both}
 use Rattle.bike_book.specs.Tables.{TableName}
-use Rattle.bike_schema.specs.Layouts.{layout_of, layout_by, every_table}
+use Rattle.bike_schema.specs.Layouts.{layout_of, every_table}
 use Rattle.bike_schema.specs.Tables.{HasTables}
 use Rattle.bike_schema.proofs.AnswerLemmas.{reads_weaker}
 use Rattle.bike_schema.proofs.TableLemmas.{of_every, every_true}
@@ -55,8 +55,8 @@ none_defaulted = refl
 pub no_defaults_in : (layout : Layout) → list_all has_no_default layout.columns ≡ true → IsPlainTable (table_of layout 0)
 no_defaults_in layout none = record { defaults = no_defaults layout.columns none; checks = refl; references = refl; computed = refl; stamps = refl }
 
-pub plain_table : (keyed : Bool) (t : TableName) → IsPlainTable (table_of (layout_by keyed t) 0)
-plain_table keyed t = no_defaults_in (layout_by keyed t) (every_true (λ t. list_all has_no_default (layout_of t).columns) none_defaulted t)
+pub plain_table : (t : TableName) → IsPlainTable (table_of (layout_of t) 0)
+plain_table t = no_defaults_in (layout_of t) (every_true (λ t. list_all has_no_default (layout_of t).columns) none_defaulted t)
 
 -- ---- one table
 
@@ -135,6 +135,12 @@ module _ (keys : ℕ) (layout : Layout) (plain : IsPlainTable (table_of layout 0
       (λ db y. IsTrue y → (it : AsksRowids db text) → AreApart (db.trees it.tree))
       → ReadsAny {E = F} g old new (Ok true) (λ db stands. IsTrue stands ↔ Stands db keys layout)
   stands live same it = apart_then layout plain text asks first there same it (λ opened lying. ((λ _. own_stands key (state g mid).now (live opened).0 lying), λ _. refl))
+
+-- .. that the schema doesn't have
+pub lacks_stand : (keys : ℕ) (layout : Layout) (plain : IsPlainTable (table_of layout 0)) {S : Type 0} {g : Ghosts S} {old mid : Held S} {E F : Type 0}
+    → ReadsAny {E = E} g old mid (Ok (tt {0})) (λ db _. AnyDatabase db) → (HasWanted (state g mid).now.schema (table_of layout 0) → ⊥)
+    → ReadsAny {E = F} g old mid (Ok false) (λ db stands. IsTrue stands ↔ Stands db keys layout)
+lacks_stand keys layout plain {E = E} first not_there = reads_as {E = E} (lacks layout plain first not_there) (λ db says. ((λ never. absurd (true≢false (sym never))), λ stood. says.1 (lies_of stood)))
 
 -- ---- all tables
 

@@ -1,3 +1,4 @@
+pub mod Kept
 pub mod Earlier
 pub mod Stores
 pub mod Found

@@ -1,5 +1,4 @@
 pub mod Added
-pub mod Keys
 pub mod Names
 pub mod Recognition
 pub mod Rowids

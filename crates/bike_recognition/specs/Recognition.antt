@@ -13,17 +13,15 @@ use Rattle.bike_sql.specs.Calls.{ReadsWhere}
 use Rattle.bike_sql.specs.Stands.{rows_of, Stands}
 use Rattle.bike_sql.specs.View.{row_with}
 use Rattle.bike_book.specs.declared.version.TheConstants.{NEWEST}
-use Rattle.bike_book.specs.Tables.{TableName, Meta, Kept, Counts, MoreNames, is_table, keys_of}
+use Rattle.bike_book.specs.Tables.{TableName, Meta, keys_of}
 use Rattle.bike_schema.specs.declared.create.TheConstants.{APP}
 use Rattle.bike_schema.specs.Columns.{whole_in}
-use Rattle.bike_schema.specs.Layouts.{layout_in, name_of}
+use Rattle.bike_schema.specs.Layouts.{layout_of, name_of}
 use Rattle.bike_schema.specs.Tables.{HasTables, HasNone}
 use Rattle.bike_recognition.specs.declared.version.MetaVersion.{MetaVersion}
 use Rattle.bike_recognition.specs.declared.version.MetaVersion.TheVariants.{Missing, Version, NotOurs}
 use Rattle.bike_recognition.specs.declared.recognition.Recognition.{Recognition}
-use Rattle.bike_recognition.specs.declared.recognition.Recognition.TheVariants.{Empty, Foreign, Older, Newer, Doubled}
-use Rattle.bike_recognition.specs.declared.recognition.Recognition.TheVariants.{Ours}
-use Rattle.bike_recognition.specs.Keys.{KeptLies}
+use Rattle.bike_recognition.specs.declared.recognition.Recognition.TheVariants.{Empty, Foreign, Older, Newer, Ours}
 
 -- ---- calls
 
@@ -36,14 +34,9 @@ ReadsAny g old new result says = ReadsWhere g AnyDatabase old new result says
 
 -- ---- the tables
 
--- The table stands in the database: found by its name at whatever place, with
--- exactly its columns and keys. `kept` may have its PRIMARY KEY or none.
+-- the table stands in the database: found by its name at whatever place, with exactly its columns and keys
 abbrev pub TableStands : TableName → Database → Type 0
-TableStands t db = Stands db (keys_of t) (layout_in db.schema t)
-
--- the tables after kept, in the order of the schema
-abbrev pub after_kept : List TableName
-after_kept = Counts ∷ MoreNames ∷ []
+TableStands t db = Stands db (keys_of t) (layout_of t)
 
 -- the first of the tables that doesn't stand, or none where all do
 abbrev pub IsFirstMissing : Database → List TableName → Option TableName → Type 0
@@ -74,17 +67,9 @@ meta_version db = version_in (row_with (keys_of Meta) (Int (pos 1) ∷ []) (rows
 
 -- ---- what the database is, in the order of these tests
 
--- All other tables stand, and `kept` doesn't because two of its rows have one key.
-pub record IsDoubledAlone (db : Database) : Type 0 where
-  pub others : (t : TableName) → is_table t Kept ≡ false → TableStands t db
-  pub kept : KeptLies db
-  pub unkeyed : ¬ TableStands Kept db
-
--- at the newest version: all tables stand, all but for two rows of kept that have one key, or some doesn't
+-- at the newest version: all tables stand, or some doesn't
 abbrev pub IsByTables : Database → Recognition → Type 0
-IsByTables db r =
-    (HasTables db × (r ≡ Ours))
-    ⊎ ((IsDoubledAlone db × (r ≡ Doubled)) ⊎ ((¬ HasTables db) × (¬ IsDoubledAlone db) × (r ≡ Foreign)))
+IsByTables db r = (HasTables db × (r ≡ Ours)) ⊎ ((¬ HasTables db) × (r ≡ Foreign))
 
 -- what row 1 of `meta` tells alone; where it is missing, or of the newest version, the tables decide
 abbrev pub told_by : MetaVersion → Option Recognition

@@ -2,12 +2,15 @@
 //!
 //! There is one operator and one family of tables. A version is a way in which a database holds them: the first has no
 //! regions and no further names, the second no further names, and both have their stations, of at most 200 docks, in a
-//! table of another name.
+//! table of another name. The first three have the accepted requests in a table `kept`, which tells no moments and no
+//! order but that of its rowids.
 
 mod earlier;
 mod found;
+mod kept;
 mod stands;
 
 pub use earlier::{Earlier, MOST_DOCKS_BEFORE};
 pub use found::{Found, find_version_of};
+pub use kept::kept_lies;
 pub use stands::{is_at, stands_at};

@@ -2,14 +2,11 @@
 //!
 //! Of a database that an earlier run left, or a stranger, nothing is known at first. `recognise` tells what it is, by
 //! tests in the order of `specs/Recognition`; the first of them change nothing and read no row but that of `meta`. A
-//! table stands where its name finds exactly its columns and keys, no foreign key refers to it, one pass over its
-//! rowids finds them to be numbers and apart, and no two rows have one key: then every law of the tables holds of it.
-//! The engine keeps every table's key but that of `kept`, whose callers and keys another pass goes over; a file of
-//! before has one there too.
+//! table stands where its name finds exactly its columns and keys, no foreign key refers to it, and one pass over its
+//! rowids finds them to be numbers and apart: the engine keeps its key, and then every law of the tables holds of it.
 #![tactic(auto)]
 
 mod added;
-mod keys;
 mod recognition;
 mod rowids;
 mod schema;
@@ -18,7 +15,6 @@ mod table;
 mod version;
 
 pub use added::has_added_unique;
-pub use keys::doubled_key;
 pub use recognition::{Recognition, recognise, recognise_tables};
 pub use rowids::are_apart;
 pub use schema::has_wanted;
@@ -28,4 +24,6 @@ pub use version::{MetaVersion, find_version};
 
 mod earlier_versions;
 
-pub use earlier_versions::{Earlier, Found, MOST_DOCKS_BEFORE, find_version_of, is_at, stands_at};
+pub use earlier_versions::{
+    Earlier, Found, MOST_DOCKS_BEFORE, find_version_of, is_at, kept_lies, stands_at,
+};

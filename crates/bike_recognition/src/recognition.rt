@@ -6,7 +6,7 @@ ghost use Rattle.bike_sql.specs.Calls.{ReadsWhere};
 ghost use Rattle.bike_recognition.specs.Recognition.{ReadsAny, TableStands, told_by, IsByTables, IsByVersion, IsByMeta};
 ghost use Rattle.bike_recognition.specs.Recognition.{IsRecognised};
 
-use crate::stands::{check_open, is_rest_there, missing_table, table_stands};
+use crate::stands::{check_open, missing_table, table_stands};
 use crate::table::TableName;
 use crate::version::{MetaVersion, find_version};
 use bike_book::NEWEST;
@@ -26,30 +26,20 @@ pub enum Recognition {
     Older(u64),
     /// It is of this later version of the schema.
     Newer(u64),
-    /// All tables stand, in the newest version, but that two rows of `kept` have one key.
-    Doubled,
     /// All tables stand, in the newest version.
     Ours,
 }
 
-/// What a database of the newest version is: `Ours`, `Doubled` or `Foreign`. It stays as it is. It fails as `recognise`
-/// does.
+/// What a database of the newest version is: `Ours` or `Foreign`. It stays as it is. It fails as `recognise` does.
 pub fn recognise_tables<S: Alter>(
     alloc: Global,
     conn: &mut Connection<S>,
 ) -> Result<Recognition, StatementFault>
     ensures { ReadsAny S.Store conn.old conn.new result IsByTables }
 {
-    let Some(missing) = missing_table(alloc, conn)? else {
-        return Ok(Recognition::Ours);
-    };
-    if !missing.is_kept() {
-        return Ok(Recognition::Foreign);
-    }
-    if is_rest_there(alloc, conn)? {
-        Ok(Recognition::Doubled)
-    } else {
-        Ok(Recognition::Foreign)
+    match missing_table(alloc, conn)? {
+        Some(_) => Ok(Recognition::Foreign),
+        None => Ok(Recognition::Ours),
     }
 }
 

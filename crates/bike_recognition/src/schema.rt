@@ -4,8 +4,7 @@ ghost use Rattle.std.specs.Prelude.{◌≡◌, ◌↔◌, IfErr, IfOk, IsTrue};
 ghost use Rattle.std.specs.List.{list_any};
 ghost use Rattle.bike_sql.specs.Layout.{table_of};
 ghost use Rattle.bike_sql.specs.Stands.{refers_to, is_referred_to};
-ghost use Rattle.bike_book.specs.Tables.{Kept};
-ghost use Rattle.bike_schema.specs.Layouts.{layout_by, has_primary, name_of};
+ghost use Rattle.bike_schema.specs.Layouts.{layout_of};
 ghost use Rattle.bike_schema.specs.declared.fault.StatementFault.TheVariants.{NoMemory};
 ghost use Rattle.bike_recognition.specs.Names.{table_named};
 ghost use Rattle.bike_recognition.specs.Wanted.{HasWanted};
@@ -63,32 +62,18 @@ pub fn has_wanted(schema: &Schema, wanted: &Table) -> bool
     }
 }
 
-/// Whether the schema's `kept` has a PRIMARY KEY, as in files of before.
-pub(crate) fn is_kept_keyed(schema: &Schema) -> bool
-    ensures { result ≡ has_primary schema.now (name_of Kept) }
-{
-    let Some(at) = schema.table_named(TableName::Kept.name().as_bytes()) else {
-        return false;
-    };
-    match schema.tables.get(at) {
-        Some(table) => !table.primary.is_empty(),
-        None => false,
-    }
-}
-
-/// Whether the schema has the table as the product makes it, `kept` with a PRIMARY KEY where `keyed`, and no foreign
-/// key refers to it. Only memory can be refused.
+/// Whether the schema has the table as the product makes it, and no foreign key refers to it. Only memory can be
+/// refused.
 pub(crate) fn has_table(
     alloc: Global,
     schema: &Schema,
     table: TableName,
-    keyed: bool,
 ) -> Result<bool, StatementFault>
     ensures there { IfOk result
-        (λ there. IsTrue there ↔ HasWanted schema.now (table_of (layout_by keyed (table_named table)) 0)) }
+        (λ there. IsTrue there ↔ HasWanted schema.now (table_of (layout_of (table_named table)) 0)) }
     ensures memory { IfErr result (λ fault. fault ≡ NoMemory) }
 {
-    let wanted = table.defined(alloc, keyed)?;
+    let wanted = table.defined(alloc)?;
     let is_there = has_wanted(schema, &wanted);
     // It was made for the comparison alone.
     drop(wanted);

@@ -1,9 +1,8 @@
 //! The tables of the schema by name.
 
-ghost use Rattle.std.specs.Prelude.{◌≡◌, Bool, IfOk, IfErr};
+ghost use Rattle.std.specs.Prelude.{◌≡◌, IfOk, IfErr};
 ghost use Rattle.bike_sql.specs.Layout.{table_of};
-ghost use Rattle.bike_book.specs.Tables.{Kept, is_table};
-ghost use Rattle.bike_schema.specs.Layouts.{layout_by, name_of};
+ghost use Rattle.bike_schema.specs.Layouts.{layout_of, name_of};
 ghost use Rattle.bike_schema.specs.declared.fault.StatementFault.TheVariants.{NoMemory};
 ghost use Rattle.bike_recognition.specs.Names.{table_named};
 ghost use Rattle.bike_recognition.specs.Wanted.{Defines, AsksRowidsOf};
@@ -13,22 +12,6 @@ use bike_schema::StatementFault;
 use sqlite_resolve::define_table;
 use sqlite_schema::schema::Table;
 use std::alloc::Global;
-
-/// The statement that makes `kept` with a PRIMARY KEY, as files of before have it.
-const KEYED_KEPT: &str =
-    "CREATE TABLE kept (caller TEXT NOT NULL, req_key TEXT NOT NULL, command TEXT NOT NULL, \
-     reply TEXT NOT NULL, PRIMARY KEY (caller, req_key)) STRICT";
-
-/// The statement that makes `kept`, with a PRIMARY KEY or none.
-fn kept_definition(keyed: bool) -> &'static str
-    ensures { Defines result.now (layout_by keyed Kept) }
-{
-    if keyed {
-        KEYED_KEPT
-    } else {
-        table!(create kept)
-    }
-}
 
 /// A table of the schema.
 #[derive(Clone, Copy, Debug, PartialEq, Eq)]
@@ -47,7 +30,7 @@ pub enum TableName {
     Rentals,
     Orders,
     Entries,
-    Kept,
+    History,
     Counts,
     MoreNames,
 }
@@ -72,22 +55,15 @@ impl TableName {
             TableName::Rentals => table!(name rentals),
             TableName::Orders => table!(name orders),
             TableName::Entries => table!(name entries),
-            TableName::Kept => table!(name kept),
+            TableName::History => table!(name history),
             TableName::Counts => table!(name counts),
             TableName::MoreNames => table!(name more_names),
         }
     }
 
-    /// Whether it is `kept`.
-    pub(crate) fn is_kept(self) -> bool
-        ensures { result ≡ is_table (table_named self) Kept }
-    {
-        matches!(self, TableName::Kept)
-    }
-
-    /// The statement that makes the table. `keyed` asks for a `kept` with a PRIMARY KEY.
-    fn definition(self, keyed: bool) -> &'static str
-        ensures { Defines result.now (layout_by keyed (table_named self)) }
+    /// The statement that makes the table.
+    fn definition(self) -> &'static str
+        ensures { Defines result.now (layout_of (table_named self)) }
     {
         match self {
             TableName::Meta => table!(create meta),
@@ -104,7 +80,7 @@ impl TableName {
             TableName::Rentals => table!(create rentals),
             TableName::Orders => table!(create orders),
             TableName::Entries => table!(create entries),
-            TableName::Kept => kept_definition(keyed),
+            TableName::History => table!(create history),
             TableName::Counts => table!(create counts),
             TableName::MoreNames => table!(create more_names),
         }
@@ -112,7 +88,7 @@ impl TableName {
 
     /// The query that answers all rowids of the table, in order. Where the key is one number, that is the rowid.
     pub(crate) fn rowids_query(self) -> &'static str
-        ensures { (keyed : Bool) → AsksRowidsOf (layout_by keyed (table_named self)) result.now }
+        ensures { AsksRowidsOf (layout_of (table_named self)) result.now }
     {
         match self {
             TableName::Meta => "SELECT one FROM meta ORDER BY one",
@@ -129,19 +105,18 @@ impl TableName {
             TableName::Rentals => "SELECT rental FROM rentals ORDER BY rental",
             TableName::Orders => "SELECT ord FROM orders ORDER BY ord",
             TableName::Entries => "SELECT entry FROM entries ORDER BY entry",
-            TableName::Kept => "SELECT rowid FROM kept ORDER BY rowid",
+            TableName::History => "SELECT number FROM history ORDER BY number",
             TableName::Counts => "SELECT rowid FROM counts ORDER BY rowid",
             TableName::MoreNames => "SELECT rowid FROM more_names ORDER BY rowid",
         }
     }
 
-    /// The table as the product makes it, in tree 0, `kept` with a PRIMARY KEY where `keyed`. Only memory can be
-    /// refused.
-    pub(crate) fn defined(self, alloc: Global, keyed: bool) -> Result<Table, StatementFault>
-        ensures table { IfOk result (λ table. table ≡ table_of (layout_by keyed (table_named self)) 0) }
+    /// The table as the product makes it, in tree 0. Only memory can be refused.
+    pub(crate) fn defined(self, alloc: Global) -> Result<Table, StatementFault>
+        ensures table { IfOk result (λ table. table ≡ table_of (layout_of (table_named self)) 0) }
         ensures memory { IfErr result (λ fault. fault ≡ NoMemory) }
     {
-        match define_table(alloc, self.definition(keyed).as_bytes()) {
+        match define_table(alloc, self.definition().as_bytes()) {
             Ok(table) => Ok(table),
             Err(_) => Err(StatementFault::NoMemory),
         }

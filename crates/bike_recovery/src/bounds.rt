@@ -12,6 +12,7 @@ ghost use Rattle.bike_ledger.specs.declared.sums.TheConstants.{GREATEST_BALANCE}
 ghost use Rattle.bike_commands.specs.declared.request.TheConstants.{LINE_LENGTH};
 ghost use Rattle.bike_operator.specs.declared.limits.TheConstants as limit;
 ghost use Rattle.bike_recognition.specs.declared.earlier_versions.earlier.TheConstants.{MOST_DOCKS_BEFORE};
+ghost use Rattle.bike_book.specs.declared.requests.TheConstants.{MOST_REQUESTS};
 ghost use Rattle.bike_book.specs.declared.version.TheConstants.{NEWEST};
 ghost use Rattle.bike_http_head.specs.declared.head.TheConstants.{HEAD_LENGTH, MOST_FIELDS};
 ghost use Rattle.bike_http_head.specs.declared.length.TheConstants.{BODY_LENGTH};
@@ -39,9 +40,10 @@ pub fn record_limits()
     ensures riders { limit.MOST_RIDERS ≡ 500000 }
     ensures orders { limit.MOST_ORDERS ≡ 10000000 }
     ensures entries { limit.MOST_ENTRIES ≡ 100000000 }
+    ensures requests { MOST_REQUESTS ≡ 9223372036854775807 }
     // Segments of a plan; and the newest version of the tables.
     ensures segments { catalogue.MOST_SEGMENTS ≡ 8 }
-    ensures version { NEWEST ≡ 3 }
+    ensures version { NEWEST ≡ 4 }
 {}
 
 /// The greatest numbers of fields. Money is in hundredths, a coordinate in microdegrees, a time in seconds, a range in

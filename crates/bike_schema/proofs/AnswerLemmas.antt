@@ -23,10 +23,10 @@ use Rattle.bike_book.specs.Operator.{Operator}
 use Rattle.bike_book.specs.Tables.{TableName, Tables, keys_of, rows_in}
 use Rattle.bike_book.specs.Stored.{Listed, tables_for}
 use Rattle.bike_book.specs.Found.{WhereListed}
-use Rattle.bike_schema.specs.Layouts.{layout_of, InEach, name_of}
+use Rattle.bike_schema.specs.Layouts.{layout_of, name_of}
 use Rattle.bike_schema.specs.Tables.{HasTables, IsOurs, tables_of}
 use Rattle.bike_schema.specs.Answers.{Answers}
-use Rattle.bike_schema.proofs.KeyLemmas.{key_places, key_in_schema}
+use Rattle.bike_schema.proofs.KeyLemmas.{key_places, table_key}
 use Rattle.bike_schema.proofs.MakesLemmas.{rows_of_table}
 
 -- ---- one statement
@@ -41,10 +41,10 @@ pub in_table : (t : TableName) {text : List ℕ} {params : Row} (found : List Ro
 in_table t {text} {params} found finds = record { finds = λ db has. subst (λ rows. Finds db text params (found rows)) (sym (rows_of_table db t)) (finds db has) }
 
 -- SELECT * FROM the table WHERE its key equals the parameters
-pub keyed_in : (t : TableName) {text : List ℕ} {params : Row} → InEach t (λ layout. IsSelect (table_query 0 (key_tests 0 (key_places t)) [] (every_column (layout_of t))) layout text)
+pub keyed_in : (t : TableName) {text : List ℕ} {params : Row} → IsSelect (table_query 0 (key_tests 0 (key_places t)) [] (every_column (layout_of t))) (layout_of t) text
     → list_any is_null (key_in 0 (key_places t) params) ≡ false
     → FindsIn text params (λ tables. row_with (keys_of t) (key_in 0 (key_places t) params) (rows_in tables t))
-keyed_in t {params = params} is solid = in_table t (row_with (keys_of t) (key_in 0 (key_places t) params)) (λ db has. keyed_row (key_in_schema db.schema t) (has t) (is db.schema) solid)
+keyed_in t {params = params} is solid = in_table t (row_with (keys_of t) (key_in 0 (key_places t) params)) (λ db has. keyed_row (table_key t) (has t) is solid)
 
 -- What a read tells of what it read, it tells of what follows from that.
 pub reads_weaker : {S X E : Type 0} {g : Ghosts S} {P : Database → Type 0} {old new : Held S} {result : Result X E} {says told : Database → X → Type 0} → ReadsWhere g P old new result says

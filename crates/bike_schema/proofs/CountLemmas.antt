@@ -23,7 +23,7 @@ use Rattle.bike_sql.proofs.TextLemmas.{IsSelect, select_means}
 use Rattle.bike_sql.proofs.TreeLemmas.{by_key_total}
 use Rattle.bike_sql.proofs.WalkLaw.{Finds, one_answer}
 use Rattle.bike_book.specs.Tables.{TableName, keys_of, rows_in}
-use Rattle.bike_schema.specs.Layouts.{layout_in, InEach, name_of}
+use Rattle.bike_schema.specs.Layouts.{layout_of, name_of}
 use Rattle.bike_schema.proofs.AnswerLemmas.{FindsIn, in_table}
 
 -- SELECT count(*) FROM the table WHERE each of the tests. Of a row, as its columns show it, the tests decide `test`.
@@ -49,7 +49,7 @@ counted_passing keys layout db was text params tests test is decides =
     }
 
 -- SELECT count(*) FROM the table
-pub counted_in : (t : TableName) {text : List ℕ} → InEach t (λ layout. IsSelect (count_query 0 []) layout text) → FindsIn text [] (λ tables. Some (count (length (rows_in tables t)) ∷ []))
+pub counted_in : (t : TableName) {text : List ℕ} → IsSelect (count_query 0 []) (layout_of t) text → FindsIn text [] (λ tables. Some (count (length (rows_in tables t)) ∷ []))
 counted_in t {text} is =
     in_table t (λ rows. Some (count (length rows) ∷ [])) (λ db has. subst (λ rows. Finds db text [] (Some (count (length rows) ∷ []))) (filter_all (rows_of (keys_of t) (name_of t) db))
-    (counted_passing (keys_of t) (layout_in db.schema t) db (has t) text [] [] (λ row. true) (is db.schema) (λ r. refl)))
+    (counted_passing (keys_of t) (layout_of t) db (has t) text [] [] (λ row. true) is (λ r. refl)))

@@ -20,21 +20,20 @@ use Rattle.bike_sql.proofs.CallLaws.{Does}
 use Rattle.bike_sql.proofs.WriteLaws.{Inserts, row_put}
 use Rattle.bike_book.specs.Operator.{no_operator}
 use Rattle.bike_book.specs.Tables.{TableName, Tables, keys_of, rows_in, tables_by, with_rows, Meta, System, Plans, Segments, Types, Regions, Stations, Docks, Bikes, Trucks, Riders, Rentals, Orders}
-use Rattle.bike_book.specs.Tables.{Entries, Kept, Counts, MoreNames}
+use Rattle.bike_book.specs.Tables.{Entries, History, Counts, MoreNames}
 use Rattle.bike_book.specs.Rows.{meta_row}
-use Rattle.bike_book.specs.Stored.{none_listed, tables_for, stored_plan, plans_segments, stored_type, stored_region, stored_station, stored_dock, stored_bike, stored_truck, stored_rider, stored_kept}
+use Rattle.bike_book.specs.Stored.{none_listed, tables_for, stored_plan, plans_segments, stored_type, stored_region, stored_station, stored_dock, stored_bike, stored_truck, stored_rider}
 use Rattle.bike_book.specs.Stored.{stored_count, stored_name}
 use Rattle.bike_book.specs.declared.version.TheConstants.{NEWEST}
 use Rattle.bike_schema.specs.Layouts.{layout_of, name_of, every_table}
 use Rattle.bike_schema.specs.Tables.{IsOurs, tables_of, is_parent, is_unused, HasNone, other_names}
 use Rattle.bike_schema.specs.Indexes.{HasIndexes, every_index}
 use Rattle.bike_schema.specs.Makes.{Continues, Puts}
-use Rattle.bike_schema.specs.Calls.{WasFree, Admits}
+use Rattle.bike_schema.specs.Calls.{WasFree}
 use Rattle.bike_book.specs.Writes.{tables_after}
 use Rattle.bike_schema.specs.Creates.{RanAll, table_texts, index_texts, first_write, Creates}
 use Rattle.bike_schema.proofs.TableLemmas.{of_every, every_true}
 use Rattle.bike_schema.proofs.KeyLemmas.{unique_key}
-use Rattle.bike_schema.proofs.LayoutLemmas.{as_made}
 use Rattle.bike_schema.proofs.MakesLemmas.{continues_then, adds_row}
 use Rattle.bike_schema.proofs.InsertTexts.{insert_text}
 use Rattle.bike_schema.proofs.MakeFacts.{text_of, declared, index_only, each_told}
@@ -123,8 +122,8 @@ inserts : Inserts 1 (layout_of Meta) (insert_text Meta) first_row
 unfolding everything
 inserts = row_put (unique_key Meta) (λ s tree. (refl, refl, refl, λ base. refl)) refl refl (λ rows. refl)
 
-pub adds_meta : Does (Admits first_write) (λ db. WasFree first_write (tables_of db)) (Puts (first_write ∷ [])) (insert_text Meta) first_row
-adds_meta = adds_row Meta (λ s. inserts)
+pub adds_meta : Does (IsOurs) (λ db. WasFree first_write (tables_of db)) (Puts (first_write ∷ [])) (insert_text Meta) first_row
+adds_meta = adds_row Meta inserts
 
 -- ---- the tables of the operator of which nothing was asked
 
@@ -149,7 +148,7 @@ first_rows Riders = sym (ap (map (stored_rider [])) (none_in _))
 first_rows Rentals = refl
 first_rows Orders = refl
 first_rows Entries = refl
-first_rows Kept = sym (ap (map stored_kept) (none_in _))
+first_rows History = refl
 first_rows Counts = sym (ap (map (stored_count no_operator)) (none_in _))
 first_rows MoreNames = sym (ap (map stored_name) (none_in _))
 
@@ -170,7 +169,7 @@ module _ {S : Type 0} (g : Ghosts S) (a b c : Held S) (none : HasNone (state g a
   indexed = all_there g index_texts every_index b c each_told (λ t. let it = (of_every (IsEmpty (state g b).now) made.empty t).stands in (it.at, it.tree, it.has)) indexes
 
   pub are_ours : IsOurs (state g c).now
-  are_ours = record { sound = indexed_sound g index_texts refl b c index_only indexes; has = as_made (state g c).now (λ t. (empty t).stands) }
+  are_ours = record { sound = indexed_sound g index_texts refl b c index_only indexes; has = λ t. (empty t).stands }
 
   pub creates : (d : Held S) → Puts (first_write ∷ []) (state g c) (state g d) → Creates (state g a) (state g d)
   creates d it =

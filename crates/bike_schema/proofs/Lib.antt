@@ -1,6 +1,5 @@
 pub mod TableLemmas
 pub mod KeyLemmas
-pub mod LayoutLemmas
 pub mod MakesLemmas
 pub mod AnswerLemmas
 pub mod CountLemmas

@@ -3,7 +3,6 @@ use Rattle.std.proofs.Common.{◌≡◌, ℕ, Bool, true, false, List, [], ◌�
 use Rattle.std.proofs.Math.Path.{fun_ext}
 use Rattle.std.proofs.lemmas.Result.{on_ok_weaker}
 use Rattle.sqlite_value.specs.Order.{Row}
-use Rattle.sqlite_schema.specs.declared.schema.Schema.{Schema}
 use Rattle.sqlite.specs.Effect.{Database, IsDatabase}
 use Rattle.std.specs.Borrow.{MutBor}
 use Rattle.sqlite_trees.specs.declared.store.Store.{Ghosts}
@@ -14,15 +13,15 @@ use Rattle.bike_sql.specs.Outcome.{ToldAs}
 use Rattle.bike_sql.specs.View.{put_row_by, rows_after_update, rows_after_removal, with_values, IsFree}
 use Rattle.bike_sql.specs.Runs.{RunsInside}
 use Rattle.bike_sql.proofs.CallLaws.{Does, insert_returns}
-use Rattle.bike_sql.proofs.WriteLaws.{Inserts, InsertsFree, Updates, Removes, changes_inside, inserts_inside}
+use Rattle.bike_sql.proofs.WriteLaws.{Inserts, Updates, Removes, changes_inside}
 use Rattle.bike_sql.specs.Stands.{rows_of, is_same_text, Stands, Sets}
-use Rattle.bike_book.specs.Tables.{TableName, Tables, keys_of, is_table, rows_in, tables_by, with_rows, Kept}
+use Rattle.bike_book.specs.Tables.{TableName, Tables, keys_of, is_table, rows_in, tables_by, with_rows}
 use Rattle.bike_book.specs.Writes.{RowWrite, Add, Set, Remove, Columns, table_of_write, rows_after, tables_after, tables_after_all}
-use Rattle.bike_schema.specs.Layouts.{layout_in, name_of}
+use Rattle.bike_schema.specs.Layouts.{layout_of, name_of}
 use Rattle.bike_schema.specs.Tables.{tables_of, HasTables, IsOurs}
 use Rattle.bike_schema.specs.declared.fault.StatementFault.{StatementFault}
 use Rattle.bike_schema.specs.Faults.{fault_of}
-use Rattle.bike_schema.specs.Calls.{WasFree, Admits, IsFaultOf, Writes}
+use Rattle.bike_schema.specs.Calls.{WasFree, IsFaultOf, Writes}
 use Rattle.bike_schema.specs.Makes.{OthersStay, Makes, Continues, Puts}
 use Rattle.bike_schema.proofs.TableLemmas.{rows_in_by, same_table, every_false, names_apart}
 
@@ -34,20 +33,16 @@ rows_of_table db t = rows_in_by (λ u. rows_of (keys_of u) (name_of u) db) t
 
 -- what of a table is known after a write to one
 record Becomes (new : Database) (t : TableName) (rows : List Row) : Type 0 where
-  stands : Stands new (keys_of t) (layout_in new.schema t)
+  stands : Stands new (keys_of t) (layout_of t)
   rows_are : rows_of (keys_of t) (name_of t) new ≡ rows
 
-module _ (old new : Database) (t : TableName) (rows : List Row) (has : HasTables old) (set : Sets old new (keys_of t) (layout_in old.schema t) rows) where
-  -- the schema is what it was
-  still : (u : TableName) → Stands new (keys_of u) (layout_in old.schema u) → Stands new (keys_of u) (layout_in new.schema u)
-  still u = subst (λ s. Stands new (keys_of u) (layout_in s u)) (sym set.schema)
-
+module _ (old new : Database) (t : TableName) (rows : List Row) (has : HasTables old) (set : Sets old new (keys_of t) (layout_of t) rows) where
   each : (u : TableName) → Becomes new u (if is_table t u then rows else rows_in (tables_of old) u)
   each u = by (is_table t u) refl
     where
       by : (b : Bool) → is_table t u ≡ b → Becomes new u (if b then rows else rows_in (tables_of old) u)
-      by true same = subst (λ v. Becomes new v rows) (same_table t u same) (record { stands = still t set.stands; rows_are = set.rows_are })
-      by false other = let it = set.others (keys_of u) (layout_in old.schema u) (names_apart t u other) (has u) in record { stands = still u it.stands; rows_are = it.rows ∙ sym (rows_of_table old u) }
+      by true same = subst (λ v. Becomes new v rows) (same_table t u same) (record { stands = set.stands; rows_are = set.rows_are })
+      by false other = let it = set.others (keys_of u) (layout_of u) (names_apart t u other) (has u) in record { stands = it.stands; rows_are = it.rows ∙ sym (rows_of_table old u) }
 
   pub set_has : HasTables new
   set_has u = (each u).stands
@@ -59,7 +54,7 @@ module _ (old new : Database) (t : TableName) (rows : List Row) (has : HasTables
   set_others keys layout other stands = set.others keys layout (every_false (λ u. is_same_text layout.name (name_of u)) other t) stands
 
 -- a write of rows that are those after it
-pub sets_makes : (old new : Database) (w : RowWrite) → HasTables old → Sets old new (keys_of (table_of_write w)) (layout_in old.schema (table_of_write w)) (rows_after w (tables_of old))
+pub sets_makes : (old new : Database) (w : RowWrite) → HasTables old → Sets old new (keys_of (table_of_write w)) (layout_of (table_of_write w)) (rows_after w (tables_of old))
     → Makes (w ∷ []) old new
 sets_makes old new w has set =
     let t = table_of_write w in
@@ -107,58 +102,48 @@ puts_then ws vs a b c first second = record { continues = continues_then a b c f
 -- ---- statements
 
 -- An INSERT of a row into a table is that write, and the row's key was free.
-pub adds_row : (t : TableName) {text : List ℕ} {row : Row} → ((s : Schema) → Inserts (keys_of t) (layout_in s t) text row)
-    → Does (Admits (Add t row)) (λ db. WasFree (Add t row) (tables_of db)) (Puts (Add t row ∷ [])) text row
-adds_row t {text} {row} it = record { does = λ old new may r ran. on_ok_weaker r (puts old new may.0) (changes_inside (it old.now.schema) old new may.0.sound (may.0.has t) r ran) }
+pub adds_row : (t : TableName) {text : List ℕ} {row : Row} → Inserts (keys_of t) (layout_of t) text row
+    → Does IsOurs (λ db. WasFree (Add t row) (tables_of db)) (Puts (Add t row ∷ [])) text row
+adds_row t {text} {row} it = record { does = λ old new ours r ran. on_ok_weaker r (puts old new ours) (changes_inside it old new ours.sound (ours.has t) r ran) }
   where
-    puts : (old new : State) (ours : IsOurs old.now) → Continues old new × Sets old.now new.now (keys_of t) (layout_in old.now.schema t)
+    puts : (old new : State) (ours : IsOurs old.now) → Continues old new × Sets old.now new.now (keys_of t) (layout_of t)
         (put_row_by (keys_of t) row (rows_of (keys_of t) (name_of t) old.now)) × IsFree (keys_of t) row (rows_of (keys_of t) (name_of t) old.now)
         → Puts (Add t row ∷ []) old new × WasFree (Add t row) (tables_of old.now)
     puts old new ours done =
         let w = Add t row in
         let same = sym (rows_of_table old.now t) in
-        let set = subst (λ rows. Sets old.now new.now (keys_of t) (layout_in old.now.schema t) (put_row_by (keys_of t) row rows)) same done.1 in
+        let set = subst (λ rows. Sets old.now new.now (keys_of t) (layout_of t) (put_row_by (keys_of t) row rows)) same done.1 in
         (record { continues = done.0; makes = sets_makes old.now new.now w ours.has set }, subst (IsFree (keys_of t) row) same done.2)
 
--- An INSERT of a row into `kept` is that write, where the row's key is free.
-pub keeps_row : {text : List ℕ} {row : Row} → ((s : Schema) → InsertsFree (keys_of Kept) (layout_in s Kept) text row)
-    → Does (Admits (Add Kept row)) (λ db. WasFree (Add Kept row) (tables_of db)) (Puts (Add Kept row ∷ [])) text row
-keeps_row {text} {row} it = record { does = λ old new may r ran. on_ok_weaker r (puts old new may) (inserts_inside (it old.now.schema) old new may.0.sound (may.0.has Kept) (may.1 refl) r ran) }
-  where
-    puts : (old new : State) (may : Admits (Add Kept row) old.now) → Continues old new
-        × Sets old.now new.now (keys_of Kept) (layout_in old.now.schema Kept) (put_row_by (keys_of Kept) row (rows_of (keys_of Kept) (name_of Kept) old.now))
-        → Puts (Add Kept row ∷ []) old new × WasFree (Add Kept row) (tables_of old.now)
-    puts old new may done = (record { continues = done.0; makes = sets_makes old.now new.now (Add Kept row) may.0.has done.1 }, may.1 refl)
-
 -- An UPDATE of columns of the row with a key is that write.
-pub sets_columns : (t : TableName) {text : List ℕ} {params : Row} (key : Row) (columns : Columns) → ((s : Schema) → Updates (keys_of t) (layout_in s t) text params key (with_values columns))
-    → Does (Admits (Set t key columns)) (λ db. WasFree (Set t key columns) (tables_of db)) (Puts (Set t key columns ∷ [])) text params
-sets_columns t {text} {params} key columns it = record { does = λ old new may r ran. on_ok_weaker r (puts old new may.0) (changes_inside (it old.now.schema) old new may.0.sound (may.0.has t) r ran) }
+pub sets_columns : (t : TableName) {text : List ℕ} {params : Row} (key : Row) (columns : Columns) → Updates (keys_of t) (layout_of t) text params key (with_values columns)
+    → Does IsOurs (λ db. WasFree (Set t key columns) (tables_of db)) (Puts (Set t key columns ∷ [])) text params
+sets_columns t {text} {params} key columns it = record { does = λ old new ours r ran. on_ok_weaker r (puts old new ours) (changes_inside it old new ours.sound (ours.has t) r ran) }
   where
-    puts : (old new : State) (ours : IsOurs old.now) → Continues old new × Sets old.now new.now (keys_of t) (layout_in old.now.schema t)
+    puts : (old new : State) (ours : IsOurs old.now) → Continues old new × Sets old.now new.now (keys_of t) (layout_of t)
         (rows_after_update (keys_of t) key (with_values columns) (rows_of (keys_of t) (name_of t) old.now)) × Unit {0}
         → Puts (Set t key columns ∷ []) old new × WasFree (Set t key columns) (tables_of old.now)
     puts old new ours done =
         let w = Set t key columns in
-        let set = subst (λ rows. Sets old.now new.now (keys_of t) (layout_in old.now.schema t) (rows_after_update (keys_of t) key (with_values columns) rows)) (sym (rows_of_table old.now t)) done.1 in
+        let set = subst (λ rows. Sets old.now new.now (keys_of t) (layout_of t) (rows_after_update (keys_of t) key (with_values columns) rows)) (sym (rows_of_table old.now t)) done.1 in
         (record { continues = done.0; makes = sets_makes old.now new.now w ours.has set }, tt)
 
 -- A DELETE of the row with a key is that write.
-pub removes_row : (t : TableName) {text : List ℕ} {params : Row} (key : Row) → ((s : Schema) → Removes (keys_of t) (layout_in s t) text params key)
-    → Does (Admits (Remove t key)) (λ db. WasFree (Remove t key) (tables_of db)) (Puts (Remove t key ∷ [])) text params
-removes_row t {text} {params} key it = record { does = λ old new may r ran. on_ok_weaker r (puts old new may.0) (changes_inside (it old.now.schema) old new may.0.sound (may.0.has t) r ran) }
+pub removes_row : (t : TableName) {text : List ℕ} {params : Row} (key : Row) → Removes (keys_of t) (layout_of t) text params key
+    → Does IsOurs (λ db. WasFree (Remove t key) (tables_of db)) (Puts (Remove t key ∷ [])) text params
+removes_row t {text} {params} key it = record { does = λ old new ours r ran. on_ok_weaker r (puts old new ours) (changes_inside it old new ours.sound (ours.has t) r ran) }
   where
-    puts : (old new : State) (ours : IsOurs old.now) → Continues old new × Sets old.now new.now (keys_of t) (layout_in old.now.schema t)
+    puts : (old new : State) (ours : IsOurs old.now) → Continues old new × Sets old.now new.now (keys_of t) (layout_of t)
         (rows_after_removal (keys_of t) key (rows_of (keys_of t) (name_of t) old.now)) × Unit {0}
         → Puts (Remove t key ∷ []) old new × WasFree (Remove t key) (tables_of old.now)
     puts old new ours done =
         let w = Remove t key in
-        let set = subst (λ rows. Sets old.now new.now (keys_of t) (layout_in old.now.schema t) (rows_after_removal (keys_of t) key rows)) (sym (rows_of_table old.now t)) done.1 in
+        let set = subst (λ rows. Sets old.now new.now (keys_of t) (layout_of t) (rows_after_removal (keys_of t) key rows)) (sym (rows_of_table old.now t)) done.1 in
         (record { continues = done.0; makes = sets_makes old.now new.now w ours.has set }, tt)
 
 -- What a function of one statement tells, from what its text does and what the engine makes of it. The values that it sends compute to the parameters.
 pub writes_told : {S X : Type 0} {g : Ghosts S} {w : RowWrite} {text : List ℕ} {params sent : Row} {old new : MutBor (Held S)} {result : Result X StatementFault}
-    → Does (Admits w) (λ db. WasFree w (tables_of db)) (Puts (w ∷ [])) text params
+    → Does IsOurs (λ db. WasFree w (tables_of db)) (Puts (w ∷ [])) text params
     → RunsInside g old new text sent (λ error fault. fault ≡ fault_of error) result → sent ≡ params → Writes g old new result w
 writes_told {X = X} {g = g} {text = text} {sent = sent} {old = old} {new = new} does ran same = record {
   writes = insert_returns does ran same;

@@ -29,10 +29,10 @@ use Rattle.bike_book.specs.Operator.{text_cmp}
 use Rattle.bike_book.specs.Tables.{TableName, Tables, rows_in}
 use Rattle.bike_book.specs.Rows.{number_value}
 use Rattle.bike_book.proofs.Keys.{value_cmp-number_value}
-use Rattle.bike_schema.specs.Layouts.{layout_of, InEach}
+use Rattle.bike_schema.specs.Layouts.{layout_of}
 use Rattle.bike_schema.specs.Tables.{tables_of}
 use Rattle.bike_schema.proofs.AnswerLemmas.{FindsIn}
-use Rattle.bike_schema.proofs.KeyLemmas.{key_places, key_in_schema}
+use Rattle.bike_schema.proofs.KeyLemmas.{key_places, table_key}
 use Rattle.bike_schema.proofs.MakesLemmas.{rows_of_table}
 use Rattle.bike_schema.specs.Within.{is_within, rows_within, rows_from}
 use Rattle.bike_schema.proofs.ListedLemmas.{ListsIn}
@@ -100,13 +100,13 @@ abbrev pub StandsAt : TableName → ℕ → Type 0
 StandsAt t place = (r : Row) → column (columns_of (table_of (layout_of t) 0) r) 0 ≡ column r place
 
 pub lists_within : (t : TableName) {text : List ℕ} (place : ℕ) (from to : Value) → is_null from ≡ false → is_null to ≡ false → StandsAt t place
-    → InEach t (λ layout. IsSelect (within_query t place) layout text)
+    → IsSelect (within_query t place) (layout_of t) text
     → ListsIn text (from ∷ to ∷ []) (λ tables. rows_within from to (rows_in tables t))
 lists_within t {text} place from to p q shown is = record {
   lists = λ db has. subst (λ rows. HasOneAnswer db text (from ∷ to ∷ []) (rows_within from to rows)) (sym (rows_of_table db t))
       (subst (HasOneAnswer db text (from ∷ to ∷ [])) (map_same_list _)
-      (rows_passing (key_in_schema db.schema t) (has t) (every_column (layout_of t)) (λ row. row) (shows_every t (from ∷ to ∷ [])) (within_tests place 0 1) (lit (Int (negsuc 0)))
-      (λ row. is_within from to (column row 0)) (is db.schema) (λ r.
+      (rows_passing (table_key t) (has t) (every_column (layout_of t)) (λ row. row) (shows_every t (from ∷ to ∷ [])) (within_tests place 0 1) (lit (Int (negsuc 0)))
+      (λ row. is_within from to (column row 0)) is (λ r.
       within_test (column r place) from to p q ∙ ap (is_within from to) (sym (shown r)))));
 }
 
@@ -145,7 +145,7 @@ first_found p q same (row ∷ rows) = rw (same row) (go (q row) (first_found p q
   go false rest = rest
 
 -- SELECT * FROM the table WHERE its key, which is one column, >= ?1 AND it <= ?2, of one value: the row under it
-pub keyed_within : (t : TableName) {text : List ℕ} (place : ℕ) (k : Value) → is_null k ≡ false → StandsAt t place → InEach t (λ layout. IsSelect (within_query t place) layout text)
+pub keyed_within : (t : TableName) {text : List ℕ} (place : ℕ) (k : Value) → is_null k ≡ false → StandsAt t place → IsSelect (within_query t place) (layout_of t) text
     → FindsIn text (k ∷ k ∷ []) (λ tables. row_with 1 (k ∷ []) (rows_in tables t))
 keyed_within t {text} place k solid shown is = record {
   finds = λ db has. subst (Finds db text (k ∷ k ∷ [])) (first_found _ _ (same_key k solid) (rows_in (tables_of db) t)) ((first_listed (lists_within t place k k solid solid shown is)).finds db has);

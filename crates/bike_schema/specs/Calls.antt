@@ -11,7 +11,7 @@ use Rattle.sqlite.specs.State.{HasCleanDisk, ExecutesInside}
 use Rattle.bike_sql.specs.View.{IsFree}
 use Rattle.bike_sql.specs.Calls.{ReadsWhere, WritesWhere, WalksWhere, LendsWhere}
 use Rattle.bike_book.specs.Tables.{Tables, keys_of, rows_in}
-use Rattle.bike_book.specs.Writes.{RowWrite, Add, Set, Remove, MayWrite}
+use Rattle.bike_book.specs.Writes.{RowWrite, Add, Set, Remove}
 use Rattle.bike_schema.specs.Tables.{IsOurs, tables_of}
 use Rattle.bike_schema.specs.declared.fault.StatementFault.{StatementFault}
 use Rattle.bike_schema.specs.Faults.{fault_of}
@@ -22,10 +22,6 @@ abbrev pub WasFree : RowWrite → Tables → Type 0
 WasFree (Add name row) t = IsFree (keys_of name) row (rows_in t name)
 WasFree (Set name key columns) t = Unit {0}
 WasFree (Remove name key) t = Unit {0}
-
--- a database in which a write may be made
-abbrev pub Admits : RowWrite → Database → Type 0
-Admits w db = IsOurs db × MayWrite w (tables_of db)
 
 -- a read: what is so of the tables and its value
 abbrev pub Reads : {S X E : Type 0} → Ghosts S → Held S → Held S → Result X E → (Tables → X → Type 0) → Type 0
@@ -42,7 +38,7 @@ pub record IsFaultOf {S : Type 0} (g : Ghosts S) (old new : Held S) (fault : Sta
 -- A write inside a transaction: what it makes of the tables. It is refused where a row has the key that it adds.
 pub record Writes {S : Type 0} (g : Ghosts S) (old new : MutBor (Held S)) {X : Type 0}
     (result : Result X StatementFault) (w : RowWrite) : Type 0 where
-  pub writes : WritesWhere g (Admits w) old new result
+  pub writes : WritesWhere g IsOurs old new result
       (λ before after. Puts (w ∷ []) before after × WasFree w (tables_of before.now))
   pub open writes use *
   pub told : HasCleanDisk (state g new.now) → IsTrue old.now.in_transaction → IfErr result (IsFaultOf g old.now new.now)

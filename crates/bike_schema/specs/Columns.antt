@@ -8,6 +8,7 @@ use Rattle.sqlite_value.specs.declared.value.Value.TheVariants.{Int, Text}
 use Rattle.sqlite_sql.specs.Ops.{is_null}
 use Rattle.bike_fixed.specs.Whole.{last_moment}
 use Rattle.bike_fields.specs.Bytes.{ident_of, name_of, language_of}
+use Rattle.bike_book.specs.Numbers.{count_of}
 use Rattle.bike_book.specs.BikeState.{BikeState}
 use Rattle.bike_book.specs.BikeState.TheVariants.{Fit, Disabled, Retired}
 use Rattle.bike_schema.specs.declared.fault.StatementFault.{StatementFault}
@@ -48,6 +49,10 @@ number_in lo hi v = option_and_then (number_of lo hi) (whole_in v)
 
 abbrev pub moment_in : Value → Option ℕ
 moment_in v = option_and_then moment_of (whole_in v)
+
+-- the number of a request, or how many there are
+abbrev pub request_count_in : Value → Option ℕ
+request_count_in v = option_and_then count_of (whole_in v)
 
 abbrev pub flag_in : Value → Option Bool
 flag_in v = option_and_then flag_of (whole_in v)

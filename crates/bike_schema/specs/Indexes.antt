@@ -10,7 +10,7 @@ use Rattle.sqlite_schema.specs.Names.{column_named, place_of}
 use Rattle.sqlite_rules.specs.Lists.{Has}
 use Rattle.sqlite_catalog.specs.Change.{is_used}
 use Rattle.bike_sql.specs.Has.{HasTable}
-use Rattle.bike_book.specs.Tables.{TableName, Bikes, Rentals, Kept, MoreNames}
+use Rattle.bike_book.specs.Tables.{TableName, Bikes, Rentals, History, MoreNames}
 use Rattle.bike_schema.specs.Layouts.{name_of, every_table}
 
 -- An index: its name, its table, and its columns in their order.
@@ -39,12 +39,12 @@ abbrev pub more_names_by_thing : TableIndex
 more_names_by_thing = index_on (codes "more_names_by_thing") MoreNames
     (codes "kind" ∷ codes "id" ∷ codes "language" ∷ codes "name" ∷ [])
 
-abbrev pub kept_by_key : TableIndex
-kept_by_key = index_on (codes "kept_by_key") Kept (codes "caller" ∷ codes "req_key" ∷ [])
+abbrev pub history_by_key : TableIndex
+history_by_key = index_on (codes "history_by_key") History (codes "caller" ∷ codes "req_key" ∷ [])
 
 abbrev pub every_index : List TableIndex
 every_index =
-    bikes_by_dock ∷ bikes_by_truck ∷ rentals_by_rider ∷ more_names_by_language ∷ more_names_by_thing ∷ kept_by_key ∷ []
+    bikes_by_dock ∷ bikes_by_truck ∷ rentals_by_rider ∷ more_names_by_language ∷ more_names_by_thing ∷ history_by_key ∷ []
 
 -- where a stored row of the table has the columns of these names
 abbrev pub places_in : Table → List (List ℕ) → List (Option ℕ)

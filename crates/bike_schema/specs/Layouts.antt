@@ -1,14 +1,11 @@
 -- The tables of the schema, each as its CREATE TABLE makes it. Every table is STRICT.
-use Rattle.std.specs.Prelude.{ℕ, Bool, true, false, ◌&&◌, if◌then◌else◌, List, [], ◌∷◌, slice_get, Some, None, is_some}
-use Rattle.std.specs.Prelude.{option_map, option_and_then, unwrap_or, codes}
+use Rattle.std.specs.Prelude.{ℕ, true, false, List, [], ◌∷◌, Some, None, codes}
 use Rattle.sqlite_value.specs.Keys.{plain}
 use Rattle.sqlite_schema.specs.declared.schema.Column.{Column}
 use Rattle.sqlite_schema.specs.declared.schema.Kind.TheVariants.{Integer, Text}
-use Rattle.sqlite_schema.specs.declared.schema.Schema.{Schema}
-use Rattle.sqlite_schema.specs.Names.{table_named}
 use Rattle.bike_sql.specs.Layout.{Layout, strict}
-use Rattle.bike_book.specs.Tables.{TableName, is_table, Meta, System, Plans, Segments, Types, Regions, Stations, Docks}
-use Rattle.bike_book.specs.Tables.{Bikes, Trucks, Riders, Rentals, Orders, Entries, Kept, Counts, MoreNames}
+use Rattle.bike_book.specs.Tables.{TableName, Meta, System, Plans, Segments, Types, Regions, Stations, Docks}
+use Rattle.bike_book.specs.Tables.{Bikes, Trucks, Riders, Rentals, Orders, Entries, History, Counts, MoreNames}
 
 -- a column of whole numbers or of texts, NOT NULL
 abbrev pub number : List ℕ → Column
@@ -40,14 +37,6 @@ numbered_layout name key others =
 abbrev pub keyed_layout : List ℕ → List ℕ → List Column → Layout
 keyed_layout name places columns =
     record { name = name; columns = columns; key = None; primary = places; uniques = places ∷ []; orders = plain ∷ [] }
-
--- a table whose rows are found by plain indexes alone
-abbrev pub plain_layout : List ℕ → List Column → Layout
-plain_layout name columns =
-    record { name = name; columns = columns; key = None; primary = []; uniques = []; orders = [] }
-
-abbrev pub kept_columns : List Column
-kept_columns = text (codes "caller") ∷ text (codes "req_key") ∷ text (codes "command") ∷ text (codes "reply") ∷ []
 
 -- THE TABLES. An end of an order is a station's identifier, or *.
 abbrev pub layout_of : TableName → Layout
@@ -93,7 +82,9 @@ layout_of Orders = numbered_layout (codes "orders") (codes "ord")
 layout_of Entries = numbered_layout (codes "entries") (codes "entry")
     (number (codes "kind") ∷ number (codes "rider") ∷ number (codes "rental") ∷ number (codes "amount")
     ∷ number (codes "at") ∷ [])
-layout_of Kept = plain_layout (codes "kept") kept_columns
+layout_of History = numbered_layout (codes "history") (codes "number")
+    (number (codes "moment") ∷ text (codes "caller") ∷ text (codes "req_key") ∷ text (codes "command")
+    ∷ text (codes "reply") ∷ [])
 layout_of Counts = keyed_layout (codes "counts") (1 ∷ 2 ∷ [])
     (text (codes "station_id") ∷ text (codes "type_id") ∷ number (codes "available") ∷ number (codes "disabled") ∷ [])
 layout_of MoreNames = keyed_layout (codes "more_names") (1 ∷ 2 ∷ 3 ∷ [])
@@ -106,39 +97,4 @@ name_of t = (layout_of t).name
 abbrev pub every_table : List TableName
 every_table =
     Meta ∷ System ∷ Plans ∷ Segments ∷ Types ∷ Regions ∷ Stations ∷ Docks ∷ Bikes ∷ Trucks ∷ Riders ∷ Rentals ∷ Orders
-    ∷ Entries ∷ Kept ∷ Counts ∷ MoreNames ∷ []
-
--- ---- kept, which stands in either of two layouts
-
--- as a file of before has it: with a PRIMARY KEY
-abbrev pub keyed_kept : Layout
-keyed_kept = keyed_layout (name_of Kept) (1 ∷ 2 ∷ []) kept_columns
-
--- whose keys and indexes a table has, where `kept` has a PRIMARY KEY or none
-abbrev pub keys_by : Bool → TableName → Layout
-keys_by keyed t = if is_table t Kept && keyed then keyed_kept else layout_of t
-
--- the table, where `kept` has a PRIMARY KEY or none
-abbrev pub layout_by : Bool → TableName → Layout
-layout_by keyed t = record {
-  name = (layout_of t).name;
-  columns = (layout_of t).columns;
-  key = (layout_of t).key;
-  primary = (keys_by keyed t).primary;
-  uniques = (keys_by keyed t).uniques;
-  orders = (keys_by keyed t).orders;
-}
-
--- whether the schema's table of this name has a PRIMARY KEY for which the rowid doesn't stand
-abbrev pub has_primary : Schema → List ℕ → Bool
-has_primary schema name =
-    unwrap_or (option_map (λ table. is_some (slice_get table.primary 0))
-    (option_and_then (slice_get schema.tables) (table_named schema name))) false
-
--- the table as it has to stand in this schema
-abbrev pub layout_in : Schema → TableName → Layout
-layout_in schema = layout_by (has_primary schema (name_of Kept))
-
--- a fact of the table in each layout in which it may stand
-abbrev pub InEach : TableName → (Layout → Type 0) → Type 0
-InEach t fact = (schema : Schema) → fact (layout_in schema t)
+    ∷ Entries ∷ History ∷ Counts ∷ MoreNames ∷ []

@@ -7,7 +7,7 @@ use Rattle.sqlite_schema.specs.Names.{same_name, table_named}
 use Rattle.sqlite.specs.Effect.{Database, IsDatabase}
 use Rattle.bike_sql.specs.Stands.{rows_of, Stands}
 use Rattle.bike_book.specs.Tables.{TableName, Tables, keys_of, tables_by}
-use Rattle.bike_schema.specs.Layouts.{layout_in, name_of, every_table}
+use Rattle.bike_schema.specs.Layouts.{layout_of, name_of, every_table}
 
 -- the tables, each as the list of its rows in the order of its key
 abbrev pub tables_of : Database → Tables
@@ -15,7 +15,7 @@ tables_of db = tables_by (λ t. rows_of (keys_of t) (name_of t) db)
 
 -- all tables stand there, with their columns and keys
 abbrev pub HasTables : Database → Type 0
-HasTables db = (t : TableName) → Stands db (keys_of t) (layout_in db.schema t)
+HasTables db = (t : TableName) → Stands db (keys_of t) (layout_of t)
 
 -- The database obeys its schema and has the tables.
 pub record IsOurs (db : Database) : Type 0 where
@@ -24,7 +24,7 @@ pub record IsOurs (db : Database) : Type 0 where
 
 -- the names of tables that only an earlier schema has
 abbrev pub other_names : List (List ℕ)
-other_names = codes "stations" ∷ codes "stations_2" ∷ []
+other_names = codes "stations" ∷ codes "stations_2" ∷ codes "kept" ∷ []
 
 abbrev pub product_names : List (List ℕ)
 product_names = map name_of every_table ++ other_names

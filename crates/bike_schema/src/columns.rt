@@ -4,12 +4,13 @@ ghost use Rattle.std.specs.Prelude.{◌≡◌, IfOk, IfErr, Some, None, Err, str
 ghost use Rattle.sqlite_value.specs.Order.{column};
 ghost use Rattle.sqlite_sql.specs.Ops.{is_null};
 ghost use Rattle.bike_schema.specs.declared.fault.StatementFault.TheVariants.{StoreFailed};
-ghost use Rattle.bike_schema.specs.Columns.{number_of, moment_of, flag_of, state_of, or_none, read_or_failed};
+ghost use Rattle.bike_schema.specs.Columns.{number_of, moment_of, flag_of, state_of};
+ghost use Rattle.bike_schema.specs.Columns.{or_none, read_or_failed, request_count_in};
 ghost use Rattle.bike_schema.specs.Columns.{whole_in, number_in, moment_in, flag_in, state_in, text_in, ident_in};
 ghost use Rattle.bike_schema.specs.Columns.{name_in, language_in};
 
 use crate::fault::StatementFault;
-use bike_book::BikeState;
+use bike_book::{BikeState, RequestCount};
 use bike_fields::{Ident, Language, Name};
 use bike_fixed::{Cents, Moment, Within};
 use sqlite::Row;
@@ -105,6 +106,13 @@ pub fn moment_at(row: &Row, at: usize) -> Result<Moment, StatementFault>
     ensures { result ≡ read_or_failed (moment_in (column row.now at)) }
 {
     moment_of(whole_at(row, at)?).ok_or(StatementFault::StoreFailed)
+}
+
+/// The column as the number of a request, or as how many there are; any other column is `StoreFailed`.
+pub fn request_count_at(row: &Row, at: usize) -> Result<RequestCount, StatementFault>
+    ensures { result ≡ read_or_failed (request_count_in (column row.now at)) }
+{
+    RequestCount::new(whole_at(row, at)?).ok_or(StatementFault::StoreFailed)
 }
 
 /// The column as an amount, in hundredths.

@@ -36,7 +36,7 @@ pub const TABLES: [&str; 17] = [
     table!(create rentals),
     table!(create orders),
     table!(create entries),
-    table!(create kept),
+    table!(create history),
     table!(create counts),
     table!(create more_names),
 ];
@@ -48,7 +48,7 @@ pub const INDEXES: [&str; 6] = [
     indexes::RENTALS_BY_RIDER,
     indexes::MORE_NAMES_BY_LANGUAGE,
     indexes::MORE_NAMES_BY_THING,
-    indexes::KEPT_BY_KEY,
+    indexes::HISTORY_BY_KEY,
 ];
 
 /// Runs the statements one after another, with no parameters, up to the first that fails.

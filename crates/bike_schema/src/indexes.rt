@@ -18,5 +18,5 @@ pub const MORE_NAMES_BY_LANGUAGE: &str =
 pub const MORE_NAMES_BY_THING: &str =
     "CREATE INDEX more_names_by_thing ON more_names (kind, id, language, name)";
 
-/// Kept requests by caller and key. A UNIQUE index would be probed for each row whenever the file is opened.
-pub const KEPT_BY_KEY: &str = "CREATE INDEX kept_by_key ON kept (caller, req_key)";
+/// Requests by caller and key. A UNIQUE index would be probed for each row whenever the file is opened.
+pub const HISTORY_BY_KEY: &str = "CREATE INDEX history_by_key ON history (caller, req_key)";

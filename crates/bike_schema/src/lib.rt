@@ -14,7 +14,8 @@ mod within;
 
 pub use columns::{
     cents_at, flag_at, ident_at, language_at, moment_at, name_at, number_at, optional_cents_at,
-    optional_ident_at, optional_moment_at, optional_number_at, state_at, str_at, text_at,
+    optional_ident_at, optional_moment_at, optional_number_at, request_count_at, state_at, str_at,
+    text_at,
 };
 pub use create::{APP, OpenTransaction, create_tables};
 pub use fault::StatementFault;

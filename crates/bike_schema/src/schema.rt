@@ -27,13 +27,13 @@ const TABLE_NAMES: [&str; 17] = [
     table!(name rentals),
     table!(name orders),
     table!(name entries),
-    table!(name kept),
+    table!(name history),
     table!(name counts),
     table!(name more_names),
 ];
 
 /// The names of the tables that only an earlier schema has.
-const OTHER_NAMES: [&str; 2] = ["stations", "stations_2"];
+const OTHER_NAMES: [&str; 3] = ["stations", "stations_2", "kept"];
 
 /// The names of the indexes beside those of the keys.
 const INDEX_NAMES: [&str; 6] = [
@@ -42,7 +42,7 @@ const INDEX_NAMES: [&str; 6] = [
     "rentals_by_rider",
     "more_names_by_language",
     "more_names_by_thing",
-    "kept_by_key",
+    "history_by_key",
 ];
 
 /// Whether some foreign key of the table names this name.

@@ -8,4 +8,4 @@ use Rattle.bike_schema.proofs.AnswerLemmas.{FindsIn, keyed_in}
 
 pub finds_meta : FindsIn (codes "SELECT * FROM meta WHERE one = ?1") (number_value 1 ∷ []) (λ t. row_with 1 (number_value 1 ∷ []) t.meta)
 unfolding everything
-finds_meta = keyed_in Meta (λ s. (λ tree. refl, refl)) refl
+finds_meta = keyed_in Meta (λ tree. refl, refl) refl

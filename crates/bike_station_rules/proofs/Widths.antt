@@ -14,7 +14,7 @@ use Rattle.bike_sql.proofs.OrderLemmas.{order_has}
 use Rattle.bike_sql.proofs.TreeLemmas.{by_key_total}
 use Rattle.bike_sql.proofs.RowListLemmas.{map_has}
 use Rattle.bike_book.specs.Tables.{TableName, rows_in, keys_of}
-use Rattle.bike_schema.specs.Layouts.{layout_of, layout_in}
+use Rattle.bike_schema.specs.Layouts.{layout_of}
 use Rattle.bike_schema.specs.Tables.{tables_of, HasTables}
 use Rattle.bike_schema.proofs.MakesLemmas.{rows_of_table}
 
@@ -29,7 +29,7 @@ columns_wide table row = mapped_length (λ at. column row (place_of table at)) (
 pub wide : (db : Database) → HasTables db → (name : TableName) (r : Row) → Has (rows_in (tables_of db) name) r → length r ≡ length (layout_of name).columns
 wide db has name r there =
     let it = has name in
-    let table = table_of (layout_in db.schema name) it.tree in
-    let among = subst (λ (rows : List Row). Has rows r) (rows_of_table db name ∙ rows_of_is db (keys_of name) (layout_in db.schema name) it) there in
+    let table = table_of (layout_of name) it.tree in
+    let among = subst (λ (rows : List Row). Has rows r) (rows_of_table db name ∙ rows_of_is db (keys_of name) (layout_of name) it) there in
     let at = map_has (columns_of table) (db.trees it.tree) r (order_has (by_key_total (keys_of name)) (map (columns_of table) (db.trees it.tree)) r among) in
     ap (λ (x : Row). length x) at.2 ∙ columns_wide table at.0

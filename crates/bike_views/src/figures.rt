@@ -9,7 +9,7 @@ ghost use Rattle.bike_views.specs.Open.{AnswersOpen};
 use bike_booking::{Figures, Sums};
 use bike_fleet_reads::order_count;
 use bike_laws::ledger_room_law;
-use bike_office_reads::{entry_count, find_meta, open_rental_count, rental_count};
+use bike_office_reads::{entry_count, find_meta, open_rental_count, rental_count, request_count};
 use bike_operator::{MOST_BIKES, MOST_ENTRIES};
 use bike_schema::StatementFault;
 use sqlite::{Alter, Connection};
@@ -23,7 +23,7 @@ pub struct KnownFigures {
     pub newest_tells: bool,
 }
 
-/// The operator's figures, by four look-ups. It fails as `know_figures` does.
+/// The operator's figures, by five look-ups. It fails as `know_figures` does.
 pub fn find_figures<S: Alter>(conn: &mut Connection<S>) -> Result<Figures, StatementFault>
     ensures { Answers S.Store conn.old conn.new result (λ s m figures. figures ≡ figures_of s) }
 {
@@ -31,6 +31,7 @@ pub fn find_figures<S: Alter>(conn: &mut Connection<S>) -> Result<Figures, State
     let rentals = rental_count(conn)?;
     let orders = order_count(conn)?;
     let entries = entry_count(conn)?;
+    let requests = request_count(conn)?;
     let sums = Sums {
         cash: meta.cash,
         revenue: meta.revenue,
@@ -41,6 +42,7 @@ pub fn find_figures<S: Alter>(conn: &mut Connection<S>) -> Result<Figures, State
         rentals,
         orders,
         entries,
+        requests,
     })
 }
 

@@ -18,9 +18,9 @@ pub adds_order : (order truck : ℕ) (from_end to_end : Bor OrderEnd) (type_id :
     → Makes (insert_text Orders) (order_row order (record { truck = truck; from_end = from_end.now; to_end = to_end.now; type_id = type_id.now; count = count; delivered = 0; is_open = true }))
     (record_write (change.AddOrder order truck from_end to_end type_id count))
 unfolding everything
-adds_order order truck from_end to_end type_id count = adds_row Orders (λ s. row_put (unique_key Orders) (λ s tree. (refl, refl, refl, λ base. refl)) refl refl (λ rows. refl))
+adds_order order truck from_end to_end type_id count = adds_row Orders (row_put (unique_key Orders) (λ s tree. (refl, refl, refl, λ base. refl)) refl refl (λ rows. refl))
 
 pub sets_order : (order delivered : ℕ) (is_open : Bool) → Makes (codes "UPDATE orders SET delivered = ?2, is_open = ?3 WHERE ord = ?1")
     (number_value order ∷ number_value delivered ∷ Int (truth is_open) ∷ []) (record_write (change.SetOrder order delivered is_open))
 unfolding everything
-sets_order order delivered is_open = sets_columns Orders _ _ (λ s. row_updated (unique_key Orders) 0 ((6, 1) ∷ (7, 2) ∷ []) _ (λ tree. (refl, refl, refl), refl) refl refl refl (λ r. refl) (λ r. refl))
+sets_order order delivered is_open = sets_columns Orders _ _ (row_updated (unique_key Orders) 0 ((6, 1) ∷ (7, 2) ∷ []) _ (λ tree. (refl, refl, refl), refl) refl refl refl (λ r. refl) (λ r. refl))

@@ -21,17 +21,17 @@ pub adds_rental : (rental rider bike : ℕ) (plan from_station : Bor (List ℕ))
     → Makes (insert_text Rentals) (rental_row rental (record { rider = rider; bike = bike; plan = plan.now; from_station = from_station.now; start = start; closing = None }) (pos 0))
     (record_write (change.AddRental rental rider bike plan from_station start))
 unfolding everything
-adds_rental rental rider bike plan from_station start = adds_row Rentals (λ s. row_put (unique_key Rentals) (λ s tree. (refl, refl, refl, λ base. refl)) refl refl (λ rows. refl))
+adds_rental rental rider bike plan from_station start = adds_row Rentals (row_put (unique_key Rentals) (λ s tree. (refl, refl, refl, λ base. refl)) refl refl (λ rows. refl))
 
 pub closes_rental : (rental : ℕ) (to_station : Option (Bor (List ℕ))) (finish : ℕ) (fare : ℤ)
     → Makes (codes "UPDATE rentals SET to_station = ?2, finish = ?3, fare = ?4 WHERE rental = ?1") (number_value rental ∷ or_null Text (text_in to_station) ∷ number_value finish ∷ Int fare ∷ [])
     (record_write (change.CloseRental rental to_station finish fare))
 unfolding everything
 closes_rental rental to_station finish fare =
-    sets_columns Rentals _ _ (λ s. row_updated (unique_key Rentals) 0 ((6, 1) ∷ (7, 2) ∷ (8, 3) ∷ []) _ (λ tree. (refl, refl, refl), refl) refl refl (rw (text_suits (text_in to_station))) (λ r. refl)
+    sets_columns Rentals _ _ (row_updated (unique_key Rentals) 0 ((6, 1) ∷ (7, 2) ∷ (8, 3) ∷ []) _ (λ tree. (refl, refl, refl), refl) refl refl (rw (text_suits (text_in to_station))) (λ r. refl)
     (λ r. refl))
 
 pub sets_refunded : (rental : ℕ) (refunded : ℤ) → Makes (codes "UPDATE rentals SET refunded = ?2 WHERE rental = ?1") (number_value rental ∷ Int refunded ∷ [])
     (write_of (row.SetRefunded rental refunded))
 unfolding everything
-sets_refunded rental refunded = sets_columns Rentals _ _ (λ s. row_updated (unique_key Rentals) 0 ((9, 1) ∷ []) _ (λ tree. (refl, refl, refl), refl) refl refl refl (λ r. refl) (λ r. refl))
+sets_refunded rental refunded = sets_columns Rentals _ _ (row_updated (unique_key Rentals) 0 ((9, 1) ∷ []) _ (λ tree. (refl, refl, refl), refl) refl refl refl (λ r. refl) (λ r. refl))

@@ -23,7 +23,7 @@ use Rattle.bike_schema.proofs.MakesLemmas.{adds_row, sets_columns}
 pub adds_station : (x : Bor StationRow) (reported : ℕ) → Makes (insert_text Stations) (station_row x.now.station_id (new_station x.now reported) (pos x.now.docks) 0)
     (record_write (change.AddStation x reported))
 unfolding everything
-adds_station x reported = adds_row Stations (λ s. row_put (unique_key Stations) (λ s tree. (refl, refl, refl, λ base. refl)) refl refl (λ rows. refl))
+adds_station x reported = adds_row Stations (row_put (unique_key Stations) (λ s tree. (refl, refl, refl, λ base. refl)) refl refl (λ rows. refl))
 
 pub sets_station : (station : Bor (List ℕ)) (installed renting returning : Bool) (reported : ℕ)
     → Makes (codes "UPDATE stations_3 SET installed = ?2, renting = ?3, \"returning\" = ?4, reported = ?5 WHERE station_id = ?1")
@@ -31,49 +31,49 @@ pub sets_station : (station : Bor (List ℕ)) (installed renting returning : Boo
     (record_write (change.SetStation station installed renting returning reported))
 unfolding everything
 sets_station station installed renting returning reported =
-    sets_columns Stations _ _ (λ s. row_updated (unique_key Stations) 0 ((5, 1) ∷ (6, 2) ∷ (7, 3) ∷ (8, 4) ∷ []) _ (λ tree. (refl, refl, refl), refl) refl refl refl (λ r. refl) (λ r. refl))
+    sets_columns Stations _ _ (row_updated (unique_key Stations) 0 ((5, 1) ∷ (6, 2) ∷ (7, 3) ∷ (8, 4) ∷ []) _ (λ tree. (refl, refl, refl), refl) refl refl refl (λ r. refl) (λ r. refl))
 
 pub sets_docks_reported : (station : Bor (List ℕ)) (free broken reported : ℕ)
     → Makes (codes "UPDATE stations_3 SET free = ?2, broken = ?3, reported = ?4 WHERE station_id = ?1") (Text station.now ∷ number_value free ∷ number_value broken ∷ number_value reported ∷ [])
     (write_of (row.SetDocksReported station free broken reported))
 unfolding everything
 sets_docks_reported station free broken reported =
-    sets_columns Stations _ _ (λ s. row_updated (unique_key Stations) 0 ((9, 1) ∷ (10, 2) ∷ (8, 3) ∷ []) _ (λ tree. (refl, refl, refl), refl) refl refl refl (λ r. refl) (λ r. refl))
+    sets_columns Stations _ _ (row_updated (unique_key Stations) 0 ((9, 1) ∷ (10, 2) ∷ (8, 3) ∷ []) _ (λ tree. (refl, refl, refl), refl) refl refl refl (λ r. refl) (λ r. refl))
 
 pub moves_station : (station : Bor (List ℕ)) (p : Bor PositionRow) → Makes (codes "UPDATE stations_3 SET lat = ?2, lon = ?3 WHERE station_id = ?1")
     (Text station.now ∷ Int p.now.lat ∷ Int p.now.lon ∷ []) (record_write (change.MoveStation station p))
 unfolding everything
-moves_station station p = sets_columns Stations _ _ (λ s. row_updated (unique_key Stations) 0 ((2, 1) ∷ (3, 2) ∷ []) _ (λ tree. (refl, refl, refl), refl) refl refl refl (λ r. refl) (λ r. refl))
+moves_station station p = sets_columns Stations _ _ (row_updated (unique_key Stations) 0 ((2, 1) ∷ (3, 2) ∷ []) _ (λ tree. (refl, refl, refl), refl) refl refl refl (λ r. refl) (λ r. refl))
 
 pub sets_dock_count : (station : Bor (List ℕ)) (docks free : ℕ) → Makes (codes "UPDATE stations_3 SET docks = ?2, free = ?3 WHERE station_id = ?1")
     (Text station.now ∷ number_value docks ∷ number_value free ∷ []) (write_of (row.SetDockCount station docks free))
 unfolding everything
 sets_dock_count station docks free =
-    sets_columns Stations _ _ (λ s. row_updated (unique_key Stations) 0 ((4, 1) ∷ (9, 2) ∷ []) _ (λ tree. (refl, refl, refl), refl) refl refl refl (λ r. refl) (λ r. refl))
+    sets_columns Stations _ _ (row_updated (unique_key Stations) 0 ((4, 1) ∷ (9, 2) ∷ []) _ (λ tree. (refl, refl, refl), refl) refl refl refl (λ r. refl) (λ r. refl))
 
 pub sets_region : (station : Bor (List ℕ)) (region : Option (Bor (List ℕ)))
     → Makes (codes "UPDATE stations_3 SET region_id = ?2 WHERE station_id = ?1") (Text station.now ∷ or_null Text (text_in region) ∷ []) (record_write (change.SetRegion station region))
 unfolding everything
 sets_region station region =
-    sets_columns Stations _ _ (λ s. row_updated (unique_key Stations) 0 ((11, 1) ∷ []) _ (λ tree. (refl, refl, refl), refl) refl refl (rw (text_suits (text_in region))) (λ r. refl) (λ r. refl))
+    sets_columns Stations _ _ (row_updated (unique_key Stations) 0 ((11, 1) ∷ []) _ (λ tree. (refl, refl, refl), refl) refl refl (rw (text_suits (text_in region))) (λ r. refl) (λ r. refl))
 
 pub adds_dock : (station : Bor (List ℕ)) (dock : ℕ) (broken : Bool) → Makes (insert_text Docks) (dock_row station.now dock broken) (write_of (row.AddDock station dock broken))
 unfolding everything
-adds_dock station dock broken = adds_row Docks (λ s. row_put (unique_key Docks) (λ s tree. (refl, refl, refl, λ base. refl)) refl refl (λ rows. refl))
+adds_dock station dock broken = adds_row Docks (row_put (unique_key Docks) (λ s tree. (refl, refl, refl, λ base. refl)) refl refl (λ rows. refl))
 
 pub sets_dock : (station : Bor (List ℕ)) (dock : ℕ) (broken : Bool) → Makes (codes "UPDATE docks SET broken = ?3 WHERE station_id = ?1 AND dock = ?2") (dock_row station.now dock broken)
     (write_of (row.SetDock station dock broken))
 unfolding everything
-sets_dock station dock broken = sets_columns Docks _ _ (λ s. row_updated (unique_key Docks) 0 ((2, 2) ∷ []) _ (λ tree. (refl, refl, refl), refl) refl refl refl (λ r. refl) (λ r. refl))
+sets_dock station dock broken = sets_columns Docks _ _ (row_updated (unique_key Docks) 0 ((2, 2) ∷ []) _ (λ tree. (refl, refl, refl), refl) refl refl refl (λ r. refl) (λ r. refl))
 
 pub adds_count : (station type_id : Bor (List ℕ)) (available disabled : ℕ)
     → Makes (insert_text Counts) (count_row station.now type_id.now available disabled) (write_of (row.AddCount station type_id available disabled))
 unfolding everything
-adds_count station type_id available disabled = adds_row Counts (λ s. row_put (unique_key Counts) (λ s tree. (refl, refl, refl, λ base. refl)) refl refl (λ rows. refl))
+adds_count station type_id available disabled = adds_row Counts (row_put (unique_key Counts) (λ s tree. (refl, refl, refl, λ base. refl)) refl refl (λ rows. refl))
 
 pub sets_count : (station type_id : Bor (List ℕ)) (available disabled : ℕ)
     → Makes (codes "UPDATE counts SET available = ?3, disabled = ?4 WHERE station_id = ?1 AND type_id = ?2") (count_row station.now type_id.now available disabled)
     (write_of (row.SetCount station type_id available disabled))
 unfolding everything
 sets_count station type_id available disabled =
-    sets_columns Counts _ _ (λ s. row_updated (unique_key Counts) 0 ((2, 2) ∷ (3, 3) ∷ []) _ (λ tree. (refl, refl, refl), refl) refl refl refl (λ r. refl) (λ r. refl))
+    sets_columns Counts _ _ (row_updated (unique_key Counts) 0 ((2, 2) ∷ (3, 3) ∷ []) _ (λ tree. (refl, refl, refl), refl) refl refl refl (λ r. refl) (λ r. refl))

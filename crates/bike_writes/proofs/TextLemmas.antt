@@ -10,13 +10,13 @@ use Rattle.bike_sql.proofs.CastLemmas.{suits}
 use Rattle.bike_sql.proofs.ParamLemmas.{text_or_null}
 use Rattle.bike_book.specs.Rows.{number_value}
 use Rattle.bike_book.specs.Writes.{RowWrite}
-use Rattle.bike_schema.specs.Tables.{tables_of}
+use Rattle.bike_schema.specs.Tables.{IsOurs, tables_of}
 use Rattle.bike_schema.specs.Makes.{Puts}
-use Rattle.bike_schema.specs.Calls.{WasFree, Admits}
+use Rattle.bike_schema.specs.Calls.{WasFree}
 
 -- with these parameters the text makes the write
 abbrev pub Makes : List ℕ → Row → RowWrite → Type 1
-Makes text params w = Does (Admits w) (λ db. WasFree w (tables_of db)) (Puts (w ∷ [])) text params
+Makes text params w = Does IsOurs (λ db. WasFree w (tables_of db)) (Puts (w ∷ [])) text params
 
 pub number_or_null : (o : Option ℕ) → bound_value (or_null (λ n. Int (pos n)) o) ≡ or_null number_value o
 number_or_null None = refl

@@ -1,11 +1,11 @@
-//! The statements on `entries`, `kept` and `meta`.
+//! The statements on `entries`, `history` and `meta`.
 
 ghost use Rattle.bike_book.specs.declared.row_change.RowChange.TheVariants as row;
 ghost use Rattle.bike_book.specs.Writes.{write_of};
 ghost use Rattle.bike_schema.specs.Calls.{Writes};
 
 use crate::columns::{kind_number, seconds_of};
-use bike_book::table;
+use bike_book::{RequestCount, table};
 use bike_fixed::{Cents, Moment};
 use bike_ledger::Entry;
 use bike_schema::{OpenTransaction, StatementFault};
@@ -33,21 +33,30 @@ pub(crate) fn add_entry<S: Alter>(
     )
 }
 
-/// Adds what is kept of a request.
-pub(crate) fn add_kept<S: Alter>(
+/// Adds a request to the history.
+pub(crate) fn add_request<S: Alter>(
     tx: &mut OpenTransaction<'_, S>,
+    number: RequestCount,
+    moment: Moment,
     caller: &str,
     key: &str,
     command: &str,
     reply: &str,
 ) -> Result<(), StatementFault>
     ensures { Writes S.Store tx.old.conn tx.new.conn result
-        (write_of (row.AddKept caller.entry key.entry command.entry reply.entry)) }
+        (write_of (row.AddRequest number moment caller.entry key.entry command.entry reply.entry)) }
 {
     run(
         tx,
-        table!(insert kept),
-        params![caller, key, command, reply],
+        table!(insert history),
+        params![
+            number.number(),
+            seconds_of(moment),
+            caller,
+            key,
+            command,
+            reply
+        ],
     )
 }
 

@@ -7,7 +7,7 @@ use crate::catalogue::{
     add_plan, add_region, add_segment, add_type, change_system, set_plan, set_system,
 };
 use crate::fleet::{add_bike, add_truck, set_bike};
-use crate::ledger::{add_entry, add_kept, set_meta};
+use crate::ledger::{add_entry, add_request, set_meta};
 use crate::names::{add_name, remove_name, set_further_name, set_own_name};
 use crate::orders::{add_order, set_order};
 use crate::rentals::{add_rental, close_rental, set_refunded};
@@ -138,12 +138,14 @@ pub fn put<S: Alter>(
         RowChange::SetBalance { rider, balance } => set_balance(tx, rider, balance),
         RowChange::SetRefunded { rental, refunded } => set_refunded(tx, rental, refunded),
         RowChange::AddEntry(entry) => add_entry(tx, entry),
-        RowChange::AddKept {
+        RowChange::AddRequest {
+            number,
+            moment,
             caller,
             key,
             command,
             reply,
-        } => add_kept(tx, caller, key, command, reply),
+        } => add_request(tx, number, moment, caller, key, command, reply),
         RowChange::AddCount {
             station,
             type_id,

@@ -3,19 +3,19 @@ use Rattle.std.proofs.Common.{◌≡◌, inl, inr, ◌∙◌, List, [], ◌∷�
 use Rattle.std.specs.Prelude.{◌↔◌}
 use Rattle.std.specs.List.{AllByRecursion}
 use Rattle.std.proofs.lemmas.Bool.{true≢false, both_ways}
-use Rattle.sqlite_schema.specs.declared.schema.Schema.{Schema}
 use Rattle.sqlite.specs.Effect.{Database}
 use Rattle.bike_sql.specs.Found.{IsPlainTable}
 use Rattle.bike_sql.specs.Layout.{table_of}
 use Rattle.bike_sql.specs.Stands.{Stands}
 use Rattle.bike_sql.proofs.KeyLemmas.{IsKeyOf, columns_unique_at}
 use Rattle.bike_book.specs.Tables.{TableName, keys_of, is_table, Regions, Stations, MoreNames}
-use Rattle.bike_schema.specs.Layouts.{layout_in, every_table}
+use Rattle.bike_schema.specs.Layouts.{layout_of, every_table}
 use Rattle.bike_schema.proofs.TableLemmas.{of_every}
 use Rattle.bike_recognition.specs.Recognition.{TableStands}
 use Rattle.bike_recognition.proofs.StandLemmas.{no_defaults_in}
 use Rattle.bike_recognition.specs.declared.earlier_versions.earlier.Earlier.{Earlier}
-use Rattle.bike_recognition.specs.declared.earlier_versions.earlier.Earlier.TheVariants.{First, Second}
+use Rattle.bike_recognition.specs.declared.earlier_versions.earlier.Earlier.TheVariants.{First, Second, Third}
+use Rattle.bike_recognition.specs.EarlierVersions.Kept.{KeptLies}
 use Rattle.bike_recognition.specs.EarlierVersions.Earlier.{stations_layout, has_table, layout_at, StandsAt, IsWhether, HasTablesAt, AreNewerFree, IsAt}
 
 -- ---- the table of stations can be looked for
@@ -23,10 +23,12 @@ use Rattle.bike_recognition.specs.EarlierVersions.Earlier.{stations_layout, has_
 pub stations_plain : (e : Earlier) → IsPlainTable (table_of (stations_layout e) 0)
 stations_plain First = no_defaults_in (stations_layout First) refl
 stations_plain Second = no_defaults_in (stations_layout Second) refl
+stations_plain Third = no_defaults_in (stations_layout Third) refl
 
 pub stations_key : (e : Earlier) → IsKeyOf 1 (stations_layout e)
 stations_key First = (columns_unique_at 1 (stations_layout First) 0 (1 ∷ []) refl refl refl (λ row. refl)).key
 stations_key Second = (columns_unique_at 1 (stations_layout Second) 0 (1 ∷ []) refl refl refl (λ row. refl)).key
+stations_key Third = (columns_unique_at 1 (stations_layout Third) 0 (1 ∷ []) refl refl refl (λ row. refl)).key
 
 -- ---- a table
 
@@ -39,18 +41,19 @@ stations_is Stations is = refl
 stations_is _ is = absurd (true≢false (sym is))
 
 -- every other table is as it is today
-other_layout : (e : Earlier) (s : Schema) (t : TableName) → is_table Stations t ≡ false → layout_at e s t ≡ layout_in s t
-other_layout e s t is = rw is refl
+other_layout : (e : Earlier) (t : TableName) → is_table Stations t ≡ false → layout_at e t ≡ layout_of t
+other_layout e t is = rw is refl
 
 pub stations_stand_at : (e : Earlier) (db : Database) (t : TableName) → is_table Stations t ≡ true → (stands : Bool) → (IsTrue stands ↔ Stands db 1 (stations_layout e))
     → IsTrue stands ↔ StandsAt e db t
 stations_stand_at First db t is stands h = subst (λ u. IsTrue stands ↔ StandsAt First db u) (sym (stations_is t is)) ((λ yes. record { stands = λ there. h.0 yes }), λ at. h.1 (at.stands refl))
 stations_stand_at Second db t is stands h = subst (λ u. IsTrue stands ↔ StandsAt Second db u) (sym (stations_is t is)) ((λ yes. record { stands = λ there. h.0 yes }), λ at. h.1 (at.stands refl))
+stations_stand_at Third db t is stands h = subst (λ u. IsTrue stands ↔ StandsAt Third db u) (sym (stations_is t is)) ((λ yes. record { stands = λ there. h.0 yes }), λ at. h.1 (at.stands refl))
 
 pub other_stands_at : (e : Earlier) (db : Database) (t : TableName) → is_table Stations t ≡ false → has_table e t ≡ true → (stands : Bool) → (IsTrue stands ↔ TableStands t db)
     → IsTrue stands ↔ StandsAt e db t
 other_stands_at e db t is has stands h =
-    let layout = other_layout e db.schema t is in
+    let layout = other_layout e t is in
     ((λ yes. record { stands = λ there. subst (λ l. Stands db (keys_of t) l) (sym layout) (h.0 yes) }), λ at. h.1 (subst (λ l. Stands db (keys_of t) l) layout (at.stands has)))
 
 -- ---- all tables
@@ -65,8 +68,24 @@ none_lacks e db has [] stand h = h
 none_lacks e db has (t ∷ ts) stand (inl lacking) = absurd (lacking.0 (has t))
 none_lacks e db has (t ∷ ts) stand (inr standing) = none_lacks e db has ts stand standing.1
 
-pub is_at_both : (e : Earlier) (db : Database) (stand free : Bool) → IsWhether e db every_table stand → stand ≡ true → (IsTrue free ↔ AreNewerFree e db.schema) → IsTrue free ↔ IsAt e db
-is_at_both e db stand free all stands names = ((λ f. record { has = of_every (StandsAt e db) (all_stand e db every_table stand all stands); free = names.0 f }), λ at. names.1 at.free)
+-- ---- kept, and the names of later versions
+
+abbrev pub IsAlone : Earlier → Database → Type 0
+IsAlone e db = KeptLies db × AreNewerFree e db.schema
+
+pub alone_both : (e : Earlier) (db : Database) (kept free : Bool) → kept ≡ true → (IsTrue kept ↔ KeptLies db) → (IsTrue free ↔ AreNewerFree e db.schema) → IsTrue free ↔ IsAlone e db
+alone_both e db kept free is lies names = ((λ f. (lies.0 is, names.0 f)), λ it. names.1 it.1)
+
+pub not_alone : (e : Earlier) (db : Database) (kept : Bool) → kept ≡ false → (IsTrue kept ↔ KeptLies db) → IsTrue false ↔ IsAlone e db
+not_alone e db kept isnt lies = ((λ never. absurd (true≢false (sym never))), λ it. absurd (true≢false (sym (lies.1 it.0) ∙ isnt)))
+
+-- ---- the version
+
+pub is_at_both : (e : Earlier) (db : Database) (stand alone : Bool) → IsWhether e db every_table stand → stand ≡ true → (IsTrue alone ↔ IsAlone e db) → IsTrue alone ↔ IsAt e db
+is_at_both e db stand alone all stands rest = (
+  (λ f. let it = rest.0 f in record { has = of_every (StandsAt e db) (all_stand e db every_table stand all stands); kept = it.0; free = it.1 }),
+  λ at. rest.1 (at.kept, at.free),
+)
 
 pub not_at : (e : Earlier) (db : Database) (stand : Bool) → IsWhether e db every_table stand → stand ≡ false → IsTrue false ↔ IsAt e db
 not_at e db stand all lacks = ((λ never. absurd (true≢false (sym never))), λ at. absurd (true≢false (sym (none_lacks e db at.has every_table stand all) ∙ lacks)))

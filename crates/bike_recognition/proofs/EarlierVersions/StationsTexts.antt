@@ -1,9 +1,11 @@
 -- The texts that name the table of stations of an earlier version.
 use Rattle.std.proofs.Common.{List, ℕ, codes, refl}
 use Rattle.sqlite_tied.specs.Compute.{everything}
+use Rattle.bike_book.specs.Tables.{Stations}
+use Rattle.bike_schema.proofs.MakeFacts.{text_of, declared}
 use Rattle.bike_recognition.specs.Wanted.{Defines, AsksRowidsOf}
-use Rattle.bike_recognition.proofs.RowidTexts.{IsParsed, AsksAlone, by_rowid}
-use Rattle.bike_recognition.specs.declared.earlier_versions.earlier.Earlier.TheVariants.{First, Second}
+use Rattle.bike_recognition.proofs.RowidTexts.{IsParsed, AsksAlone, by_rowid, stations_rowids}
+use Rattle.bike_recognition.specs.declared.earlier_versions.earlier.Earlier.TheVariants.{First, Second, Third}
 use Rattle.bike_recognition.specs.EarlierVersions.Earlier.{stations_layout}
 
 -- ---- what made it
@@ -23,6 +25,9 @@ first_defined = refl
 pub second_defined : Defines second_text (stations_layout Second)
 unfolding everything
 second_defined = refl
+
+pub third_defined : Defines (text_of Stations) (stations_layout Third)
+third_defined = (declared Stations).defined
 
 -- ---- its rowids
 
@@ -47,3 +52,6 @@ second_asked = (λ tree low. rw (low, low) refl, refl)
 
 pub second_rowids : AsksRowidsOf (stations_layout Second) (codes "SELECT rowid FROM stations_2 ORDER BY rowid")
 second_rowids = by_rowid (stations_layout Second) (codes "SELECT rowid FROM stations_2 ORDER BY rowid") second_parsed second_asked
+
+pub third_rowids : AsksRowidsOf (stations_layout Third) (codes "SELECT rowid FROM stations_3 ORDER BY rowid")
+third_rowids = stations_rowids

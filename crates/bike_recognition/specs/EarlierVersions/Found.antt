@@ -7,26 +7,23 @@ use Rattle.sqlite.specs.Effect.{Database}
 use Rattle.bike_book.specs.declared.version.TheConstants.{NEWEST}
 use Rattle.bike_book.specs.Tables.{Meta}
 use Rattle.bike_schema.specs.Tables.{HasTables, HasNone}
-use Rattle.bike_recognition.specs.Recognition.{TableStands, IsDoubledAlone, meta_version}
+use Rattle.bike_recognition.specs.Recognition.{TableStands, meta_version}
 use Rattle.bike_recognition.specs.declared.version.MetaVersion.{MetaVersion}
 use Rattle.bike_recognition.specs.declared.version.MetaVersion.TheVariants.{Missing, Version, NotOurs}
 use Rattle.bike_recognition.specs.declared.earlier_versions.earlier.Earlier.{Earlier}
-use Rattle.bike_recognition.specs.declared.earlier_versions.earlier.Earlier.TheVariants.{First, Second}
+use Rattle.bike_recognition.specs.declared.earlier_versions.earlier.Earlier.TheVariants.{First, Second, Third}
 use Rattle.bike_recognition.specs.EarlierVersions.Earlier.{IsAt}
 use Rattle.bike_recognition.specs.declared.earlier_versions.found.Found.{Found}
 use Rattle.bike_recognition.specs.declared.earlier_versions.found.Found.TheVariants as found
 
 -- the earlier version of this number
 abbrev pub earlier_of : ℕ → Option Earlier
-earlier_of n = if n == 1 then Some First else (if n == 2 then Some Second else None)
+earlier_of n =
+    if n == 1 then Some First else (if n == 2 then Some Second else (if n == 3 then Some Third else None))
 
--- all tables stand, but perhaps for two rows of `kept` that have one key
-abbrev pub IsWhole : Database → Type 0
-IsWhole db = HasTables db ⊎ IsDoubledAlone db
-
--- at the newest version: all tables stand so, or some doesn't
+-- at the newest version: all tables stand, or some doesn't
 abbrev pub IsNewest : Database → Found → Type 0
-IsNewest db f = (IsWhole db × (f ≡ found.Newest)) ⊎ ((¬ IsWhole db) × (f ≡ found.Foreign))
+IsNewest db f = (HasTables db × (f ≡ found.Newest)) ⊎ ((¬ HasTables db) × (f ≡ found.Foreign))
 
 -- at an earlier one: it is of that version, or it isn't
 abbrev pub IsOfEarlier : Database → Option Earlier → Found → Type 0

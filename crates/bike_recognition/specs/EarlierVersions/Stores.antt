@@ -1,5 +1,5 @@
 -- When a database stands for an operator at a version.
-use Rattle.std.specs.Prelude.{◌≡◌, ℕ, ◌≤◌, List, [], ◌∷◌, Option, Some, None}
+use Rattle.std.specs.Prelude.{◌≡◌, ℕ, ◌≤◌, List, [], ◌∷◌, Option, Some, None, IsTrue}
 use Rattle.std.specs.FinMap as fin
 use Rattle.sqlite_trees.specs.Tree.{Trees}
 use Rattle.sqlite_schema.specs.declared.schema.Schema.{Schema}
@@ -13,22 +13,23 @@ use Rattle.bike_book.specs.Stored.{Listed, IsListing, tables_for}
 use Rattle.bike_schema.specs.Stands.{StandsFor}
 use Rattle.bike_recognition.specs.declared.earlier_versions.earlier.Earlier.{Earlier}
 use Rattle.bike_recognition.specs.declared.earlier_versions.earlier.TheConstants.{MOST_DOCKS_BEFORE}
-use Rattle.bike_recognition.specs.EarlierVersions.Earlier.{number_of, tables_at, IsAt}
+use Rattle.bike_recognition.specs.EarlierVersions.Earlier.{number_of, bounds_docks, tables_at, IsAt}
 
 -- the tables of the operator, with the version's number in meta's row
 abbrev pub tables_for_at : Earlier → Operator → Listed → Tables
 tables_for_at e s m =
     record (tables_for s m) { meta = meta_row (number_of e) s.now (cash_of s.entries) (revenue_of s.entries) ∷ [] }
 
--- no station has more docks than an earlier version allows
+-- no station has more docks than the versions allow that bound them
 abbrev pub HasFewDocks : Operator → Type 0
 HasFewDocks s = (id : List ℕ) (x : Station) → fin.get s.stations id ≡ Some x → x.row.docks ≤ MOST_DOCKS_BEFORE
 
 -- At an earlier version the tables are those of the operator, who is sound, with rows for these docks and counts.
+-- Its requests were accepted at moment 0, as far as such a version tells, in the order in which they were kept.
 pub record StoresAt (e : Earlier) (db : Database) (s : Operator) : Type 0 where
   pub is_at : IsAt e db
   pub sound : IsSound s
-  pub few_docks : HasFewDocks s
+  pub few_docks : IsTrue (bounds_docks e) → HasFewDocks s
   pub listed : Listed
   pub listing : IsListing s listed
   pub tables : tables_at e db ≡ tables_for_at e s listed

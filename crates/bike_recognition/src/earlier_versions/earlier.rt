@@ -3,8 +3,11 @@
 ghost use Rattle.std.specs.Prelude.{◌≡◌};
 ghost use Rattle.bike_recognition.specs.Wanted.{Defines, AsksRowidsOf};
 ghost use Rattle.bike_recognition.specs.EarlierVersions.Earlier.{number_of, stations_name, stations_layout};
+ghost use Rattle.bike_recognition.specs.EarlierVersions.Earlier.{bounds_docks};
 
-/// How many docks a station had at most before the newest version.
+use bike_book::table;
+
+/// How many docks a station had at most at versions 1 and 2.
 pub const MOST_DOCKS_BEFORE: u32 = 200;
 
 /// An earlier version of the schema.
@@ -14,6 +17,8 @@ pub enum Earlier {
     First,
     /// Version 2: no further names.
     Second,
+    /// Version 3: as the newest, but that requests are kept without their moments.
+    Third,
 }
 
 impl Earlier {
@@ -24,6 +29,7 @@ impl Earlier {
         match self {
             Earlier::First => 1,
             Earlier::Second => 2,
+            Earlier::Third => 3,
         }
     }
 
@@ -34,6 +40,17 @@ impl Earlier {
         match self {
             Earlier::First => "stations",
             Earlier::Second => "stations_2",
+            Earlier::Third => table!(name stations),
+        }
+    }
+
+    /// Whether a station has at most `MOST_DOCKS_BEFORE` docks.
+    pub fn bounds_docks(self) -> bool
+        ensures { result ≡ bounds_docks self }
+    {
+        match self {
+            Earlier::First | Earlier::Second => true,
+            Earlier::Third => false,
         }
     }
 
@@ -54,6 +71,7 @@ impl Earlier {
                  renting INTEGER NOT NULL, \"returning\" INTEGER NOT NULL, reported INTEGER NOT NULL, \
                  free INTEGER NOT NULL, broken INTEGER NOT NULL, region_id TEXT) STRICT"
             }
+            Earlier::Third => table!(create stations),
         }
     }
 
@@ -64,6 +82,7 @@ impl Earlier {
         match self {
             Earlier::First => "SELECT rowid FROM stations ORDER BY rowid",
             Earlier::Second => "SELECT rowid FROM stations_2 ORDER BY rowid",
+            Earlier::Third => "SELECT rowid FROM stations_3 ORDER BY rowid",
         }
     }
 }

@@ -24,7 +24,7 @@ use std::cmp::Ordering;
 pub enum Found {
     /// It has no table of the product's names.
     Empty,
-    /// It is of the newest version: all tables stand, but perhaps for two rows of `kept` that have one key.
+    /// It is of the newest version: all tables stand.
     Newest,
     /// It is of this earlier version: its tables stand, and the names of later ones are free.
     Of(Earlier),
@@ -41,6 +41,7 @@ fn earlier_of(version: u64) -> Option<Earlier>
     match version {
         1 => Some(Earlier::First),
         2 => Some(Earlier::Second),
+        3 => Some(Earlier::Third),
         _ => None,
     }
 }
@@ -50,7 +51,7 @@ fn find_newest<S: Alter>(alloc: Global, conn: &mut Connection<S>) -> Result<Foun
     ensures { ReadsAny S.Store conn.old conn.new result IsNewest }
 {
     match recognise_tables(alloc, conn)? {
-        Recognition::Ours | Recognition::Doubled => Ok(Found::Newest),
+        Recognition::Ours => Ok(Found::Newest),
         _ => Ok(Found::Foreign),
     }
 }

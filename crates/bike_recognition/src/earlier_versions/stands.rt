@@ -11,9 +11,11 @@ ghost use Rattle.bike_recognition.specs.Recognition.{ReadsAny};
 ghost use Rattle.bike_recognition.specs.Wanted.{HasWanted};
 ghost use Rattle.bike_book.specs.Tables.{Stations, is_table};
 ghost use Rattle.bike_recognition.specs.EarlierVersions.Earlier.{stations_layout, has_table, newer_names};
-ghost use Rattle.bike_recognition.specs.EarlierVersions.Earlier.{StandsAt, IsWhether, IsAt};
+ghost use Rattle.bike_recognition.specs.EarlierVersions.Earlier.{StandsAt, IsWhether, AreNewerFree, IsAt};
+ghost use Rattle.bike_recognition.specs.EarlierVersions.Kept.{KeptLies};
 
 use crate::earlier_versions::earlier::Earlier;
+use crate::earlier_versions::kept::kept_lies;
 use crate::{EVERY_TABLE, TableName, are_apart, check_open, has_wanted, table_stands};
 use bike_schema::{StatementFault, is_unused};
 use sqlite::{Alter, Connection};
@@ -69,8 +71,9 @@ fn has_table(earlier: Earlier, table: TableName) -> bool
     ensures { result ≡ has_table earlier (table_named table) }
 {
     match table {
-        TableName::Regions => earlier == Earlier::Second,
-        TableName::MoreNames => false,
+        TableName::Regions => earlier != Earlier::First,
+        TableName::MoreNames => earlier == Earlier::Third,
+        TableName::History => false,
         _ => true,
     }
 }
@@ -137,13 +140,35 @@ fn are_newer_free(schema: &Schema, earlier: Earlier) -> bool
             is_unused(schema, b"regions")
                 && is_unused(schema, b"stations_3")
                 && is_unused(schema, b"more_names")
+                && is_unused(schema, b"history")
         }
-        Earlier::Second => is_unused(schema, b"stations_3") && is_unused(schema, b"more_names"),
+        Earlier::Second => {
+            is_unused(schema, b"stations_3")
+                && is_unused(schema, b"more_names")
+                && is_unused(schema, b"history")
+        }
+        Earlier::Third => is_unused(schema, b"history"),
     }
 }
 
-/// Whether the database is of this version: its tables stand, and the names of later versions are free. It fails as
-/// `table_stands` does.
+/// Whether `kept` lies in the database, and the names of later versions are free. It fails as `table_stands` does.
+fn is_kept_alone<S: Alter>(
+    alloc: Global,
+    conn: &mut Connection<S>,
+    earlier: Earlier,
+) -> Result<bool, StatementFault>
+    ensures { ReadsAny S.Store conn.old conn.new result
+        (λ db alone. IsTrue alone ↔ (KeptLies db × AreNewerFree earlier db.schema)) }
+{
+    if kept_lies(alloc, conn)? {
+        Ok(are_newer_free(conn.schema(), earlier))
+    } else {
+        Ok(false)
+    }
+}
+
+/// Whether the database is of this version: its tables stand, `kept` lies there, and the names of later versions are
+/// free. It fails as `table_stands` does.
 pub fn is_at<S: Alter>(
     alloc: Global,
     conn: &mut Connection<S>,
@@ -152,7 +177,7 @@ pub fn is_at<S: Alter>(
     ensures { ReadsAny S.Store conn.old conn.new result (λ db at. IsTrue at ↔ IsAt earlier db) }
 {
     if all_stand(alloc, conn, earlier, &EVERY_TABLE)? {
-        Ok(are_newer_free(conn.schema(), earlier))
+        is_kept_alone(alloc, conn, earlier)
     } else {
         Ok(false)
     }

@@ -4,7 +4,6 @@ use Rattle.sqlite.specs.Held.{state}
 use Rattle.bike_operator.specs.Operator.{no_operator}
 use Rattle.bike_schema.specs.Tables.{HasNone}
 use Rattle.bike_audit.specs.Adoption.{IsWantFor, LeavesAll, LeavesFor, LeavesOrStands}
-use Rattle.bike_audit.specs.Watching.{IsDoubledAt}
 use Rattle.bike_audit.proofs.ToldLemmas.{told_nothing}
 use Rattle.bike_audit.proofs.AdoptToldLemmas.{told_begun, told_found, told_failed}
 use Rattle.bike_audit.proofs.AdoptLemmas.{nobody_at, left_of, want_of}
@@ -101,4 +100,4 @@ returns-in-Ok-clause-watched g c =
 pub returns-in-Err-clause-watched : goal.returns-in-Err-clause-watched
 returns-in-Err-clause-watched g c =
     let watched = c.in-Err.ensures.watched in
-    rw c.failed.ensures (watched.0, watched.1, told_failed (IsDoubledAt g.S.Store c.args.conn c.audit.new.conn) c.in-Err.fault watched.0 watched.2)
+    rw c.failed.ensures (watched.0, watched.1, told_failed c.in-Err.fault watched.0 watched.2)

@@ -1,12 +1,8 @@
 use Rattle.bike_booking.proofs.Accepted.{books_accepted, figures_follow, sums_take_one_more}
-use Rattle.bike_booking.proofs.May.{may_be_written}
 use Rattle.bike_booking.proofs.laws.books_accepted.Goals as goal
 
 pub returns-clause-books : goal.returns-clause-books
 returns-clause-books c = books_accepted
-
-pub returns-clause-may : goal.returns-clause-may
-returns-clause-may c = may_be_written
 
 pub returns-clause-sums : goal.returns-clause-sums
 returns-clause-sums c = sums_take_one_more

@@ -36,8 +36,8 @@ returns-in_err-store_accepted-in-Ok-clause-failed g c = rw (sym c.request.view_i
       command = rw (sym c.request.view_is) at c.requires.asked.text;
       reply = c.as_str.ensures.value ∙ c.text-spelled.ensures ∙ ap reply_text decides.1;
     } in
-    let after = later_read (state g.S.Store c.args.conn.now).now s t c.args.now q c.args.figures.now c.args.found.now c.in-Ok.accepted c.books_accepted.ensures.sums sound it c.request.invariant decides c.after-after.ensures in
-    let accepts = accepts_read (state g.S.Store c.args.conn.now).now s t c.args.now q c.args.figures.now c.args.found.now c.in-Ok.accepted c.after-after.result _ sound it c.request.invariant decides found after told in
+    let after = later_read (state g.S.Store c.args.conn.now).now s t c.args.now q c.args.figures.now c.args.found.now c.in-Ok.accepted c.books_accepted.ensures.sums sound it c.request.invariant decides c.in_ok-after-in-Ok.ensures in
+    let accepts = accepts_read (state g.S.Store c.args.conn.now).now s t c.args.now q c.args.figures.now c.args.found.now c.in-Ok.accepted c.in_ok-after-in-Ok.after _ sound it c.request.invariant decides found after told in
     let left = c.store_accepted.ensures.left clean s q keeps it.found_for accepts in
     on_err _ (subst (λ (p : Reply × Operator). AllLeft (state g.S.Store c.store_accepted.new.conn) (TreesStandForEither s p.1)) (sym (step_accepted s t q c.args.now it.later it.anew decides.0)) left))
 
@@ -54,12 +54,12 @@ returns-in_ok-store_accepted-in-Ok-clause-ok g c = rw (sym c.request.view_is) (�
       command = rw (sym c.request.view_is) at c.requires.asked.text;
       reply = c.as_str.ensures.value ∙ c.text-spelled.ensures ∙ ap reply_text decides.1;
     } in
-    let after = later_read (state g.S.Store c.args.conn.now).now s t c.args.now q c.args.figures.now c.args.found.now c.in-Ok.accepted c.books_accepted.ensures.sums sound it c.request.invariant decides c.after-after.ensures in
-    let accepts = accepts_read (state g.S.Store c.args.conn.now).now s t c.args.now q c.args.figures.now c.args.found.now c.in-Ok.accepted c.after-after.result _ sound it c.request.invariant decides found after told in
+    let after = later_read (state g.S.Store c.args.conn.now).now s t c.args.now q c.args.figures.now c.args.found.now c.in-Ok.accepted c.books_accepted.ensures.sums sound it c.request.invariant decides c.in_ok-after-in-Ok.ensures in
+    let accepts = accepts_read (state g.S.Store c.args.conn.now).now s t c.args.now q c.args.figures.now c.args.found.now c.in-Ok.accepted c.in_ok-after-in-Ok.after _ sound it c.request.invariant decides found after told in
     let made = c.in_ok-store_accepted-in-Ok.ensures.made clean s q keeps it.found_for accepts in
     let figures = figures_read s c.args.now q c.in-Ok.accepted c.books_accepted.ensures.figures it.figures_are decides found after in
     let step_is = step_accepted s t q c.args.now it.later it.anew decides.0 in
-    let served : Outcome = record { reply = c.in-Ok.accepted.reply; figures = Some c.after-after.result } in
+    let served : Outcome = record { reply = c.in-Ok.accepted.reply; figures = Some c.in_ok-after-in-Ok.after } in
     subst (λ (p : Reply × Operator). Serves (state g.S.Store c.store_accepted.new.conn) p served) (sym step_is) (record { reply = decides.1; keeps = made; figures = figures }))
 
 pub returns-in-Err-clause-others : goal.returns-in-Err-clause-others
@@ -78,8 +78,8 @@ returns-in_ok-store_accepted-in-Ok-clause-others g c = rw (sym c.request.view_is
       command = rw (sym c.request.view_is) at c.requires.asked.text;
       reply = c.as_str.ensures.value ∙ c.text-spelled.ensures ∙ ap reply_text decides.1;
     } in
-    let after = later_read (state g.S.Store c.args.conn.now).now s t c.args.now q c.args.figures.now c.args.found.now c.in-Ok.accepted c.books_accepted.ensures.sums sound it c.request.invariant decides c.after-after.ensures in
-    let accepts = accepts_read (state g.S.Store c.args.conn.now).now s t c.args.now q c.args.figures.now c.args.found.now c.in-Ok.accepted c.after-after.result _ sound it c.request.invariant decides found after told in
+    let after = later_read (state g.S.Store c.args.conn.now).now s t c.args.now q c.args.figures.now c.args.found.now c.in-Ok.accepted c.books_accepted.ensures.sums sound it c.request.invariant decides c.in_ok-after-in-Ok.ensures in
+    let accepts = accepts_read (state g.S.Store c.args.conn.now).now s t c.args.now q c.args.figures.now c.args.found.now c.in-Ok.accepted c.in_ok-after-in-Ok.after _ sound it c.request.invariant decides found after told in
     c.in_ok-store_accepted-in-Ok.ensures.others clean s q keeps it.found_for accepts)
 
 pub returns-in-Err-clause-rests : goal.returns-in-Err-clause-rests

@@ -1,7 +1,8 @@
 use Rattle.std.proofs.Common.{refl}
 use Rattle.sqlite_tied.specs.Compute.{everything}
-use Rattle.bike_book.specs.Tables.{Meta, System, Plans, Regions, Riders, Rentals, Entries, Kept, MoreNames}
+use Rattle.bike_book.specs.Tables.{Meta, System, Plans, Regions, Riders, Rentals, Entries, History, MoreNames}
 use Rattle.bike_judges.proofs.RowTexts.{table_lines}
+use Rattle.bike_judges.proofs.SortedTexts.{history_key_lines}
 use Rattle.bike_judges.proofs.JoinTexts.{segments_lines, types_lines, station_rows_lines, docks_lines, bike_trucks_lines, entry_rentals_lines}
 use Rattle.bike_judges.proofs.TwoJoinTexts.{bike_names_lines, bike_uses_lines, order_names_lines, count_names_lines, name_places_lines, name_offers_lines, order_ends_lines}
 use Rattle.bike_judges.proofs.UnionTexts.{bike_docks_lines, trucks_lines, order_bikes_lines}
@@ -10,15 +11,15 @@ use Rattle.bike_judges.proofs.text.text.Goals as goal
 
 pub returns-in-Meta : goal.returns-in-Meta
 unfolding everything
-returns-in-Meta c = rw c.in-Meta.is (table_lines Meta (λ s. (λ tree. refl, refl)))
+returns-in-Meta c = rw c.in-Meta.is (table_lines Meta (λ tree. refl, refl))
 
 pub returns-in-System : goal.returns-in-System
 unfolding everything
-returns-in-System c = rw c.in-System.is (table_lines System (λ s. (λ tree. refl, refl)))
+returns-in-System c = rw c.in-System.is (table_lines System (λ tree. refl, refl))
 
 pub returns-in-Plans : goal.returns-in-Plans
 unfolding everything
-returns-in-Plans c = rw c.in-Plans.is (table_lines Plans (λ s. (λ tree. refl, refl)))
+returns-in-Plans c = rw c.in-Plans.is (table_lines Plans (λ tree. refl, refl))
 
 pub returns-in-Segments : goal.returns-in-Segments
 unfolding everything
@@ -30,7 +31,7 @@ returns-in-Types c = rw c.in-Types.is (types_lines (λ tree more. refl, refl))
 
 pub returns-in-Regions : goal.returns-in-Regions
 unfolding everything
-returns-in-Regions c = rw c.in-Regions.is (table_lines Regions (λ s. (λ tree. refl, refl)))
+returns-in-Regions c = rw c.in-Regions.is (table_lines Regions (λ tree. refl, refl))
 
 pub returns-in-StationRows : goal.returns-in-StationRows
 unfolding everything
@@ -66,11 +67,11 @@ returns-in-Trucks c = rw c.in-Trucks.is (trucks_lines (λ tree more. (refl, refl
 
 pub returns-in-RiderRows : goal.returns-in-RiderRows
 unfolding everything
-returns-in-RiderRows c = rw c.in-RiderRows.is (table_lines Riders (λ s. (λ tree. refl, refl)))
+returns-in-RiderRows c = rw c.in-RiderRows.is (table_lines Riders (λ tree. refl, refl))
 
 pub returns-in-Rentals : goal.returns-in-Rentals
 unfolding everything
-returns-in-Rentals c = rw c.in-Rentals.is (table_lines Rentals (λ s. (λ tree. refl, refl)))
+returns-in-Rentals c = rw c.in-Rentals.is (table_lines Rentals (λ tree. refl, refl))
 
 pub returns-in-OrderNames : goal.returns-in-OrderNames
 unfolding everything
@@ -86,15 +87,19 @@ returns-in-OrderBikes c = rw c.in-OrderBikes.is (order_bikes_lines (λ tree more
 
 pub returns-in-Entries : goal.returns-in-Entries
 unfolding everything
-returns-in-Entries c = rw c.in-Entries.is (table_lines Entries (λ s. (λ tree. refl, refl)))
+returns-in-Entries c = rw c.in-Entries.is (table_lines Entries (λ tree. refl, refl))
 
 pub returns-in-EntryRentals : goal.returns-in-EntryRentals
 unfolding everything
 returns-in-EntryRentals c = rw c.in-EntryRentals.is (entry_rentals_lines (λ tree more. refl, refl))
 
-pub returns-in-Kept : goal.returns-in-Kept
+pub returns-in-History : goal.returns-in-History
 unfolding everything
-returns-in-Kept c = rw c.in-Kept.is (table_lines Kept (λ s. (λ tree. refl, refl)))
+returns-in-History c = rw c.in-History.is (table_lines History (λ tree. refl, refl))
+
+pub returns-in-HistoryKeys : goal.returns-in-HistoryKeys
+unfolding everything
+returns-in-HistoryKeys c = rw c.in-HistoryKeys.is (history_key_lines (λ tree. refl, refl))
 
 pub returns-in-CountNames : goal.returns-in-CountNames
 unfolding everything
@@ -106,7 +111,7 @@ returns-in-Counts c = rw c.in-Counts.is (counts_lines (λ tree more last. (refl,
 
 pub returns-in-Names : goal.returns-in-Names
 unfolding everything
-returns-in-Names c = rw c.in-Names.is (table_lines MoreNames (λ s. (λ tree. refl, refl)))
+returns-in-Names c = rw c.in-Names.is (table_lines MoreNames (λ tree. refl, refl))
 
 pub returns-in-NamePlaces : goal.returns-in-NamePlaces
 unfolding everything

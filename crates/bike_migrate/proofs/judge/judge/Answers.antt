@@ -1,15 +1,17 @@
-use Rattle.std.proofs.Common.{rules, subst, sym}
-use Rattle.bike_sql.proofs.ChainLaws.{reads_as, reads_refused}
-use Rattle.bike_readings.proofs.RulesLaws.{stored_in_order}
+use Rattle.std.proofs.Common.{sym, ◌∙◌}
+use Rattle.std.specs.Prelude.{option_map}
+use Rattle.bike_audit.specs.Audit.{row_name}
 use Rattle.bike_schema.specs.Tables.{tables_of}
-use Rattle.bike_migrate.specs.Verdicts.{IsVerdictBefore}
-use Rattle.bike_migrate.proofs.VerdictLemmas.{judged}
+use Rattle.bike_schema.proofs.AnswerLemmas.{reads_weaker}
+use Rattle.bike_migrate.proofs.DoneLemmas.{verdict_bounded, verdict_unbounded}
 use Rattle.bike_migrate.proofs.judge.judge.Goals as goal
 
-pub returns-in_err-over : goal.returns-in_err-over
-returns-in_err-over g c = reads_refused c.in_ok-found.ensures.verdict (search rules)
+pub returns-then-bounds_docks : goal.returns-then-bounds_docks
+returns-then-bounds_docks g c =
+    let bounds = sym c.bounds_docks.ensures ∙ c.if-bounds_docks.true in
+    reads_weaker c.judge_bounded.ensures (λ db bad verdict copies. verdict_bounded c.args.earlier (tables_of db) (option_map row_name bad) bounds (verdict (copies bounds)))
 
-pub returns : goal.returns
-returns g c =
-    reads_as c.in_ok-found.ensures.verdict (λ db verdict copies. subst (IsVerdictBefore (tables_of db)) (sym c.first_of.ensures)
-    (judged (tables_of db) (stored_in_order db) c.args.rows.now copies _ verdict _ c.in_ok-over.ensures))
+pub returns-else-bounds_docks : goal.returns-else-bounds_docks
+returns-else-bounds_docks g c =
+    let bounds = sym c.bounds_docks.ensures ∙ c.if-bounds_docks.false in
+    reads_weaker c.first_bad_row.ensures.verdict (λ db bad verdict copies. verdict_unbounded c.args.earlier (tables_of db) (option_map row_name bad) bounds verdict)

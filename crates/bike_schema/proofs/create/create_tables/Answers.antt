@@ -19,7 +19,7 @@ returns-clause-creates g c clean inside none =
     let indexes = subst (λ texts. RanAll g.S.Store texts b d) c.index_texts.ensures (c.in_ok-run_all-2.ensures.ran clean_d inside_b) in
     let inside_d = all_inside g.S.Store index_texts b d indexes inside_b in
     on_ok_weaker c.add_meta.result (λ done. creates g.S.Store a b d none tables indexes c.add_meta.new.staged.conn.now done.0)
-    (c.add_meta.ensures.done clean inside_d (are_ours g.S.Store a b d none tables indexes, λ same. absurd cc))
+    (c.add_meta.ensures.done clean inside_d (are_ours g.S.Store a b d none tables indexes))
 
 pub returns-clause-told : goal.returns-clause-told
 returns-clause-told g c clean inside =
