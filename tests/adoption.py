@@ -9,8 +9,8 @@ import sqlite3
 from pathlib import Path
 
 from shared import (
-    BY_KEY, FOREIGN, HERE, HISTORY, KEYED, READY, SOUND, STORE_FAILED, changed, held, laid_out, removed, rows_of,
-    told_with, with_kept,
+    BY_KEY, COUNTS, FOREIGN, HERE, HISTORY, KEYED, READY, SOUND, STATIONS_3, STORE_FAILED, changed, held, laid_out,
+    removed, rows_of, to_schema_3, told_with,
 )
 
 NOW = 1700003000
@@ -59,6 +59,12 @@ ASKED = [
 # The numbers from 1 on, so many of them.
 COUNTED = "WITH RECURSIVE counted (n) AS (SELECT 1 UNION ALL SELECT n + 1 FROM counted WHERE n < {})"
 
+# A bicycle of another type, in a dock of b2.
+OF_TWO_TYPES = (
+    "INSERT INTO types SELECT 'cargo', name, form, propulsion, range_m, plan_id FROM types; "
+    "UPDATE bikes SET type_id = 'cargo', station_id = 'b2', dock = 2 WHERE bike = 10;"
+)
+
 # In the end bicycle 7 is in rental 2, 8 in dock 1 of b2, 9 on truck 3 for order 3, 10 in the depot. Rental 1 is closed
 # at 125, of which 25 were refunded; entries 1 to 4 are a top-up of 17, that fare, that refund and a top-up of 18.
 # Station b2 stands in region north, a1 in none, and no station in region south. The system, b2, the description of plan
@@ -67,7 +73,7 @@ CHANGES = [
     ("UPDATE meta SET cash = cash + 1", "unsound meta 1"),
     ("UPDATE meta SET revenue = revenue - 1", "unsound meta 1"),
     ("UPDATE meta SET now = -1", "unsound meta 1"),
-    ("UPDATE meta SET now = 1600000000", "unsound stations_3 a1"),
+    ("UPDATE meta SET now = 1600000000", "unsound stations_4 a1"),
     ("UPDATE meta SET now = now - 1", "unsound history 37"),
     ("UPDATE meta SET now = now + 1", None),
     ("UPDATE meta SET app = 'other'", "foreign"),
@@ -76,15 +82,15 @@ CHANGES = [
     ("UPDATE meta SET version = -1", "foreign"),
     ("UPDATE meta SET version = 1", "older 1"),
     ("UPDATE meta SET version = 2", "older 2"),
-    ("UPDATE meta SET version = 2; DROP TABLE more_names; DROP TABLE stations_3", "older 2"),
+    ("UPDATE meta SET version = 2; DROP TABLE more_names; DROP TABLE stations_4", "older 2"),
     ("UPDATE meta SET version = 2, cash = cash + 1", "older 2"),
     ("UPDATE meta SET version = 1, cash = cash + 1", "older 1"),
-    ("UPDATE meta SET version = 1; DROP TABLE counts", "older 1"),
+    ("UPDATE meta SET version = 1; DROP TABLE docks", "older 1"),
     ("UPDATE meta SET version = 1; DROP TABLE regions; DELETE FROM riders", "older 1"),
     ("UPDATE meta SET version = 3", "older 3"),
     ("UPDATE meta SET version = 3; DROP TABLE history", "older 3"),
     ("UPDATE meta SET version = 5", "newer 5"),
-    ("UPDATE meta SET version = 5; DROP TABLE counts", "newer 5"),
+    ("UPDATE meta SET version = 5; DROP TABLE docks", "newer 5"),
     ("UPDATE meta SET version = 9", "newer 9"),
     ("DELETE FROM meta", "unsound meta 1"),
     ("DELETE FROM meta; DROP TABLE regions", "foreign"),
@@ -148,15 +154,15 @@ CHANGES = [
     (f"UPDATE regions SET name = '{'n' * 121}' WHERE region_id = 'south'", "unsound regions south"),
     ("UPDATE regions SET region_id = 'North' WHERE region_id = 'north'", "unsound regions North"),
     ("UPDATE regions SET region_id = '' WHERE region_id = 'south'", "unsound regions "),
-    ("UPDATE regions SET region_id = 'x' WHERE region_id = 'north'", "unsound stations_3 b2"),
+    ("UPDATE regions SET region_id = 'x' WHERE region_id = 'north'", "unsound stations_4 b2"),
     ("UPDATE regions SET region_id = 'x' WHERE region_id = 'south'", "unsound more_names region/south/de"),
     (
         "UPDATE regions SET region_id = 'x' WHERE region_id = 'south'; "
         "UPDATE more_names SET id = 'x' WHERE id = 'south'",
         None,
     ),
-    ("DELETE FROM regions", "unsound stations_3 b2"),
-    ("DELETE FROM regions WHERE region_id = 'north'", "unsound stations_3 b2"),
+    ("DELETE FROM regions", "unsound stations_4 b2"),
+    ("DELETE FROM regions WHERE region_id = 'north'", "unsound stations_4 b2"),
     ("DELETE FROM regions WHERE region_id = 'south'", "unsound more_names region/south/de"),
     ("DELETE FROM regions WHERE region_id = 'south'; DELETE FROM more_names WHERE id = 'south'", None),
     ("INSERT INTO regions VALUES ('a1', 'Harbour')", None),
@@ -170,99 +176,156 @@ CHANGES = [
         "UPDATE regions SET name = '' WHERE region_id = 'r7'",
         "unsound regions r7",
     ),
-    ("UPDATE stations_3 SET region_id = 'north'", None),
-    ("UPDATE stations_3 SET region_id = 'south' WHERE station_id = 'b2'", None),
-    ("UPDATE stations_3 SET region_id = NULL", None),
-    ("UPDATE stations_3 SET region_id = 'east' WHERE station_id = 'a1'", "unsound stations_3 a1"),
-    ("UPDATE stations_3 SET region_id = 'b2' WHERE station_id = 'b2'", "unsound stations_3 b2"),
-    ("UPDATE stations_3 SET region_id = 'North' WHERE station_id = 'b2'", "unsound stations_3 b2"),
-    ("UPDATE stations_3 SET region_id = '*' WHERE station_id = 'b2'", "unsound stations_3 b2"),
-    ("UPDATE stations_3 SET region_id = '' WHERE station_id = 'b2'", "unsound stations_3 b2"),
+    ("UPDATE stations_4 SET region_id = 'north'", None),
+    ("UPDATE stations_4 SET region_id = 'south' WHERE station_id = 'b2'", None),
+    ("UPDATE stations_4 SET region_id = NULL", None),
+    ("UPDATE stations_4 SET region_id = 'east' WHERE station_id = 'a1'", "unsound stations_4 a1"),
+    ("UPDATE stations_4 SET region_id = 'b2' WHERE station_id = 'b2'", "unsound stations_4 b2"),
+    ("UPDATE stations_4 SET region_id = 'North' WHERE station_id = 'b2'", "unsound stations_4 b2"),
+    ("UPDATE stations_4 SET region_id = '*' WHERE station_id = 'b2'", "unsound stations_4 b2"),
+    ("UPDATE stations_4 SET region_id = '' WHERE station_id = 'b2'", "unsound stations_4 b2"),
     (
-        "INSERT INTO regions VALUES ('*', 'None'); UPDATE stations_3 SET region_id = '*' WHERE station_id = 'a1'",
+        "INSERT INTO regions VALUES ('*', 'None'); UPDATE stations_4 SET region_id = '*' WHERE station_id = 'a1'",
         "unsound regions *",
     ),
     (
         "UPDATE regions SET name = '' WHERE region_id = 'south'; "
-        "UPDATE stations_3 SET region_id = 'east' WHERE station_id = 'a1'",
+        "UPDATE stations_4 SET region_id = 'east' WHERE station_id = 'a1'",
         "unsound regions south",
     ),
-    ("UPDATE stations_3 SET free = free + 1 WHERE station_id = 'a1'", "unsound stations_3 a1"),
-    ("UPDATE stations_3 SET free = free + 1", "unsound stations_3 a1"),
-    ("UPDATE stations_3 SET broken = broken + 1 WHERE station_id = 'b2'", "unsound stations_3 b2"),
-    ("UPDATE stations_3 SET lat = 90000001 WHERE station_id = 'b2'", "unsound stations_3 b2"),
-    ("UPDATE stations_3 SET docks = 0 WHERE station_id = 'b2'", "unsound stations_3 b2"),
-    ("UPDATE stations_3 SET docks = 201, free = free + 198 WHERE station_id = 'b2'", None),
-    ("UPDATE stations_3 SET docks = 500, free = free + 497 WHERE station_id = 'b2'", None),
-    ("UPDATE stations_3 SET docks = 500, free = free + 498 WHERE station_id = 'b2'", "unsound stations_3 b2"),
-    ("UPDATE stations_3 SET docks = 501, free = free + 498 WHERE station_id = 'b2'", "unsound stations_3 b2"),
+    ("UPDATE stations_4 SET free = free + 1 WHERE station_id = 'a1'", "unsound stations_4 a1"),
+    ("UPDATE stations_4 SET free = free + 1", "unsound stations_4 a1"),
+    ("UPDATE stations_4 SET broken = broken + 1 WHERE station_id = 'b2'", "unsound stations_4 b2"),
+    ("UPDATE stations_4 SET lat = 90000001 WHERE station_id = 'b2'", "unsound stations_4 b2"),
+    ("UPDATE stations_4 SET docks = 0 WHERE station_id = 'b2'", "unsound stations_4 b2"),
+    ("UPDATE stations_4 SET docks = 201, free = free + 198 WHERE station_id = 'b2'", None),
+    ("UPDATE stations_4 SET docks = 500, free = free + 497 WHERE station_id = 'b2'", None),
+    ("UPDATE stations_4 SET docks = 500, free = free + 498 WHERE station_id = 'b2'", "unsound stations_4 b2"),
+    ("UPDATE stations_4 SET docks = 501, free = free + 498 WHERE station_id = 'b2'", "unsound stations_4 b2"),
     (
-        "UPDATE stations_3 SET docks = 500, free = free + 496, broken = 1 WHERE station_id = 'b2'; "
+        "UPDATE stations_4 SET docks = 500, free = free + 496, broken = 1 WHERE station_id = 'b2'; "
         "INSERT INTO docks VALUES ('b2', 500, 1)",
         None,
     ),
     (
-        "UPDATE stations_3 SET docks = 500, free = free + 496 WHERE station_id = 'b2'; "
-        "UPDATE bikes SET station_id = 'b2', dock = 500 WHERE bike = 10;"
-        " UPDATE counts SET available = 2 WHERE station_id = 'b2'",
+        "UPDATE stations_4 SET docks = 500, free = free + 496, by_type = 'city:2:0' WHERE station_id = 'b2'; "
+        "UPDATE bikes SET station_id = 'b2', dock = 500 WHERE bike = 10",
         None,
     ),
-    ("UPDATE stations_3 SET reported = 1800000000 WHERE station_id = 'b2'", "unsound stations_3 b2"),
-    ("UPDATE stations_3 SET renting = 2 WHERE station_id = 'b2'", "unsound stations_3 b2"),
-    ("UPDATE stations_3 SET name = '' WHERE station_id = 'b2'", 'unsound stations_3 b2'),
-    ("UPDATE stations_3 SET lon = -180000001 WHERE station_id = 'b2'", 'unsound stations_3 b2'),
-    ("UPDATE stations_3 SET lon = 180000000 WHERE station_id = 'b2'", None),
-    ("UPDATE stations_3 SET lon = 180000001 WHERE station_id = 'b2'", "unsound stations_3 b2"),
-    ("UPDATE stations_3 SET lon = -2147483648 WHERE station_id = 'b2'", "unsound stations_3 b2"),
-    ("UPDATE stations_3 SET installed = 2 WHERE station_id = 'b2'", 'unsound stations_3 b2'),
-    ("UPDATE stations_3 SET \"returning\" = -1 WHERE station_id = 'b2'", 'unsound stations_3 b2'),
-    ("UPDATE stations_3 SET station_id = 'zz' WHERE station_id = 'b2'", 'unsound stations_3 zz'),
-    ("DELETE FROM stations_3 WHERE station_id = 'b2'", "unsound bikes 8"),
+    ("UPDATE stations_4 SET reported = 1800000000 WHERE station_id = 'b2'", "unsound stations_4 b2"),
+    ("UPDATE stations_4 SET renting = 2 WHERE station_id = 'b2'", "unsound stations_4 b2"),
+    ("UPDATE stations_4 SET name = '' WHERE station_id = 'b2'", 'unsound stations_4 b2'),
+    ("UPDATE stations_4 SET lon = -180000001 WHERE station_id = 'b2'", 'unsound stations_4 b2'),
+    ("UPDATE stations_4 SET lon = 180000000 WHERE station_id = 'b2'", None),
+    ("UPDATE stations_4 SET lon = 180000001 WHERE station_id = 'b2'", "unsound stations_4 b2"),
+    ("UPDATE stations_4 SET lon = -2147483648 WHERE station_id = 'b2'", "unsound stations_4 b2"),
+    ("UPDATE stations_4 SET installed = 2 WHERE station_id = 'b2'", 'unsound stations_4 b2'),
+    ("UPDATE stations_4 SET \"returning\" = -1 WHERE station_id = 'b2'", 'unsound stations_4 b2'),
+    ("UPDATE stations_4 SET station_id = 'zz' WHERE station_id = 'b2'", 'unsound stations_4 zz'),
+    ("DELETE FROM stations_4 WHERE station_id = 'b2'", "unsound bikes 8"),
+    *(
+        (f"UPDATE stations_4 SET by_type = {text!r} WHERE station_id = 'b2'", "unsound stations_4 b2")
+        for text in (
+            "city:2:0", "city:0:1", "city:1:1", "city:0:0", "cargo:1:0", "City:1:0", "-", "", "?", " ", "city",
+            "city:1", "city:1:", "city::0", ":1:0", "1:0", "city:1:0:0", "city:01:0", "city:1:00", "city:+1:0",
+            "city: 1:0", " city:1:0", "city:1:0 ", "city:1:0;", ";city:1:0", "city:1:0;-", "-;city:1:0", "city;1;0",
+            "city,1,0", "city:1;0", "city 1 0", "city:4294967297:0", "city:1.0:0", "city:1:0;city:1:0",
+            "cargo:0:0;city:1:0", "city:1:0;zz:0:0", "cargo:0:1;city:1:0", "city:1:0;zz:1:0", "ä:1:0", "city:1:0\n",
+        )
+    ),
+    *(
+        (f"UPDATE stations_4 SET by_type = {text!r} WHERE station_id = 'a1'", "unsound stations_4 a1")
+        for text in ("", "--", "?", " ", "0", "NULL", ";", "::", "-:0:0", "-;", "city:0:0", "city:1:0", "city:0:1")
+    ),
+    ("UPDATE stations_4 SET by_type = 1 WHERE station_id = 'b2'", "unsound stations_4 b2"),
+    ("UPDATE stations_4 SET by_type = by_type || char(0) WHERE station_id = 'b2'", "unsound stations_4 b2"),
+    ("UPDATE stations_4 SET by_type = CAST(x'ff' AS TEXT) WHERE station_id = 'b2'", "unsound stations_4 b2"),
+    ("UPDATE stations_4 SET by_type = upper(by_type)", "unsound stations_4 b2"),
+    ("UPDATE stations_4 SET by_type = '?'", "unsound stations_4 a1"),
+    *(
+        (f"{OF_TWO_TYPES} UPDATE stations_4 SET free = 1, by_type = '{text}' WHERE station_id = 'b2'", wanted)
+        for text, wanted in (
+            ("cargo:1:0;city:1:0", None),
+            *(
+                (it, "unsound stations_4 b2")
+                for it in (
+                    "city:1:0;cargo:1:0", "cargo:1:0,city:1:0", "cargo:1:0;;city:1:0", "cargo:1:0; city:1:0",
+                    "cargo:1:0:city:1:0", "cargo:1:0|city:1:0", "cargo:1:0\tcity:1:0", "cargo:1:0", "city:1:0",
+                    "city:2:0", "cargo:2:0", "cargo:0:1;city:1:0", "cargo:1:0;city:0:1", "-", "cargo:1:0;city:1:0;",
+                    "cargo:1:0;city:1:0;zz:0:0", "cargo:1:0;cargo:1:0;city:1:0", "city:1:0;cargo:1:0;city:1:0",
+                )
+            ),
+        )
+    ),
+    ("UPDATE bikes SET state = 1 WHERE bike = 8", "unsound stations_4 b2"),
+    ("UPDATE bikes SET state = 1 WHERE bike = 8; UPDATE stations_4 SET by_type = 'city:0:1' WHERE free = 2", None),
+    ("INSERT INTO docks VALUES ('b2', 1, 1); UPDATE stations_4 SET broken = 1", "unsound stations_4 b2"),
+    (
+        "INSERT INTO docks VALUES ('b2', 1, 1); UPDATE stations_4 SET broken = 1, by_type = 'city:0:1' WHERE free = 2",
+        None,
+    ),
+    ("UPDATE bikes SET type_id = 'cargo' WHERE bike = 8", "unsound stations_4 b2"),
+    (
+        "UPDATE bikes SET type_id = 'cargo' WHERE bike = 8; UPDATE stations_4 SET by_type = 'cargo:1:0' WHERE free = 2",
+        "unsound bikes 8",
+    ),
+    ("DELETE FROM bikes WHERE bike = 8", "unsound stations_4 b2"),
+    ("DELETE FROM bikes WHERE bike = 8; UPDATE stations_4 SET free = 3, by_type = '-' WHERE free = 2", None),
     ("INSERT INTO docks VALUES ('a1', 3, 0)", "unsound docks a1/3"),
     ("INSERT INTO docks VALUES ('zz', 1, 0)", "unsound docks zz/1"),
     ("INSERT INTO docks VALUES ('b2', 3, 0)", None),
-    ("INSERT INTO docks VALUES ('b2', 3, 1)", "unsound stations_3 b2"),
-    ("UPDATE docks SET broken = 2 WHERE station_id = 'a1'", "unsound stations_3 a1"),
-    ("UPDATE docks SET dock = 201 WHERE station_id = 'a1'", 'unsound stations_3 a1'),
-    ("UPDATE docks SET dock = 501 WHERE station_id = 'a1'", 'unsound stations_3 a1'),
+    ("INSERT INTO docks VALUES ('b2', 3, 1)", "unsound stations_4 b2"),
+    ("UPDATE docks SET broken = 2 WHERE station_id = 'a1'", "unsound stations_4 a1"),
+    ("UPDATE docks SET dock = 201 WHERE station_id = 'a1'", 'unsound stations_4 a1'),
+    ("UPDATE docks SET dock = 501 WHERE station_id = 'a1'", 'unsound stations_4 a1'),
     ("INSERT INTO docks VALUES ('b2', 500, 0)", "unsound docks b2/500"),
     ("INSERT INTO docks VALUES ('b2', 501, 0)", "unsound docks b2/501"),
-    ("UPDATE docks SET station_id = 'b2' WHERE station_id = 'a1'", 'unsound stations_3 a1'),
-    ("DELETE FROM docks WHERE station_id = 'a1'", "unsound stations_3 a1"),
+    ("UPDATE docks SET station_id = 'b2' WHERE station_id = 'a1'", 'unsound stations_4 a1'),
+    ("DELETE FROM docks WHERE station_id = 'a1'", "unsound stations_4 a1"),
     ("UPDATE bikes SET truck = 3, ord = 3 WHERE bike = 8", "unsound bikes 8"),
     ("UPDATE bikes SET truck = 3 WHERE bike = 8", "unsound bikes 8"),
     ("UPDATE bikes SET ord = 100000000 WHERE bike = 8", "unsound bikes 8"),
     ("UPDATE bikes SET rental = 100000000, truck = 999999, ord = 1 WHERE bike = 8", "unsound bikes 8"),
-    ("UPDATE bikes SET ord = 0 WHERE bike = 8", "unsound stations_3 b2"),
-    ("UPDATE bikes SET ord = 100000001 WHERE bike = 8", "unsound stations_3 b2"),
-    ("UPDATE bikes SET truck = -1 WHERE bike = 8", "unsound stations_3 b2"),
-    ("UPDATE bikes SET truck = 0 WHERE bike = 8", "unsound stations_3 b2"),
-    ("UPDATE bikes SET truck = 1000000 WHERE bike = 8", "unsound stations_3 b2"),
-    ("UPDATE bikes SET rental = 0 WHERE bike = 8", "unsound stations_3 b2"),
-    ("UPDATE bikes SET rental = 1000000000000 WHERE bike = 8", "unsound stations_3 b2"),
-    ("UPDATE bikes SET dock = 0 WHERE bike = 8", "unsound stations_3 b2"),
-    ("UPDATE bikes SET dock = 500 WHERE bike = 8", "unsound stations_3 b2"),
-    ("UPDATE bikes SET dock = 501 WHERE bike = 8", "unsound stations_3 b2"),
-    ("UPDATE bikes SET station_id = 'B2' WHERE bike = 8", "unsound stations_3 b2"),
-    ("UPDATE bikes SET station_id = '' WHERE bike = 8", "unsound stations_3 b2"),
+    ("UPDATE bikes SET ord = 0 WHERE bike = 8", "unsound stations_4 b2"),
+    ("UPDATE bikes SET ord = 100000001 WHERE bike = 8", "unsound stations_4 b2"),
+    ("UPDATE bikes SET truck = -1 WHERE bike = 8", "unsound stations_4 b2"),
+    ("UPDATE bikes SET truck = 0 WHERE bike = 8", "unsound stations_4 b2"),
+    ("UPDATE bikes SET truck = 1000000 WHERE bike = 8", "unsound stations_4 b2"),
+    ("UPDATE bikes SET rental = 0 WHERE bike = 8", "unsound stations_4 b2"),
+    ("UPDATE bikes SET rental = 1000000000000 WHERE bike = 8", "unsound stations_4 b2"),
+    ("UPDATE bikes SET dock = 0 WHERE bike = 8", "unsound stations_4 b2"),
+    ("UPDATE bikes SET dock = 500 WHERE bike = 8", "unsound stations_4 b2"),
+    ("UPDATE bikes SET dock = 501 WHERE bike = 8", "unsound stations_4 b2"),
+    ("UPDATE bikes SET station_id = 'B2' WHERE bike = 8", "unsound stations_4 b2"),
+    ("UPDATE bikes SET station_id = '' WHERE bike = 8", "unsound stations_4 b2"),
     ("UPDATE bikes SET ord = 0 WHERE bike = 7", "unsound bikes 7"),
     ("UPDATE bikes SET dock = 501 WHERE bike = 7", "unsound bikes 7"),
     ("UPDATE bikes SET station_id = 'b2', dock = 501 WHERE bike = 7", "unsound bikes 7"),
-    ("UPDATE bikes SET station_id = 'b2', dock = 2 WHERE bike = 7", "unsound stations_3 b2"),
+    ("UPDATE bikes SET station_id = 'b2', dock = 2 WHERE bike = 7", "unsound stations_4 b2"),
     ("UPDATE bikes SET station_id = 'b2', dock = 2, ord = 0 WHERE bike = 7", "unsound bikes 7"),
     ("UPDATE bikes SET rental = 0 WHERE bike = 9", "unsound bikes 9"),
     ("UPDATE bikes SET station_id = 'b2', dock = 2, rental = 0 WHERE bike = 9", "unsound bikes 9"),
     ("UPDATE bikes SET station_id = 'b2', dock = 501 WHERE bike = 10", "unsound bikes 10"),
     ("UPDATE bikes SET station_id = 'b2', dock = 2, truck = 0 WHERE bike = 10", "unsound bikes 10"),
     ("UPDATE bikes SET state = 3 WHERE bike = 10", "unsound bikes 10"),
-    ("UPDATE bikes SET state = 2 WHERE bike = 8", "unsound bikes 8"),
+    ("UPDATE bikes SET state = 2 WHERE bike = 8", "unsound stations_4 b2"),
+    ("UPDATE bikes SET state = 2 WHERE bike = 8; UPDATE stations_4 SET by_type = 'city:0:1' WHERE free = 2",
+     "unsound bikes 8"),
     ("UPDATE bikes SET state = 2 WHERE bike = 10", None),
     ("UPDATE bikes SET type_id = 'cargo' WHERE bike = 10", "unsound bikes 10"),
-    ("UPDATE bikes SET station_id = 'b2', dock = 1 WHERE bike = 10", "unsound bikes 10"),
-    ("UPDATE bikes SET station_id = 'b2', dock = 4 WHERE bike = 10", "unsound bikes 10"),
-    ("UPDATE bikes SET station_id = 'b2', dock = 2 WHERE bike = 10", "unsound stations_3 b2"),
-    ("UPDATE bikes SET dock = NULL WHERE bike = 8", "unsound stations_3 b2"),
-    ("UPDATE bikes SET station_id = 'zz' WHERE bike = 8", 'unsound stations_3 b2'),
+    # A bicycle is told by its type though another is in that dock, or the station hasn't it.
+    *(
+        it
+        for dock in (1, 4)
+        for change in (f"UPDATE bikes SET station_id = 'b2', dock = {dock} WHERE bike = 10",)
+        for it in (
+            (change, "unsound stations_4 b2"),
+            (f"{change}; UPDATE stations_4 SET by_type = 'city:2:0' WHERE free = 2", "unsound bikes 10"),
+        )
+    ),
+    ("UPDATE bikes SET station_id = 'b2', dock = 2 WHERE bike = 10", "unsound stations_4 b2"),
+    ("UPDATE bikes SET dock = NULL WHERE bike = 8", "unsound stations_4 b2"),
+    ("UPDATE bikes SET station_id = 'zz' WHERE bike = 8", 'unsound stations_4 b2'),
     ("UPDATE bikes SET rental = 1 WHERE bike = 10", "unsound bikes 10"),
     ("UPDATE bikes SET rental = 2 WHERE bike = 10", "unsound bikes 10"),
     ("UPDATE bikes SET rental = 3 WHERE bike = 10", "unsound bikes 10"),
@@ -358,13 +421,6 @@ CHANGES = [
     ),
     ("UPDATE history SET reply = 'refused\t37\tunknown_region' WHERE req_key = 'k2'", "unsound history 3"),
     ("DELETE FROM history", None),
-    ("UPDATE counts SET available = available + 1 WHERE station_id = 'b2'", "unsound counts b2/city"),
-    ("UPDATE counts SET disabled = 1 WHERE station_id = 'b2'", "unsound counts b2/city"),
-    ("DELETE FROM counts WHERE station_id = 'b2'", "unsound counts b2/city"),
-    ("INSERT INTO counts VALUES ('zz', 'city', 0, 0)", "unsound counts zz/city"),
-    ("INSERT INTO counts VALUES ('b2', 'cargo', 0, 0)", "unsound counts b2/cargo"),
-    ("UPDATE counts SET type_id = 'x' WHERE station_id = 'b2'", 'unsound counts b2/city'),
-    ("UPDATE counts SET station_id = 'a0' WHERE station_id = 'b2'", 'unsound counts a0/city'),
     ("INSERT INTO more_names VALUES ('station', 'zz', 'de', 'Name')", "unsound more_names station/zz/de"),
     ("INSERT INTO more_names VALUES ('station', 'a1', 'de', 'Name')", None),
     ("INSERT INTO more_names VALUES ('station', 'a1', 'EN', 'Name')", None),
@@ -461,21 +517,28 @@ CHANGES = [
         "unsound history 3",
     ),
     ("UPDATE history SET reply = 'refused\t38\tsystem_missing' WHERE req_key = 'k2'", "unsound history 3"),
-    ("DROP TABLE counts", "foreign"),
+    ("DROP TABLE docks", "foreign"),
     ("DROP TABLE more_names", "foreign"),
     ("ALTER TABLE more_names RENAME COLUMN language TO lang", "foreign"),
     ("ALTER TABLE more_names ADD COLUMN more TEXT", "foreign"),
     ("DROP TABLE meta", "foreign"),
     ("DROP TABLE regions", "foreign"),
-    ("ALTER TABLE stations_3 RENAME TO stations", "foreign"),
-    ("ALTER TABLE stations_3 RENAME TO stations_2", "foreign"),
-    ("ALTER TABLE stations_3 DROP COLUMN region_id", "foreign"),
+    ("ALTER TABLE stations_4 RENAME TO stations", "foreign"),
+    ("ALTER TABLE stations_4 RENAME TO stations_2", "foreign"),
+    ("ALTER TABLE stations_4 RENAME TO stations_3", "foreign"),
+    ("ALTER TABLE stations_4 DROP COLUMN region_id", "foreign"),
+    ("ALTER TABLE stations_4 DROP COLUMN by_type", "foreign"),
+    ("ALTER TABLE stations_4 RENAME COLUMN by_type TO types", "foreign"),
     ("ALTER TABLE regions ADD COLUMN colour TEXT", "foreign"),
     ("ALTER TABLE bikes DROP COLUMN ord", "foreign"),
     ("ALTER TABLE riders ADD COLUMN nickname TEXT", "foreign"),
     ("CREATE TABLE helmets (rider INTEGER REFERENCES riders)", "foreign"),
     ("CREATE TABLE offices (region TEXT REFERENCES regions)", "foreign"),
     ("CREATE TABLE stations (station TEXT); CREATE TABLE stations_2 (station TEXT)", None),
+    ("CREATE TABLE stations_3 (name TEXT UNIQUE); CREATE TABLE counts (a); INSERT INTO counts VALUES (1), (1)", None),
+    (f"{COUNTS}; INSERT INTO counts VALUES ('b2', 'city', -1, 7)", None),
+    (f"{STATIONS_3}; CREATE UNIQUE INDEX one_name ON stations_3 (name)", None),
+    ("CREATE TABLE counts (station TEXT REFERENCES stations_4)", "foreign"),
     ("CREATE TABLE kept (key TEXT UNIQUE); INSERT INTO kept VALUES ('k2')", None),
     ("DROP TABLE history", "foreign"),
     ("ALTER TABLE history RENAME TO kept", "foreign"),
@@ -501,7 +564,7 @@ CHANGES = [
     ("CREATE UNIQUE INDEX again ON docks (dock, station_id)", "foreign"),
     ("CREATE UNIQUE INDEX again ON docks (station_id COLLATE NOCASE, dock)", "foreign"),
     ("CREATE UNIQUE INDEX again ON docks (station_id, dock DESC)", "foreign"),
-    ("CREATE INDEX by_balance ON riders (balance); CREATE INDEX by_name ON stations_3 (name COLLATE NOCASE)", None),
+    ("CREATE INDEX by_balance ON riders (balance); CREATE INDEX by_name ON stations_4 (name COLLATE NOCASE)", None),
     ("CREATE TABLE notes (note TEXT, size INTEGER UNIQUE); CREATE UNIQUE INDEX one_note ON notes (note)", None),
     ("CREATE TABLE stations (name TEXT); CREATE UNIQUE INDEX one_name ON stations (name)", None),
     # It is told before the version and the rows are looked at.
@@ -577,11 +640,11 @@ HISTORY_CHANGES = [
     ("UPDATE history SET req_key = 'k2' WHERE number = 11; UPDATE history SET moment = 0 WHERE number = 10",
      "unsound history 10"),
     ("UPDATE history SET req_key = 'k3', reply = 'no' WHERE number = 3", "unsound history 3"),
-    (f"{AGAIN}; DELETE FROM counts", "unsound history 38"),
+    (f"{AGAIN}; DELETE FROM system", "unsound history 38"),
     (f"{AGAIN}; DELETE FROM meta", "unsound meta 1"),
     # Before the rows it is told that the file is another program's, or another version's.
     (f"{AGAIN}; UPDATE meta SET app = 'other'", "foreign"),
-    (f"{AGAIN}; DROP TABLE counts", "foreign"),
+    (f"{AGAIN}; DROP TABLE docks", "foreign"),
     (f"{AGAIN}; CREATE UNIQUE INDEX one_balance ON riders (balance)", "foreign"),
     (f"{AGAIN}; CREATE TABLE helmets (key TEXT REFERENCES history)", "foreign"),
     (f"{AGAIN}; ALTER TABLE history ADD COLUMN more TEXT", "foreign"),
@@ -613,9 +676,9 @@ OTHERS = [
 # UNIQUE indexes that the rows of the small city allow, on each of its tables.
 ADDED = [
     "meta (app)", "system (system_id)", "plans (price)", "segments (rate)", "types (name)", "regions (name)",
-    "stations_3 (name)", "docks (station_id)", "bikes (station_id, dock)", "bikes (rental)", "bikes (bike)",
+    "stations_4 (name)", "docks (station_id)", "bikes (station_id, dock)", "bikes (rental)", "bikes (bike)",
     "trucks (capacity)", "riders (balance)", "riders (rider)", "rentals (start)", "orders (to_end, quantity)",
-    "entries (amount)", "history (req_key)", "counts (type_id, station_id)", "more_names (name)",
+    "entries (amount)", "history (req_key)", "stations_4 (by_type)", "more_names (name)",
 ]
 # The indexes of a new file beside those of the keys: the table of each, and its columns.
 INDEXES = {
@@ -691,7 +754,7 @@ KEPT_AGAIN = "INSERT INTO kept SELECT * FROM kept WHERE req_key = 'k2'"
 def test_two_rows_of_a_key_that_is_declared(program):
     """The index of a PRIMARY KEY with an entry twice is damaged, to SQLite too: no word reads such a file."""
     file = made(program, "city.db")
-    with_kept(file)
+    to_schema_3(file)
     whole = file.read_bytes()
     changed(file, KEY_DECLARED)
     checked(program, file, "older 3")
@@ -828,12 +891,12 @@ def test_what_others_have_stays_beside_new_tables(program):
         "INSERT INTO numbered (note) VALUES ('y'), ('z')",
         "CREATE TABLE pointing (note TEXT REFERENCES numbered (note))", "INSERT INTO pointing VALUES ('y'), ('y')",
         "CREATE INDEX notes_by_size ON notes (size)", "CREATE VIEW seen AS SELECT note FROM notes",
-        "CREATE TABLE stations_4 (a)", "CREATE TABLE names (a)",
+        "CREATE TABLE stations_5 (a)", "CREATE TABLE names (a)",
     ]))
     before = held(file)
     assert program.run("init", file.name) == READY
     after = held(file)
-    assert [it for it in after if it in before] == before and any("stations_3" in it for it in after)
+    assert [it for it in after if it in before] == before and any("stations_4" in it for it in after)
     checked(program, file, None)
 
 
@@ -850,9 +913,9 @@ def test_changes_of_the_city_of_the_examples(program):
     ]
     after = [
         ("UPDATE meta SET cash = cash - 1", "unsound meta 1"),
-        ("UPDATE counts SET available = 0", "unsound counts a1/city"),
-        ("DELETE FROM counts", "unsound counts a1/city"),
-        ("UPDATE stations_3 SET free = 1", "unsound stations_3 a1"),
+        ("UPDATE stations_4 SET by_type = 'city:0:1'", "unsound stations_4 a1"),
+        ("UPDATE stations_4 SET by_type = '-'", "unsound stations_4 a1"),
+        ("UPDATE stations_4 SET free = 1", "unsound stations_4 a1"),
     ]
     for n, (lines, changes) in enumerate([(given, before), (given + ride, after)]):
         for m, (change, wanted) in enumerate(changes):

@@ -25,7 +25,7 @@ TEXTS = {
     "identifier": formats.is_ident, "name": formats.is_name_value, "ASCII": formats.is_ascii_value,
     "language": formats.is_language, "currency": formats.is_currency, "end": formats.is_end,
     "caller": formats.is_caller, "key": formats.is_key, "command": lambda it: formats.command_text(it) == it,
-    "reply": lambda it: formats.is_reply(it) and not it.startswith(b"refused"),
+    "reply": lambda it: formats.is_reply(it) and not it.startswith(b"refused"), "any text": formats.is_utf8,
 }
 
 
@@ -124,30 +124,23 @@ class Audit:
         """The table and key of the first bad row, or none."""
         for table, keys in TABLES.items():
             listed = [(list(it.values())[:keys], it) for it in self.rows[table]]
-            missing = [(key, None) for key in self.owed(table) if key not in [there for there, _ in listed]]
-            for at, (key, row) in enumerate(sorted(listed + missing, key=lambda it: [rank(value) for value in it[0]])):
+            is_missing = table == "meta" and [1] not in [key for key, _ in listed]
+            listed = sorted(listed + [([1], None)] * is_missing, key=lambda it: [rank(value) for value in it[0]])
+            for at, (key, row) in enumerate(listed):
                 if row is None or not self.is_good(table, row, at):
                     return table, key
         return None
 
-    def owed(self, table):
-        if table == "meta":
-            return [[1]]
-        if table != "counts":
-            return []
-        return [
-            [station, kind]
-            for station in self.by["stations_3"]
-            for kind in self.by["types"]
-            if self.counted(station, kind) != (0, 0)
-        ]
-
-    def counted(self, station, kind):
-        held = [
-            (broken, it) for broken, it in self.holds(self.by["stations_3"][station]) if it and it["type_id"] == kind
-        ]
-        fit = [it for broken, it in held if not broken and it["state"] == 0]
-        return len(fit), len(held) - len(fit)
+    def by_type(self, station):
+        """The text of the bicycles whose place is a dock of a station, be it one that it hasn't."""
+        told = {}
+        for row in self.good["bikes"]:
+            kind, *where = row["place"][0]
+            if kind == "dock" and where[0] == station:
+                dock = self.by["docks"].get(tuple(where), {"broken": 0})
+                counts = told.setdefault(row["type_id"], [0, 0])
+                counts[dock["broken"] == 1 or row["state"] != 0] += 1
+        return b";".join(b"%s:%d:%d" % (kind, *told[kind]) for kind in sorted(told)) or b"-"
 
     def is_good(self, table, row, at):
         if table == "bikes":
@@ -183,16 +176,17 @@ class Audit:
     def regions(self, row, at):
         return at < 256
 
-    def stations_3(self, row, at):
+    def stations_4(self, row, at):
         held = list(self.holds(row))
         free = sum(not broken and it is None for broken, it in held)
         counted = row["free"] == free and row["broken"] == sum(broken for broken, _ in held)
+        counted = counted and row["by_type"] == self.by_type(row["station_id"])
         return row["reported"] <= self.now() and counted and (
             row["region_id"] is None or row["region_id"] in self.by["regions"]
         )
 
     def has_dock(self, station, dock):
-        return station in self.by["stations_3"] and dock <= self.by["stations_3"][station]["docks"]
+        return station in self.by["stations_4"] and dock <= self.by["stations_4"][station]["docks"]
 
     def docks(self, row, at):
         return self.has_dock(row["station_id"], row["dock"])
@@ -233,7 +227,7 @@ class Audit:
         named = (
             row["rider"] in self.by["riders"]
             and row["plan_id"] in self.by["plans"]
-            and row["from_station"] in self.by["stations_3"]
+            and row["from_station"] in self.by["stations_4"]
         )
         if number != at + 1 or not named or row["bike"] not in self.by["bikes"] or row["start"] > self.now():
             return False
@@ -241,14 +235,14 @@ class Audit:
             return False
         if row["finish"] is None:
             return row["refunded"] == 0 and self.by["bikes"][row["bike"]]["place"][0] == ("rental", number)
-        station = row["to_station"] is None or row["to_station"] in self.by["stations_3"]
+        station = row["to_station"] is None or row["to_station"] in self.by["stations_4"]
         has_fare = any(it["kind"] == 2 and it["rental"] == number for it in self.good["entries"])
         return station and has_fare and row["start"] <= row["finish"] <= self.now() and row["refunded"] <= row["fare"]
 
     def orders(self, row, at):
         truck = self.by["trucks"].get(row["truck"])
         ends = (
-            all(it == b"*" or it in self.by["stations_3"] for it in (row["from_end"], row["to_end"]))
+            all(it == b"*" or it in self.by["stations_4"] for it in (row["from_end"], row["to_end"]))
             and row["from_end"] != row["to_end"]
         )
         if (
@@ -282,16 +276,12 @@ class Audit:
         moments = [it["moment"] for it in before[-1:]] + [row["moment"], self.now()]
         return row["number"] == at + 1 and moments == sorted(moments) and not again
 
-    def counts(self, row, at):
-        known = row["station_id"] in self.by["stations_3"] and row["type_id"] in self.by["types"]
-        return known and (row["available"], row["disabled"]) == self.counted(row["station_id"], row["type_id"])
-
     def more_names(self, row, at):
         system = self.by["system"].get(1)
         if system is None:
             return False
         there = {
-            b"system": [system["system_id"]], b"station": self.by["stations_3"], b"type": self.by["types"],
+            b"system": [system["system_id"]], b"station": self.by["stations_4"], b"type": self.by["types"],
             b"plan": self.by["plans"],
             b"description": self.by["plans"], b"region": self.by["regions"],
         }[row["kind"]]

@@ -19,6 +19,7 @@ EDGES = {
     "name": (["\n", "é" * 60, "n" * 120], ["", "n" * 121, "n\0"]),
     "ASCII": ([" ", "~" * 200], ["", "~" * 201, "\t", "é"]),
     "language": (["de", "x" * 35, "Zz-9"], ["d", "x" * 36, "d_e"]),
+    "any text": (["", "-", "?", "cargo:0:1", "city:1:0", "cargo:1:0;city:1:0", "\0", "é" * 5000], []),
     "currency": (["AZZ"], ["EU", "EURO", "EUr"]),
     "end": (["*", "-", "z" * 36], ["", "**", "z" * 37]),
     "caller": (["office", "rider:1", "crew:999999", "dock:-", "import:" + "z" * 36], ["rider:0", "crew:1000000"]),
@@ -48,9 +49,11 @@ BY_HAND = [
     ("entries", "rental", 1, {1: "meta 1"}),
     ("entries", "rental", 3, {0: "meta 1", 2: "rentals 1", 4: "rentals 1", 10**8: "rentals 1", 10**8 + 1: "meta 1"}),
     ("entries", "at", 1, {0: None, 253402300799: "entries 1", 253402300800: "meta 1"}),
-    ("docks", "broken", ("a1", 3), {0: "stations_3 a1", 2: "stations_3 a1"}),
-    ("stations_3", "broken", "a1", {2**32 - 1: "stations_3 a1", 2**32: "stations_3 a1", -1: "stations_3 a1"}),
-    ("stations_3", "free", "a1", {LEAST: "stations_3 a1", MOST: "stations_3 a1"}),
+    ("docks", "broken", ("a1", 3), {0: "stations_4 a1", 2: "stations_4 a1"}),
+    ("stations_4", "broken", "a1", {2**32 - 1: "stations_4 a1", 2**32: "stations_4 a1", -1: "stations_4 a1"}),
+    ("stations_4", "by_type", "a1", {"cargo:0:1": None, "-": "stations_4 a1", "cargo:0:1;city:0:0": "stations_4 a1"}),
+    ("stations_4", "by_type", "b2", {"-": None, "": "stations_4 b2", "cargo:0:1": "stations_4 b2"}),
+    ("stations_4", "free", "a1", {LEAST: "stations_4 a1", MOST: "stations_4 a1"}),
     ("riders", "balance", 17, {LEAST: "riders 17", MOST: "riders 17"}),
 ]
 

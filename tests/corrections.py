@@ -172,13 +172,17 @@ ROWS = [
     ),
     (
         "move-station\ta1\t-45.5\t9.1",
-        """INSERT INTO "stations_3" VALUES('a1','Harbour',41890169,12492269,2,0,1,0,1699999200,0,1,'north');""",
-        """INSERT INTO "stations_3" VALUES('a1','Harbour',-45500000,9100000,2,0,1,0,1699999200,0,1,'north');""",
+        """INSERT INTO "stations_4" VALUES('a1','Harbour',41890169,12492269,2,0,1,0,1699999200,0,1,"""
+        "'north','city:1:0');",
+        """INSERT INTO "stations_4" VALUES('a1','Harbour',-45500000,9100000,2,0,1,0,1699999200,0,1,"""
+        "'north','city:1:0');",
     ),
     (
         "add-docks\ta1\t3",
-        """INSERT INTO "stations_3" VALUES('a1','Harbour',-45500000,9100000,2,0,1,0,1699999200,0,1,'north');""",
-        """INSERT INTO "stations_3" VALUES('a1','Harbour',-45500000,9100000,5,0,1,0,1699999200,3,1,'north');""",
+        """INSERT INTO "stations_4" VALUES('a1','Harbour',-45500000,9100000,2,0,1,0,1699999200,0,1,"""
+        "'north','city:1:0');",
+        """INSERT INTO "stations_4" VALUES('a1','Harbour',-45500000,9100000,5,0,1,0,1699999200,3,1,"""
+        "'north','city:1:0');",
     ),
 ]
 

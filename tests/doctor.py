@@ -32,7 +32,7 @@ from package import sections_of
 from shared import (
     CITY, FEEDS, FOREIGN, HEADER, HISTORY, KEPT_BY_KEY, KEYED, KILLED, READ_FAILED, READY, SOUND, STORE_FAILED, TOP,
     UNKEYED, Program, Server, accepted, changed, disturbed, free_port, held, killed, line_of, loaded, needs, office,
-    put, ran, removed, requests_of, rows_of, taken, with_kept,
+    put, ran, removed, requests_of, rows_of, taken, to_schema_3,
 )
 
 SCRIPT = TOP / "deploy/bikeshare-doctor"
@@ -187,10 +187,12 @@ CHANGES = (
      None, ""),
     (f"DROP TABLE history; {HISTORY}", None, ""),
     (f"DROP TABLE history; {HISTORY}; CREATE TABLE kept (a UNIQUE); CREATE VIEW stations AS SELECT 1", None, ""),
+    ("CREATE TABLE counts (a UNIQUE); CREATE TABLE stations_3 (a)", None, ""),
     (f"DROP TABLE history; {KEYED}", "foreign", "there is no table history"),
-    (f"{KEYED}; UPDATE meta SET version = 3", "older 3", "the table history has a name that schema 4 wants"),
-    *((f"{it}; DROP TABLE history; UPDATE meta SET version = 3", "older 3", "bikeshare raise FILE")
-      for it in (KEYED, f"{UNKEYED}; {KEPT_BY_KEY}")),
+    (f"{KEYED}; UPDATE meta SET version = 3", "older 3", "the table stations_4 has a name of a later schema"),
+    ("DROP TABLE stations_4; UPDATE meta SET version = 3", "older 3", "the table history has a name of a later"),
+    *((f"{it}; DROP TABLE history; DROP TABLE stations_4; UPDATE meta SET version = 3", "older 3",
+       "bikeshare raise FILE") for it in (KEYED, f"{UNKEYED}; {KEPT_BY_KEY}")),
     (f"{UNKEYED}; {KEPT_BY_KEY}; INSERT INTO kept SELECT caller, req_key, command, reply FROM history; "
      f"INSERT INTO kept SELECT * FROM kept LIMIT 1; {KEY_DECLARED}", "store failed", "non-unique entry in index"),
     (f"DROP TABLE history; {HISTORY.replace('number INTEGER PRIMARY KEY', 'number INTEGER NOT NULL')}", "foreign",
@@ -203,7 +205,7 @@ CHANGES = (
     ("ALTER TABLE riders RENAME TO r; ALTER TABLE r RENAME TO RIDERS", "foreign", "called RIDERS"),
     ("ALTER TABLE riders ADD COLUMN card TEXT", "foreign", "the column card more"),
     ("ALTER TABLE riders RENAME COLUMN balance TO money", "foreign", "no column balance"),
-    ("DROP TABLE counts; CREATE TABLE counts AS SELECT 1 AS station_id", "foreign", "column station_id"),
+    ("DROP TABLE docks; CREATE TABLE docks AS SELECT 1 AS station_id", "foreign", "column station_id"),
     (TRUCKS + "(truck INTEGER PRIMARY KEY, capacity INTEGER NOT NULL)", "foreign", "isn't STRICT"),
     (TRUCKS + "(truck INTEGER PRIMARY KEY, capacity INTEGER) STRICT", "foreign", "column capacity"),
     (TRUCKS + "(capacity INTEGER NOT NULL, truck INTEGER PRIMARY KEY) STRICT", "foreign", "another order"),
@@ -331,7 +333,7 @@ def test_an_index_that_is_unique(program):
     """A UNIQUE index beside the keys ends the program at a good request, so such a file is `foreign`, whatever its
     version. One over the very columns of a key refuses nothing more."""
     file = city_file(program)
-    changed(file, "CREATE UNIQUE INDEX twice ON counts (station_id, type_id)")
+    changed(file, "CREATE UNIQUE INDEX twice ON docks (station_id, dock)")
     is_alike(program, file, None)
     changed(file, "CREATE UNIQUE INDEX once ON riders (blocked); UPDATE meta SET version = 2")
     is_alike(program, file, "foreign", "the UNIQUE index once")
@@ -344,7 +346,7 @@ def test_a_damaged_index(program):
     file = Path(program.folder, "index.db")
     file.write_bytes(made)
     with contextlib.closing(sqlite3.connect(file)) as base:
-        index = "SELECT rootpage FROM sqlite_master WHERE name = 'sqlite_autoindex_stations_3_1'"
+        index = "SELECT rootpage FROM sqlite_master WHERE name = 'sqlite_autoindex_stations_4_1'"
         (root,) = base.execute(index).fetchone()
     # The page's last bytes are its first key and the number of its row.
     at = root * page - 3
@@ -452,8 +454,9 @@ def test_a_log_that_was_being_written(program):
         removed(file)
         ended = disturbed(program, ["lines", "city.db"], given, **{how: number})
         assert ended.status in (KILLED, 0), ended
-        assert doctor.findings_of_log(str(file)) == [], (how, number, ended.hit)
         log = doctor.bytes_of_log(str(file))
+        # Of a log that was just ended, whose head begins with a 0, the doctor can't know what the rest was.
+        assert log[:1] == b"\0" or doctor.findings_of_log(str(file)) == [], (how, number, ended.hit)
         page = int.from_bytes(log[8:12], "big")
         frames = [log[at + 8 : at + 16] for at in range(32, len(log) - 24, 24 + page)] if page else []
         unfinished += any(it[0] == 0 and it[1:] == log[17:24] for it in frames)
@@ -1188,11 +1191,13 @@ def test_what_the_program_said(program):
     (found,) = doctor.findings_of_said(str(file), "unsound history 12")
     assert f"a rule: number=12, moment=1699999200, {request} The rule of history: " in found.text, found
     # Of a file that is raised the place is told.
-    with_kept(file)
+    to_schema_3(file)
     changed(file, "UPDATE kept SET rowid = 100 * rowid")
     (found,) = doctor.findings_of_said(str(file), "unsound history 12")
     assert f"a rule: {request} The rule of history: " in found.text, found
     assert "there is no row" in doctor.findings_of_said(str(file), "unsound history 14")[0].text
+    (found,) = doctor.findings_of_said(str(file), "unsound stations_3 a1")
+    assert "station_id='a1', name='Harbour'" in found.text and "rows of counts" in found.text, found
     for said, other in ("row 3 key_reused", True), ("row 3 bad_field", False), ("row 3 unreadable", False):
         text = doctor.findings_of_said(str(file), said)[0].text
         assert ("another table? Then give it a NAME of its own" in text) == other, (said, text)
@@ -1386,7 +1391,9 @@ def test_names_in_the_way_of_a_raise(program):
     for change, refused in (
         ("CREATE TABLE more_names (x)", "foreign"),
         ("CREATE TABLE regions (x)", "foreign"),
-        ("CREATE VIEW stations_3 AS SELECT 1", "store failed"),
+        ("CREATE VIEW stations_4 AS SELECT 1", "store failed"),
+        ("CREATE TABLE stations_4 (x)", "foreign"),
+        ("CREATE TABLE stations_3 (x)", "foreign"),
         ("CREATE TABLE history (x)", "foreign"),
     ):
         with tempfile.TemporaryDirectory() as folder:
@@ -1396,7 +1403,7 @@ def test_names_in_the_way_of_a_raise(program):
                 base.execute(change)
                 base.commit()
             _, (said,) = told(file)
-            assert re.search(f"older 1: .* {change.split()[2]} has a name that schema 4 wants", said), (change, said)
+            assert re.search(f"older 1: .* {change.split()[2]} has a name of a later schema", said), (change, said)
             assert program.run("raise", file)[2].decode() == f"{refused}\n", change
 
 

@@ -644,7 +644,8 @@ def test_tables_of_the_formats(program):
         found[table] = re.sub(r" \([^)]*\)", "", columns).strip().split(", ")
     texts = set(
         (
-            "app name description form propulsion caller req_key command reply from_station to_station from_end to_end"
+            "app name description form propulsion by_type caller req_key command reply from_station to_station "
+            "from_end to_end"
         ).split()
     )
     doctor, wanted = loaded(TOP / "deploy/bikeshare-doctor"), {}
@@ -658,7 +659,7 @@ def test_tables_of_the_formats(program):
                     table == "system" and name not in ("one", "ttl")
                 )
                 assert kind == ("TEXT" if is_text else "INTEGER"), (table, name, kind)
-    assert len(found) == 17 and found == wanted, [
+    assert len(found) == 16 and found == wanted, [
         (it, found.get(it), wanted[it]) for it in wanted if found.get(it) != wanted[it]
     ]
 

@@ -666,7 +666,7 @@ def docked(pick, docks, types):
 NAMED = {
     "system": ("system_information", None, "SELECT system_id, name FROM system"),
     "type": ("vehicle_types", "vehicle_types", "SELECT type_id, name FROM types"),
-    "station": ("station_information", "stations", "SELECT station_id, name FROM stations_3"),
+    "station": ("station_information", "stations", "SELECT station_id, name FROM stations_4"),
     "plan": ("system_pricing_plans", "plans", "SELECT plan_id, name FROM plans"),
     "description": ("system_pricing_plans", "plans", "SELECT plan_id, description FROM plans"),
     "region": ("system_regions", "regions", "SELECT region_id, name FROM regions"),
@@ -702,7 +702,7 @@ SELECT stations.station_id, types.type_id,
   (SELECT count(*) FROM bikes LEFT JOIN docks ON docks.station_id = bikes.station_id AND docks.dock = bikes.dock
      WHERE bikes.station_id = stations.station_id AND bikes.type_id = types.type_id AND bikes.state = 0
       AND coalesce(docks.broken, 0) = 0)
-FROM stations_3 AS stations, types ORDER BY 1, 2
+FROM stations_4 AS stations, types ORDER BY 1, 2
 """
 
 
@@ -720,7 +720,7 @@ def counts_are_stored(program, db, seed):
         "SELECT bikes.station_id, count(*) FROM bikes JOIN docks USING (station_id, dock) "
         "WHERE docks.broken = 1 GROUP BY 1"
     ))
-    capacity = dict(db.execute("SELECT station_id, docks FROM stations_3"))
+    capacity = dict(db.execute("SELECT station_id, docks FROM stations_4"))
     assert list(found) == sorted(capacity), list(found)
     for station, shown in found.items():
         total = sum(it["count"] for it in available[station])
@@ -738,7 +738,7 @@ def test_a_made_city_is_counted_by_sql(program):
         accepted(program, made_city(seed))
         with copied(program.folder, "city.db") as db:
             counts_are_stored(program, db, seed)
-            region = dict(db.execute("SELECT station_id, region_id FROM stations_3 JOIN regions USING (region_id)"))
+            region = dict(db.execute("SELECT station_id, region_id FROM stations_4 JOIN regions USING (region_id)"))
             names = db.execute("SELECT region_id, regions.name FROM regions ORDER BY region_id").fetchall()
             stored, languages = stored_names(db)
         assert told_names(program) == stored and sum(len(it) for it in stored.values()) > len(stored) + 10, (

@@ -43,7 +43,7 @@ def load(program, table, name="spring", *words):
 def stations(program):
     """The stations in the file: identifier, name, latitude, longitude in microdegrees, docks."""
     return rows_of(
-        "SELECT station_id, name, lat, lon, docks FROM stations_3 ORDER BY station_id", program.folder, "city.db"
+        "SELECT station_id, name, lat, lon, docks FROM stations_4 ORDER BY station_id", program.folder, "city.db"
     )
 
 

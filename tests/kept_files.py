@@ -9,7 +9,7 @@ import json
 from pathlib import Path
 
 from adoption import checked
-from shared import BY_KEY, HERE, HISTORY, TOP, changed, held, is_keyed, is_sound
+from shared import BY_KEY, HERE, HISTORY, STATIONS_4, TOP, changed, held, is_keyed, is_sound
 
 FILES, TOUR = HERE / "files", TOP / "docs/tour.txt"
 
@@ -122,9 +122,10 @@ def test_regions_made_anew(program):
 def test_an_older_file_whose_rows_are_bad(program):
     """Its rows are not looked at, and neither are its other tables."""
     bad = ["UPDATE riders SET balance = balance + 1", "DROP TABLE counts", "CREATE TABLE more_names (a)"]
-    first = [*bad, "DELETE FROM stations", "CREATE TABLE regions (a)", "ALTER TABLE stations RENAME TO stations_3"]
+    first = [*bad, "DELETE FROM stations", "CREATE TABLE regions (a)", "ALTER TABLE stations RENAME TO stations_4"]
     second = [*bad, "DELETE FROM stations_2", "DROP TABLE regions", "ALTER TABLE stations_2 RENAME TO stations_3"]
     third = [*bad[:2], "DELETE FROM kept", "CREATE TABLE history (a)", "ALTER TABLE kept RENAME TO history"]
+    third += ["UPDATE counts SET available = -1", "CREATE TABLE stations_4 (a)", "DROP TABLE stations_3"]
     for name, version, changes in ("every", 1, first), ("regions", 2, second), ("names", 3, third):
         for change in changes:
             file = unpacked(program, name)
@@ -143,14 +144,8 @@ def test_an_older_file_that_calls_itself_newer(program):
         checked(program, file, "foreign")
 
 
-# What schema 4 has more than schema 3, 3 than 2, and 2 than 1: numbers and moments of the requests, further names, a
-# station's region and a table of regions.
-STATIONS = (
-    "CREATE TABLE stations_3 (station_id TEXT PRIMARY KEY NOT NULL, name TEXT NOT NULL, lat INTEGER NOT NULL, lon "
-    "INTEGER NOT NULL, docks INTEGER NOT NULL, installed INTEGER NOT NULL, renting INTEGER NOT NULL, \"returning\" "
-    "INTEGER NOT NULL, reported INTEGER NOT NULL, free INTEGER NOT NULL, broken INTEGER NOT NULL, region_id "
-    "TEXT) STRICT;"
-)
+# What schema 4 has more than schema 3, 3 than 2, and 2 than 1: bicycles by type in a station's row, numbers and moments
+# of the requests, further names, a station's region and a table of regions.
 MORE_NAMES = (
     "CREATE TABLE more_names (kind TEXT NOT NULL, id TEXT NOT NULL, language TEXT NOT NULL, name TEXT NOT NULL, "
     "PRIMARY KEY (kind, id, language)) STRICT;CREATE INDEX more_names_by_language ON more_names (language); "
@@ -161,11 +156,24 @@ REQUESTS = (
     f"{HISTORY}; {BY_KEY}; INSERT INTO history SELECT row_number() OVER (ORDER BY rowid), 0, * FROM kept; "
     "DROP TABLE kept; UPDATE meta SET version = 4"
 )
-MOVED = f"{STATIONS} INSERT INTO stations_3 SELECT"
+BY_TYPE = (
+    "coalesce((SELECT group_concat(type_id || ':' || available || ':' || disabled, ';') FROM (SELECT * FROM counts "
+    "WHERE counts.station_id = its.station_id AND available + disabled > 0 ORDER BY type_id)), '-')"
+)
+
+
+def moved(table, columns="its.*"):
+    """Moves the stations of an earlier schema into the table of today."""
+    return (
+        f"{STATIONS_4}; INSERT INTO stations_4 SELECT {columns}, {BY_TYPE} FROM {table} AS its; DROP TABLE {table}; "
+        "DROP TABLE counts;"
+    )
+
+
 RAISED = {
-    1: f"{REGIONS} {MOVED} *, NULL FROM stations; DROP TABLE stations; {MORE_NAMES} {REQUESTS}",
-    2: f"{MOVED} * FROM stations_2; DROP TABLE stations_2; {MORE_NAMES} {REQUESTS}",
-    3: REQUESTS,
+    1: f"{REGIONS} {moved('stations', 'its.*, NULL')} {MORE_NAMES} {REQUESTS}",
+    2: f"{moved('stations_2')} {MORE_NAMES} {REQUESTS}",
+    3: f"{moved('stations_3')} {REQUESTS}",
 }
 
 

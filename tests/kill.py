@@ -34,7 +34,7 @@ from pathlib import Path
 
 from shared import (
     DONE, READY, Server, at_once, copied, counted, environment, is_sound, is_whole, line_of, office, post, quickly,
-    removed, rows_of, told_with, with_kept,
+    removed, rows_of, to_schema_3, told_with,
 )
 
 KILLS = int(os.environ.get("BIKESHARE_KILLS", "10"))
@@ -138,7 +138,7 @@ REFUSED = {
 
 # The columns that hold moments: HTTP requests have the clock's.
 MOMENTS = {
-    "meta": ["now"], "stations_3": ["reported"], "rentals": ["start", "finish"], "entries": ["at"],
+    "meta": ["now"], "stations_4": ["reported"], "rentals": ["start", "finish"], "entries": ["at"],
     "history": ["moment"],
 }
 
@@ -349,7 +349,7 @@ def kills(program, kind):
         least = 0
         if pick.random() < 0.5:
             assert program.run("init", file.name) == READY
-            with_kept(file, "keyed")
+            to_schema_3(file, "keyed")
             assert program.run("raise", file.name) == (0, b"version 4\n", b"")
         for _ in range(min(pick.randint(1, 4), KILLS - number)):
             number += 1

@@ -133,10 +133,12 @@ def counted(program):
     stations = data_of(program, "station_status")["stations"]
     told = {station["station_id"]: tuple(station[name] for name in names) for station in stations}
     with copied(program.folder, "city.db") as base:
-        rows = base.execute("SELECT station_id, free, broken FROM stations_3").fetchall()
-        stored = {station: (0, 0, free, broken) for station, free, broken in rows}
-        for station, available, disabled in base.execute("SELECT station_id, available, disabled FROM counts"):
-            stored[station] = (available, disabled, *stored[station][2:])
+        rows = base.execute("SELECT station_id, by_type, free, broken FROM stations_4").fetchall()
+    stored = {}
+    for station, text, *docks in rows:
+        # There is one type, city.
+        numbers = [0, 0] if text == "-" else [int(it) for it in text.removeprefix("city:").split(":")]
+        stored[station] = (*numbers, *docks)
     assert told == stored, (told, stored)
     return told
 
@@ -201,13 +203,32 @@ def test_a_station_of_500_docks_in_use(program):
     assert found == {1: 499, **{dock: dock for dock in docks if dock not in odd}}, found
 
 
+def test_a_station_with_bicycles_of_32_types(program):
+    """Types of the longest names, which come from the last to the first, two bicycles of each: the text of the station
+    has them in their order, and the feed tells each."""
+    types = [f"{'x' * 33}{number:03}" for number in range(32, 0, -1)]
+    rows = [(SYSTEM, "ok"), (PLAN, "ok"), *((f"add-type\t{it}\tT\tbicycle\thuman\t0\tbasic", "ok") for it in types)]
+    rows += [("add-truck\t3\t60", "ok"), ("add-station\ta1\tHarbour\t0\t0\t500", "ok")]
+    for bike, kind in enumerate([*types, *types], 1):
+        rows += [(f"add-bike\t{bike}\t{kind}", "ok"), (f"open-order\t3\t*\ta1\t{kind}\t1", f"order\t{bike}")]
+        rows += [(f"load\t3\t{bike}\t{bike}", "ok"), (f"unload\t3\t{bike}\t{bike}\tto\t{501 - bike}", "ok")]
+    served(program, [(f"k{at}", *row) for at, row in enumerate(rows)])
+    for part, count, disabled in ([], 2, 0), (range(1, 33), 1, 1), (range(33, 65), 0, 2):
+        served(program, [(f"m{bike}", f"mark-bike\t{bike}\tdisabled", "ok") for bike in part])
+        wanted = ";".join(f"{it}:{count}:{disabled}" for it in sorted(types))
+        assert rows_of("SELECT by_type FROM stations_4", program.folder, "city.db") == [(wanted,)]
+        (station,) = data_of(program, "station_status")["stations"]
+        told = [{"vehicle_type_id": it, "count": count} for it in sorted(types)]
+        assert (station["vehicle_types_available"], station["num_vehicles_disabled"]) == (told, 32 * disabled)
+
+
 def test_5000_stations_in_four_languages(program):
     """As many names as stations may have, put into the file from outside: it is sound, and the feed tells each in its
     place."""
     served(program, [("k1", SYSTEM, "ok")])
     stations, languages = [f"s{number}" for number in range(1, 5001)], ["de", "fr", "it"]
     with contextlib.closing(sqlite3.connect(Path(program.folder, "city.db"))) as base, base:
-        place = "INSERT INTO stations_3 VALUES (?, ?, 0, 0, 500, 1, 1, 1, 0, 500, 0, NULL)"
+        place = "INSERT INTO stations_4 VALUES (?, ?, 0, 0, 500, 1, 1, 1, 0, 500, 0, NULL, '-')"
         base.executemany(place, [(station, f"Station {station}") for station in stations])
         names = [
             ("station", station, language, f"{station} in {language}") for station in stations for language in languages

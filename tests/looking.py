@@ -257,7 +257,8 @@ NOTES = "CREATE TABLE notes (note TEXT); "
 TAKEN = [
     "CREATE VIEW meta AS SELECT 1 AS one", "CREATE VIEW history AS SELECT 1 AS one",
     "CREATE VIEW History AS SELECT 1 AS one", "CREATE VIEW history_by_key AS SELECT 1 AS one",
-    "CREATE TABLE bikes_by_dock (note TEXT)", "CREATE TABLE more_names_by_thing (note TEXT)",
+    "CREATE VIEW stations_4 AS SELECT 1 AS one", "CREATE TABLE bikes_by_dock (note TEXT)",
+    "CREATE TABLE more_names_by_thing (note TEXT)",
     *(f"{NOTES}CREATE INDEX {it} ON notes (note)" for it in ("meta", "bikes", "bikes_by_dock", "history_by_key")),
     *(
         f"{NOTES}CREATE TRIGGER {it} AFTER INSERT ON notes BEGIN SELECT 1; END"
@@ -268,6 +269,7 @@ TAKEN = [
 FREE = [
     "CREATE VIEW stations AS SELECT 1 AS one", f"{NOTES}CREATE INDEX notes_by_note ON notes (note)",
     "CREATE VIEW kept AS SELECT 1 AS one", f"{NOTES}CREATE INDEX kept_by_key ON notes (note)",
+    "CREATE VIEW counts AS SELECT 1 AS one", f"{NOTES}CREATE INDEX stations_3 ON notes (note)",
     f"{NOTES}CREATE TRIGGER stations_2 AFTER INSERT ON notes BEGIN SELECT 1; END",
 ]
 

@@ -4,6 +4,7 @@ It keeps plain lists and dictionaries, counts everything anew, and shares no tho
 """
 
 import formats
+from shared import by_type
 
 DEPOT = ("depot",)
 
@@ -82,6 +83,15 @@ class Operator:
     def told_places(self):
         """What feeds tell of each station's place, with the six decimals that they print."""
         return {station: it["at"] for station, it in self.stations.items()}
+
+    def told_types(self):
+        """What a file tells of each station's bicycles by type."""
+        told = {station: {} for station in self.stations}
+        for bike in self.bikes.values():
+            if bike["place"][0] == "dock":
+                counts = told[bike["place"][1]].setdefault(bike["type"], [0, 0])
+                counts[bike["state"] != "fit" or bike["place"][1:] in self.broken] += 1
+        return {station: by_type((it, *counts) for it, counts in types.items()) for station, types in told.items()}
 
     def languages(self):
         """The system's own, and then each other once by their bytes."""

@@ -19,7 +19,7 @@ REGION = "add-region\tnorth\tNorth"
 # Each kind with the identifier of a thing, its own name, and the feed, the table and the column in which this stands.
 THINGS = {
     "system": ("metro", "Metro Bikes", "system_information", "system", "name"),
-    "station": ("a1", "Harbour", "station_information", "stations_3", "name"),
+    "station": ("a1", "Harbour", "station_information", "stations_4", "name"),
     "type": ("city", "City", "vehicle_types", "types", "name"),
     "plan": ("basic", "Basic", "system_pricing_plans", "plans", "name"),
     "description": ("basic", "One euro and then a quarter", "system_pricing_plans", "plans", "description"),

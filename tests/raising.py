@@ -39,8 +39,9 @@ import tampered
 import traffic
 import words
 from shared import (
-    FEEDS, FOREIGN, HEAD, LAYOUTS, READY, SOUND, STORE_FAILED, TOP, WRITE_FAILED, Program, Server, at_once, changed,
-    copied, is_keyed, is_whole, put, quickly, removed, rows_of, taken, told_with, with_kept,
+    COUNTS, FEEDS, FOREIGN, HEAD, LAYOUTS, READY, SOUND, STATIONS_3, STORE_FAILED, TOP, WRITE_FAILED, Program, Server,
+    at_once, by_type, changed, copied, is_keyed, is_whole, put, quickly, removed, rows_of, taken, to_schema_3,
+    told_with,
 )
 
 SEED = int(os.environ.get("BIKESHARE_SEED", "1"))
@@ -55,9 +56,10 @@ MOST_DOCKS_BEFORE, MOST_DOCKS = 200, 500
 
 # The table of stations of each earlier schema, the tables that it has and the newest hasn't, and the other way round.
 OLD = {1: "stations", 2: "stations_2", 3: "stations_3"}
-GONE = {1: ["stations", "kept"], 2: ["stations_2", "kept"], 3: ["kept"]}
+GONE = {version: [table, "counts", "kept"] for version, table in OLD.items()}
 NEW = {
-    1: ["regions", "stations_3", "more_names", "history"], 2: ["stations_3", "more_names", "history"], 3: ["history"]
+    1: ["regions", "stations_4", "more_names", "history"], 2: ["stations_4", "more_names", "history"],
+    3: ["stations_4", "history"],
 }
 KEPT = [("tour", 1), ("city", 1), ("every", 1), ("regions", 2), ("names", 3)]
 
@@ -108,12 +110,21 @@ def requests(rows):
     return sorted(((number, 0, *row) for number, row in enumerate(rows, 1)), key=repr)
 
 
+def by_type_of(types):
+    """The text of a station's types, read as bytes."""
+    return by_type((kind.decode(), *numbers) for kind, *numbers in types).encode()
+
+
 def raised(program, before, version):
-    """What a file holds once it is raised: the stations by another name, in no region where there were none, no further
-    names where there were none, and what was kept as a history, in its order and at moment 0."""
+    """What a file holds once it is raised: the stations by another name, in no region where there were none, with their
+    bicycles by type, no further names where there were none, and what was kept as a history, in its order and at moment
+    0."""
     rows = {name: it for name, it in before.rows.items() if name not in GONE[version]}
     rows |= {name: [] for name in NEW[version]}
-    rows["stations_3"] = sorted((it + (None,) * (version == 1) for it in before.rows[OLD[version]]), key=repr)
+    types = {it[0]: [row[1:] for row in before.rows["counts"] if row[0] == it[0]] for it in before.rows[OLD[version]]}
+    no_region = (None,) * (version == 1)
+    stations = [(*it, *no_region, by_type_of(types[it[0]])) for it in before.rows[OLD[version]]]
+    rows["stations_4"] = sorted(stations, key=repr)
     rows["history"] = requests(before.rows["kept"])
     rows["meta"] = [it[:2] + (NEWEST,) + it[3:] for it in before.rows["meta"]]
     schema = [it for it in before.schema if it[2] not in GONE[version]] + [
@@ -147,30 +158,28 @@ def stays(program, file, *wanted, whole=True):
 
 
 # The table of stations of each schema.
-STATIONS = {2: kept_files.STATIONS.replace("stations_3", "stations_2")}
+STATIONS = {2: STATIONS_3.replace("stations_3", "stations_2"), 3: STATIONS_3}
 STATIONS[1] = STATIONS[2].replace("stations_2", "stations").replace(", region_id TEXT)", ")")
-LOWERED = {1: f"{STATIONS[1]} DROP TABLE regions;", 2: STATIONS[2]}
-COLUMNS = {
-    1: [it for it in audit.BOUNDS["stations_3"] if it != "region_id"], 2: list(audit.BOUNDS["stations_3"]),
-    3: list(audit.BOUNDS["stations_3"]),
-}
+LOWERED = {1: f"{STATIONS[1]}; DROP TABLE regions", 2: STATIONS[2]}
+COLUMNS = {version: list(audit.BOUNDS["stations_4"])[: -2 if version == 1 else -1] for version in OLD}
 KEPT_COLUMNS = list(audit.BOUNDS["history"])[2:]
+COUNTS_COLUMNS = ["station_id", "type_id", "available", "disabled"]
 
 
 def lowered(file, version, layout="unkeyed"):
     """Takes from a file of the newest schema what came after an earlier one."""
-    with_kept(file, layout)
+    to_schema_3(file, layout)
     if version == 3:
         return
     columns = ", ".join(f'"{it}"' for it in COLUMNS[version])
     moved = f"INSERT INTO {OLD[version]} SELECT {columns} FROM stations_3; DROP TABLE stations_3; DROP TABLE more_names"
-    changed(file, f"{LOWERED[version]} {moved}; UPDATE meta SET version = {version}")
+    changed(file, f"{LOWERED[version]}; {moved}; UPDATE meta SET version = {version}")
 
 
 def declared(name, columns):
     """The statement that makes a table of section 10 of docs/FORMATS.md with these columns, of which the first are its
     key."""
-    table = "stations_3" if name in OLD.values() else name
+    table = "stations_4" if name in OLD.values() else name
     keys = audit.TABLES[table]
     optional = audit.MAY_BE_NULL.get(table, ())
 
@@ -235,12 +244,13 @@ def of_sql(folder, version, has_region=False, layout="keyed"):
         rows["regions"] = [("north", "North")] if has_region else []
     if version > 2:
         rows["more_names"] = []
-    columns = {**audit.BOUNDS, OLD[version]: COLUMNS[version], "kept": KEPT_COLUMNS}
+    columns = {**audit.BOUNDS, OLD[version]: COLUMNS[version], "kept": KEPT_COLUMNS, "counts": COUNTS_COLUMNS}
     file = Path(folder, f"sql{version}{'_region' * has_region}.db")
     with contextlib.closing(sqlite3.connect(file, isolation_level=None)) as base:
         base.execute("PRAGMA synchronous = OFF")
         for name, given in rows.items():
-            base.executescript(LAYOUTS[layout] if name == "kept" else declared(name, list(columns[name])))
+            made = {"kept": LAYOUTS[layout], "counts": COUNTS}
+            base.executescript(made.get(name) or declared(name, list(columns[name])))
             base.executemany(f"INSERT INTO {name} VALUES ({', '.join('?' * len(columns[name]))})", given)
         for index in INDEXES:
             base.execute(index)
@@ -297,7 +307,8 @@ OF_KEPT = [
     (AGAIN, 14), ("UPDATE kept SET req_key = 'f2' WHERE req_key = 'f1'", 2), (f"{NO} = 'f9'", 9),
     ("UPDATE kept SET req_key = 'f9' WHERE req_key = 'f3'; UPDATE kept SET req_key = 'f6' WHERE req_key = 'f1'", 6),
     (f"{AGAIN}; {NO} = 'f9'", 9), (f"{AGAIN}; UPDATE kept SET command = 'x' WHERE rowid = 14", 14),
-    (f"{AGAIN}; DELETE FROM counts", 14), ("UPDATE kept SET caller = 'crew:3', req_key = 'k'", 2),
+    (f"{AGAIN}; INSERT INTO counts VALUES ('zz', 'city', 1, 0)", 14),
+    ("UPDATE kept SET caller = 'crew:3', req_key = 'k'", 2),
     ("INSERT INTO kept SELECT 'crew:3', req_key, command, reply FROM kept", None),
     ("INSERT INTO kept SELECT caller, upper(req_key), command, reply FROM kept", None), ("DELETE FROM kept", None),
     # The rowids tell the order alone.
@@ -327,6 +338,76 @@ def test_rows_of_kept(program):
         file = of_sql(program.folder, version, layout="unkeyed")
         changed(file, f"{AGAIN}; UPDATE riders SET balance = balance + 1")
         stays(program, file, unsound("riders", b"17"))
+        removed(file)
+
+
+# Rows of `counts` that tell nothing more than what the file of SQL has: of 0 and 0, and of stations that aren't there.
+FEW, MANY = -(2**63), 2**63 - 1
+NO_COUNTS = [
+    ("a1", "none", 0, 0), ("a1", "-", 0, 0), ("a1", "z" * 36, 0, 0), ("zz", "city", 3, 1), ("a", "city", 1, 0),
+    ("A1", "", -1, 2**32), ("", "city", 0, 1), ("é", "City", FEW, MANY), ("a1 ", "city", 1, 0),
+]
+# .. and rows by which its types aren't those of its bicycles, or that spell no counts.
+WRONG_COUNTS = [
+    ("a1", "cargo", 0, 1), ("a1", "a", 1, 0), ("a1", "zz", 2**32 - 1, 2**32 - 1), ("a1", "zz", -1, 0),
+    ("a1", "zz", 0, -1), ("a1", "zz", 2**32, 0), ("a1", "zz", 0, 2**32), ("a1", "zz", FEW, 0), ("a1", "zz", 0, MANY),
+    *(("a1", kind, 0, 0) for kind in ("", "City", "a" * 37, "c:1", "c;d", "é", "city ", " ", "?", "*")),
+]
+# Changes of the one row for a station that is there, by which its types aren't those of its bicycles.
+OF_COUNTS = [
+    "DELETE FROM counts", "UPDATE counts SET available = 0", "UPDATE counts SET available = 2",
+    "UPDATE counts SET disabled = 1", "UPDATE counts SET available = 0, disabled = 1",
+    "UPDATE counts SET available = -1", "UPDATE counts SET available = 1 + 4294967296",
+    "UPDATE counts SET disabled = -4294967296", "UPDATE counts SET type_id = 'cargo'",
+    "UPDATE counts SET type_id = 'City'", "UPDATE counts SET station_id = 'a0'",
+    "UPDATE counts SET type_id = CAST(x'ff' AS TEXT)", "UPDATE bikes SET type_id = 'cargo'",
+    "UPDATE bikes SET state = 1",
+]
+
+
+def test_rows_of_counts(program):
+    """They become the text of their station: those of 0 and 0, and of no station, are left out. Where that text isn't
+    of the station's bicycles, the station is bad, and nothing is told of `counts`."""
+    added = "INSERT INTO counts VALUES ({})"
+    for version, old in OLD.items():
+        for row in NO_COUNTS:
+            file = of_sql(program.folder, version)
+            changed(file, added.format(", ".join(map(repr, row))))
+            with told_with(f"version {version}, {row}"):
+                is_raised(program, file, version)
+                assert rows_of("SELECT by_type FROM stations_4", file) == [("city:1:0",)]
+            removed(file)
+        bad = unsound(old, b"a1")
+        changes = [*OF_COUNTS, *(added.format(", ".join(map(repr, it))) for it in WRONG_COUNTS)]
+        for change in [*changes, f"{OF_COUNTS[0]}; UPDATE riders SET balance = 0"]:
+            file = of_sql(program.folder, version)
+            changed(file, change)
+            with told_with(f"version {version}, {change}"):
+                stays(program, file, bad)
+            removed(file)
+        file = of_sql(program.folder, version)
+        changed(file, f"{OF_COUNTS[0]}; UPDATE meta SET cash = 0")
+        stays(program, file, unsound("meta", b"1"))
+        removed(file)
+
+
+def test_counts_of_many_types(program):
+    """Rows that lie in another order than that of their types: the text has them in the order of their bytes."""
+    types = ["z", "9", "city", "_", "-", "a_b", "a-b", "ab", "a"]
+    for version, old in OLD.items():
+        file = of_sql(program.folder, version)
+        with contextlib.closing(sqlite3.connect(file)) as base, base:
+            base.execute(f"UPDATE {old} SET docks = 20, free = {20 - 1 - len(types) - 1}")
+            for at, kind in enumerate(types):
+                row = "SELECT ?, name, form, propulsion, 0, plan_id FROM types LIMIT 1"
+                base.execute(f"INSERT OR IGNORE INTO types {row}", [kind])
+                bike = (100 + at, kind, at % 2, "a1", 10 + at)
+                base.execute("INSERT INTO bikes VALUES (?, ?, ?, ?, ?, NULL, NULL, NULL)", bike)
+                base.execute("INSERT OR IGNORE INTO counts VALUES ('a1', ?, ?, ?)", (kind, 1 - at % 2, at % 2))
+            base.execute("UPDATE counts SET available = 2 WHERE type_id = 'city'")
+        is_raised(program, file, version)
+        wanted = "-:1:0;9:0:1;_:0:1;a:1:0;a-b:1:0;a_b:0:1;ab:0:1;city:2:0;z:1:0"
+        assert rows_of("SELECT by_type FROM stations_4", file) == [(wanted,)]
         removed(file)
 
 
@@ -447,12 +528,14 @@ def test_files_of_the_newest_schema(program):
         ("", DONE), ("UPDATE riders SET balance = balance + 1 WHERE rider = 18", unsound("riders", b"18")),
         (
             "UPDATE riders SET balance = balance - 1 WHERE rider = 18; "
-            "UPDATE stations_3 SET region_id = 'no' WHERE station_id = 'a1'",
-            unsound("stations_3", b"a1"),
+            "UPDATE stations_4 SET region_id = 'no' WHERE station_id = 'a1'",
+            unsound("stations_4", b"a1"),
         ),
-        ("UPDATE stations_3 SET region_id = NULL WHERE station_id = 'a1'", DONE),
+        ("UPDATE stations_4 SET region_id = NULL WHERE station_id = 'a1'", DONE),
         (adoption.AGAIN, unsound("history", b"38")), ("DELETE FROM history WHERE number = 38", DONE),
-        ("DROP TABLE counts", FOREIGN), ("DELETE FROM meta", FOREIGN),
+        ("UPDATE stations_4 SET by_type = 'city:1:0' WHERE station_id = 'a1'", unsound("stations_4", b"a1")),
+        ("UPDATE stations_4 SET by_type = '-' WHERE station_id = 'a1'", DONE),
+        ("DROP TABLE docks", FOREIGN), ("DELETE FROM meta", FOREIGN),
     ):
         changed(file, change)
         before = tampered.parts(file)
@@ -556,7 +639,7 @@ def test_what_others_have_stays(program):
         "CREATE INDEX notes_by_size ON notes (size)",
         "CREATE VIEW seen AS SELECT bike FROM bikes", "CREATE INDEX more_bikes ON bikes (type_id)",
         "CREATE TABLE pointing (note TEXT REFERENCES notes (note))",
-        "CREATE TABLE stations_4 (a)", "CREATE TABLE names (a)", "PRAGMA user_version = 7",
+        "CREATE TABLE stations_5 (a)", "CREATE TABLE names (a)", "PRAGMA user_version = 7",
         "PRAGMA application_id = 77",
     ]
     for version in OLD:
@@ -573,7 +656,8 @@ def test_what_others_have_of_the_old_tables(program):
     """An index of such a table goes with it, and a view of it stays as a text."""
     for version, layout in itertools.product(OLD, LAYOUTS):
         for table in GONE[version]:
-            for column in ["command", "caller, req_key"] if table == "kept" else ["name"]:
+            columns = {"kept": ["command", "caller, req_key"], "counts": ["type_id", "station_id, type_id"]}
+            for column in columns.get(table, ["name"]):
                 file = of_sql(program.folder, version, layout=layout)
                 indexes = f"CREATE INDEX more ON {table} ({column}); CREATE UNIQUE INDEX one ON {table} ({column})"
                 changed(file, f"{indexes}; CREATE VIEW seen AS SELECT * FROM {table}")
@@ -586,7 +670,7 @@ def test_what_others_have_of_the_old_tables(program):
 def test_a_unique_index_that_somebody_added(program):
     """On a table that stays: a good request could fail on it afterwards."""
     for version in OLD:
-        for where in "riders (balance)", "bikes (station_id, dock)", "counts (type_id)", "meta (app)":
+        for where in "riders (balance)", "bikes (station_id, dock)", "docks (dock)", "meta (app)":
             file = of_sql(program.folder, version)
             changed(file, f"CREATE UNIQUE INDEX one ON {where}")
             with told_with(f"version {version}, {where}"):
@@ -618,14 +702,17 @@ def test_names_that_others_have_taken(program):
 
 
 def test_another_table_of_a_name_between(program):
-    """The name that the table of stations had in schema 2 is none of schema 1. Such a file is another program's, or the
-    table stays."""
-    file = of_sql(program.folder, 1)
-    changed(file, "CREATE TABLE stations_2 (a); INSERT INTO stations_2 VALUES (1)")
-    before = held(file)
-    ended = program.run("raise", file.name)
-    assert ended in (DONE, FOREIGN), ended
-    assert held(file) == (before if ended == FOREIGN else raised(program, before, 1))
+    """A name that the table of stations had in schema 2 or 3 is none of those before. Such a file is another program's,
+    or the table stays."""
+    for version, name in (1, "stations_2"), (1, "stations_3"), (2, "stations_3"), (2, "stations"), (3, "stations_2"):
+        file = of_sql(program.folder, version)
+        changed(file, f"CREATE TABLE {name} (a); INSERT INTO {name} VALUES (1)")
+        before = held(file)
+        ended = program.run("raise", file.name)
+        with told_with(f"version {version}, {name}"):
+            assert ended in (DONE, FOREIGN), ended
+            assert held(file) == (before if ended == FOREIGN else raised(program, before, version))
+        removed(file)
 
 
 def test_files_that_are_no_database(program):

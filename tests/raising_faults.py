@@ -6,20 +6,23 @@ raising.py tells by which variables more is tried than a sample.
 
 import collections
 import inspect
+import itertools
 import random
 import sqlite3
 import time
 from pathlib import Path
 
 import audit
+import formats
 import kept_files
 import kill
 import memory
 import stops
 import tampered
 from raising import (
-    COLUMNS, DONE, KEPT, KEPT_COLUMNS, MOST_DOCKS, MOST_DOCKS_BEFORE, NEW, NEWEST, OLD, SECONDS, SEED, UNSETTLED,
-    WITHOUT_MEMORY, held, is_raised, lowered, newer, of_sql, older, quoted, raised, stays, unsound, where_built,
+    COLUMNS, COUNTS_COLUMNS, DONE, KEPT, KEPT_COLUMNS, MOST_DOCKS, MOST_DOCKS_BEFORE, NEW, NEWEST, OLD, SECONDS, SEED,
+    UNSETTLED, WITHOUT_MEMORY, by_type_of, held, is_raised, lowered, newer, of_sql, older, quoted, raised, stays,
+    unsound, where_built,
 )
 from shared import (
     FOREIGN, KILLED, SOUND, STORE_FAILED, changed, disturbed, nothing_is, put, quickly, removed, taken, tell, told_with,
@@ -31,15 +34,31 @@ from shared import (
 
 
 def read(file, version):
-    """The tables of an earlier schema by the names of today, texts as bytes. What is kept is numbered by its rowids."""
-    names = {it: it for it in audit.TABLES if it not in NEW[version]}
-    tables = audit.read(file, {**names, "stations_3": OLD[version], "history": "kept ORDER BY rowid"})
+    """The tables of an earlier schema by the names of today, and `counts`, texts as bytes. What is kept is numbered by
+    its rowids."""
+    names = {it: it for it in audit.TABLES if it not in NEW[version]} | {"counts": "counts"}
+    tables = audit.read(file, {**names, "stations_4": OLD[version], "history": "kept ORDER BY rowid"})
     return tables | {"history": [{"number": at, "moment": 0, **it} for at, it in enumerate(tables["history"], 1)]}
+
+
+def spells_counts(row):
+    numbers = row["available"], row["disabled"]
+    is_type = isinstance(row["type_id"], bytes) and formats.is_ident(row["type_id"])
+    return is_type and all(isinstance(it, int) and 0 <= it < 2**32 for it in numbers)
+
+
+def station_of_today(row, counts):
+    """A station's row with what came later: no region, and the text of its rows of `counts`, or one that is none where
+    a row spells no counts."""
+    rows = [it for it in counts if it["station_id"] == row["station_id"]]
+    types = [(it["type_id"], it["available"], it["disabled"]) for it in rows]
+    text = by_type_of(types) if all(map(spells_counts, rows)) else b"?"
+    return {**row, "region_id": row.get("region_id"), "by_type": text}
 
 
 def verdict(file, version):
     """What `raise` has to end with: the first bad row by the rules of today, or a station of too many docks where that
-    comes before it. One of what is kept is told as of `history`."""
+    comes before it. One of what is kept is told as of `history`, and one of `counts` by its station."""
     tables = read(file, version)
     row = next((it for it in tables["meta"] if it["one"] == 1), None)
     if row is None or row["app"] != b"bikeshare" or not (row["version"] == version or row["version"] > NEWEST):
@@ -47,15 +66,15 @@ def verdict(file, version):
     if row["version"] > NEWEST:
         return newer(row["version"])
     row["version"] = NEWEST
-    stations = [it if "region_id" in it else {**it, "region_id": None} for it in tables["stations_3"]]
-    whole = {name: tables.get(name, []) for name in audit.TABLES} | {"stations_3": stations}
+    stations = [station_of_today(it, tables["counts"]) for it in tables["stations_4"]]
+    whole = {name: tables.get(name, []) for name in audit.TABLES} | {"stations_4": stations}
     most = MOST_DOCKS_BEFORE if version < 3 else MOST_DOCKS
-    many = [("stations_3", [it["station_id"]]) for it in stations if it["docks"] > most]
+    many = [("stations_4", [it["station_id"]]) for it in stations if it["docks"] > most]
     bad = [it for it in (*many, audit.Audit(whole).first_bad()) if it]
     if not bad:
         return DONE
     table, key = min(bad, key=lambda it: (list(audit.TABLES).index(it[0]), [audit.rank(value) for value in it[1]]))
-    return unsound(OLD[version] if table == "stations_3" else table, b"/".join(audit.shown(it) for it in key))
+    return unsound(OLD[version] if table == "stations_4" else table, b"/".join(audit.shown(it) for it in key))
 
 
 def test_a_station_of_more_docks(program):
@@ -71,7 +90,8 @@ def test_a_station_of_more_docks(program):
         for change, wanted in (
             ("", None),
             (more, unsound(old, most)),
-            (f"{more}; UPDATE counts SET available = available + 1", unsound(old, most)),
+            (f"{more}; UPDATE counts SET available = available + 1", None),
+            (f"{more}; DELETE FROM counts", None),
             (f"{more}; UPDATE meta SET cash = cash + 1", unsound("meta", b"1")),
             (
                 f"{more}; {new.format(quoted('-', chr(39)))}; "
@@ -110,7 +130,7 @@ def old_city(program, version):
 def changes_of(version, kind, tables):
     """The changes of tampered.py, as statements of SQL that name the tables of an earlier schema: a number of the
     history is a rowid there, and there are no moments."""
-    for name, change in getattr(tampered, kind)(tables):
+    for name, change in getattr(tampered, kind)({it: rows for it, rows in tables.items() if it != "counts"}):
         sql, values, *more = change.args
         if " history " in f"{sql} ":
             if '"moment"' in sql:
@@ -120,7 +140,7 @@ def changes_of(version, kind, tables):
                 sql, values = sql.replace("kept VALUES (?, ", f"kept (rowid, {', '.join(KEPT_COLUMNS)}) VALUES ("), [
                     values[0], *values[2:]
                 ]
-        yield name, tampered.by_sql(sql.replace("stations_3", OLD[version]), values, *more)
+        yield name, tampered.by_sql(sql.replace("stations_4", OLD[version]), values, *more)
 
 
 def judged(program, city, version, changes, salt, wanted=None):
@@ -167,6 +187,36 @@ def test_rows_added_and_removed(program):
     each_change(program, "rows_added_and_removed")
 
 
+def changes_of_counts(rows):
+    """Each column of some rows of `counts` at other values, and rows that are added or go."""
+    setting = 'UPDATE OR IGNORE counts SET "{}" = ? WHERE station_id = ? AND type_id = ?'
+    for row in rows[0], rows[len(rows) // 2], rows[-1]:
+        key = [row[it].decode() for it in COUNTS_COLUMNS[:2]]
+        for column in COUNTS_COLUMNS:
+            others = tampered.WORDS if column in COUNTS_COLUMNS[:2] else tampered.NUMBERS
+            for value in others:
+                yield setting.format(column), [value, *key]
+        yield "DELETE FROM counts WHERE station_id = ? AND type_id = ?", key
+    kinds, numbers = ["city", "cargo", "a", "zz", "City", ""], [0, 1, 2, -1, 2**32 - 1, 2**32]
+    for row in itertools.product(["a0", "a1", "b2", "zz", ""], kinds, numbers, numbers[:4]):
+        yield "INSERT OR REPLACE INTO counts VALUES (?, ?, ?, ?)", row
+
+
+def test_rows_of_counts(program):
+    """Rows of `counts` that were changed, added or removed. All of it in one sample of its own."""
+    for version in OLD:
+        city, tables = old_city(program, version)
+        changes = list(changes_of_counts(tables["counts"]))
+        assert len(changes) > 900, len(changes)
+        changes = [(f"{sql} {[*values]!r:.200}", tampered.by_sql(sql, values)) for sql, values in changes]
+        judged(program, city, version, changes, "counts")
+        unlike = [(it, value) for it in COUNTS_COLUMNS for value in ("NULL", "x'6131'")]
+        unlike += [(it, value) for it in COUNTS_COLUMNS[2:] for value in ("1.5", "'1x'")]
+        unlike = [f"UPDATE counts SET {it} = {value} WHERE rowid = 1" for it, value in unlike]
+        changes = [(sql, tampered.by_sql(sql, (), True)) for sql in unlike]
+        judged(program, city, version, changes, "unlike counts", lambda file: [STORE_FAILED])
+
+
 def test_kept_requests_are_judged_by_todays_texts(program):
     """A command that came later, or a dock beyond 200, is as good a text in a file of an earlier schema."""
     good = [
@@ -200,7 +250,7 @@ def test_tables_and_columns(program):
         changes = []
         for name, rows in tables.items():
             columns = KEPT_COLUMNS if name == "history" else list(rows[0])
-            name = {"stations_3": OLD[version], "history": "kept"}.get(name, name)
+            name = {"stations_4": OLD[version], "history": "kept"}.get(name, name)
             changes += [
                 f"DROP TABLE {name}",
                 f"ALTER TABLE {name} RENAME TO {name}_old",
@@ -222,7 +272,8 @@ def as_sqlite_reads(file, version):
     try:
         held(file)
         found = read(file, version)
-        columns = {name: COLUMNS[version] if name == "stations_3" else list(audit.BOUNDS[name]) for name in found}
+        others = {"stations_4": COLUMNS[version], "counts": COUNTS_COLUMNS}
+        columns = {name: others.get(name) or list(audit.BOUNDS[name]) for name in found}
         # A byte of a table's text may have changed the name of a column.
         same = all(list(rows[0]) == columns[name] for name, rows in found.items() if rows)
         return [STORE_FAILED, FOREIGN, *([verdict(file, version)] if same else [])]

@@ -526,6 +526,7 @@ def held(*where, whole=True):
     with copied(*where) as base:
         if whole:
             is_whole(base)
+        base.text_factory = lambda text: text.decode(errors="backslashreplace")
         lines = list(base.iterdump())
     return lines if len(lines) > 2 else []
 
@@ -544,7 +545,19 @@ HISTORY = (
     "req_key TEXT NOT NULL, command TEXT NOT NULL, reply TEXT NOT NULL) STRICT"
 )
 BY_KEY = "CREATE INDEX history_by_key ON history (caller, req_key)"
-# How earlier programs made `kept`, which schema 3 and those before it have in its place: first with a key.
+# How earlier programs made what schema 3 has in place of `stations_4`: the stations, and their bicycles by type.
+STATIONS_3 = (
+    "CREATE TABLE stations_3 (station_id TEXT PRIMARY KEY NOT NULL, name TEXT NOT NULL, lat INTEGER NOT NULL, "
+    "lon INTEGER NOT NULL, docks INTEGER NOT NULL, installed INTEGER NOT NULL, renting INTEGER NOT NULL, "
+    '"returning" INTEGER NOT NULL, reported INTEGER NOT NULL, free INTEGER NOT NULL, broken INTEGER NOT NULL, '
+    "region_id TEXT) STRICT"
+)
+STATIONS_4 = STATIONS_3.replace("stations_3", "stations_4").replace(") STRICT", ", by_type TEXT NOT NULL) STRICT")
+COUNTS = (
+    "CREATE TABLE counts (station_id TEXT NOT NULL, type_id TEXT NOT NULL, available INTEGER NOT NULL, "
+    "disabled INTEGER NOT NULL, PRIMARY KEY (station_id, type_id)) STRICT"
+)
+# .. and `kept`, which it has in place of `history`: first with a key.
 KEYED = (
     "CREATE TABLE kept (caller TEXT NOT NULL, req_key TEXT NOT NULL, command TEXT NOT NULL, reply TEXT NOT NULL, "
     "PRIMARY KEY (caller, req_key)) STRICT"
@@ -565,14 +578,30 @@ def laid_out(file, made):
     )
 
 
-def with_kept(file, layout="unkeyed"):
-    """Makes a file of the newest schema one of schema 3: `kept` in this layout has the requests of `history`, in their
-    order, and neither their numbers nor their moments."""
+def by_type(types):
+    """The text of a station's types, each with its bicycles that can be rented and those that can't."""
+    told = (f"{kind}:{fit}:{others}" for kind, fit, others in sorted(types) if (fit, others) != (0, 0))
+    return ";".join(told) or "-"
+
+
+def to_schema_3(file, layout="unkeyed"):
+    """Makes a file of the newest schema one of schema 3: `counts` has the types of each station, and of every second
+    station those of 0 and 0 too; `kept` in this layout has the requests of `history`, in their order, and neither their
+    numbers nor their moments."""
     changed(
         file,
-        f"{LAYOUTS[layout]}; INSERT INTO kept SELECT caller, req_key, command, reply FROM history ORDER BY number; "
-        "DROP TABLE history; UPDATE meta SET version = 3",
+        f"{STATIONS_3}; {COUNTS}; {LAYOUTS[layout]}; "
+        "INSERT INTO kept SELECT caller, req_key, command, reply FROM history ORDER BY number; DROP TABLE history; "
+        "UPDATE meta SET version = 3",
     )
+    with contextlib.closing(sqlite3.connect(file)) as base, base:
+        rows = base.execute("SELECT * FROM stations_4").fetchall()
+        base.executemany(f"INSERT INTO stations_3 VALUES ({', '.join('?' * 12)})", [it[:-1] for it in rows])
+        types = [(station, *it.split(":")) for station, *_, text in rows if text != "-" for it in text.split(";")]
+        base.executemany("INSERT INTO counts VALUES (?, ?, ?, ?)", types)
+        others = "SELECT station_id, type_id, 0, 0 FROM stations_3, types WHERE stations_3.rowid % 2"
+        base.execute(f"INSERT OR IGNORE INTO counts {others}")
+    changed(file, "DROP TABLE stations_4")
 
 
 def is_keyed(*where):

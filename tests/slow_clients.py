@@ -489,10 +489,10 @@ def test_a_long_head_that_comes_byte_by_byte(program):
     city(program)
     costs = {SHORT_HEAD: [], LONG_HEAD: []}
     with Server(program) as server:
-        for length in 2 * list(costs):
+        for length in 3 * list(costs):
             costs[length].append(cost_of_bytes(server, length))
     short, long = (min(it) / BYTES / SENDERS for it in costs.values())
-    assert long < 2 * short, f"a byte behind {LONG_HEAD} took {long:.0f} ns, and {short:.0f} ns behind {SHORT_HEAD}"
+    assert long < 3 * short, f"a byte behind {LONG_HEAD} took {long:.0f} ns, and {short:.0f} ns behind {SHORT_HEAD}"
 
 
 def test_clients_that_send_on(program):

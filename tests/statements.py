@@ -19,10 +19,10 @@ OF_A_DAY = {
 # What the office corrects now and then: each pushes out one text, which is compiled once more when it is asked for.
 OF_A_CORRECTION = {
     "UPDATE system SET name = ?2, hours = ?3, contact = ?4, zone = ?5, base_url = ?6, ttl = ?7 WHERE one = ?1",
-    "UPDATE stations_3 SET lat = ?2, lon = ?3 WHERE station_id = ?1",
-    "UPDATE stations_3 SET docks = ?2, free = ?3 WHERE station_id = ?1",
+    "UPDATE stations_4 SET lat = ?2, lon = ?3 WHERE station_id = ?1",
+    "UPDATE stations_4 SET docks = ?2, free = ?3 WHERE station_id = ?1",
     "UPDATE system SET name = ?2 WHERE one = ?1",
-    "UPDATE stations_3 SET name = ?2 WHERE station_id = ?1",
+    "UPDATE stations_4 SET name = ?2 WHERE station_id = ?1",
     "UPDATE types SET name = ?2 WHERE type_id = ?1",
     "UPDATE plans SET name = ?2 WHERE plan_id = ?1",
     "UPDATE plans SET description = ?2 WHERE plan_id = ?1",

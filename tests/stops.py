@@ -35,7 +35,7 @@ import shared
 from shared import (
     DISTURBED, EINTR, EIO, ENOSPC, FAULTS, KILLED, NO_SYSTEM, ROOM, SOUND, STORE_FAILED, TOP, UNAVAILABLE, WANTS,
     Program, at_once, city, counted, environment, exchanged, faulty, get_feed, held, is_sound, nothing_is, post, put,
-    quickly, removed, rows_of, taken, tell, with_kept,
+    quickly, removed, rows_of, taken, tell, to_schema_3,
 )
 
 STRIDE = int(os.environ.get("BIKESHARE_STOPS", "0"))
@@ -234,7 +234,7 @@ def made_raised(file, count):
     """The same as an earlier program made it, once it is raised."""
     with tempfile.TemporaryDirectory(dir=ROOM) as folder:
         put(made(file, count), folder, "city.db")
-        with_kept(Path(folder, "city.db"))
+        to_schema_3(Path(folder, "city.db"))
         ended = Program(file, folder).run("raise", "city.db", timeout=DISTURBED)
         assert ended == (0, b"version 4\n", b""), ended
         return taken(folder, "city.db")

@@ -1,8 +1,9 @@
 """The numbers that the tables store beside the rows that they follow from: a rider's balance, cash and revenue, a
-station's free and broken docks, the bicycles that are counted at it; the entries of each kind; the texts that are kept
+station's free and broken docks, its bicycles by type; the entries of each kind; the texts that are kept
 of commands and callers, and the values of their fields."""
 
-from shared import copied, rows_of
+import model
+from shared import copied, is_sound, rows_of
 
 # One station of two docks, of which the second is broken, and bicycle 7 in the first; rider 17 has paid 25.00.
 CITY = [
@@ -50,16 +51,16 @@ DEBT = [
 
 META = "SELECT cash, revenue FROM meta"
 RIDER = "SELECT balance, blocked FROM riders WHERE rider = 17"
-STATION = "SELECT free, broken FROM stations_3 WHERE station_id = 'a1'"
-COUNTS = "SELECT available, disabled FROM counts WHERE station_id = 'a1' AND type_id = 'city'"
+STATION = "SELECT free, broken FROM stations_4 WHERE station_id = 'a1'"
+BY_TYPE = "SELECT by_type, docks FROM stations_4 WHERE station_id = 'a1'"
 RENTAL = "SELECT fare, refunded FROM rentals WHERE rental = 1"
 DEBTOR = "SELECT balance, blocked FROM riders WHERE rider = 18"
 
-# What is served after the city stands, and the two numbers that each query answers then.
+# What is served after the city stands, and the two values that each query answers then.
 NUMBERS = [
-    (START + END, {RIDER: (2400, 0), META: (2500, 100), STATION: (0, 1), COUNTS: (1, 0)}),
-    (START, {RIDER: (2500, 0), STATION: (1, 1), COUNTS: (0, 0)}),
-    (BREAK, {STATION: (0, 2), COUNTS: (0, 1)}),
+    (START + END, {RIDER: (2400, 0), META: (2500, 100), STATION: (0, 1), BY_TYPE: ("city:1:0", 2)}),
+    (START, {RIDER: (2500, 0), STATION: (1, 1), BY_TYPE: ("-", 2)}),
+    (BREAK, {STATION: (0, 2), BY_TYPE: ("city:0:1", 2)}),
     (REFUND, {RIDER: (2425, 0), META: (2500, 75), RENTAL: (125, 50)}),
     (DEBT, {RIDER: (2500, 0), DEBTOR: (2450, 0), META: (5000, 50), RENTAL: (100, 50)}),
 ]
@@ -109,12 +110,12 @@ VALUES = {
         ("description", "p1", "fr", "\n\r🚲"), ("plan", "p1", "fr", "Q"), ("region", "-r_2", "zh-Hant-TW", "N"),
         ("station", "a1", "DE", "N"), ("station", "a1", "en", 'Q "1"\t'), ("system", "s", "fr", "\\"),
     ],
-    "SELECT * FROM stations_3 ORDER BY station_id": [
-        ("a1", "N", -1, 90000000, 1, 1, 1, 1, 1700000000, 1, 0, None),
-        ("a2", "N", 0, -180000000, 1, 1, 1, 1, 1700000000, 1, 0, "-r_2"),
-        ("a3", "N", 7000000, 180000000, 1, 1, 1, 1, 1700000000, 1, 0, None),
-        ("a4", "N", 45500000, 9100000, 10, 1, 1, 1, 1700000000, 10, 0, None),
-        ("a5", "N", -90000000, 100000, 500, 1, 1, 1, 1700000000, 500, 0, "r1"),
+    "SELECT * FROM stations_4 ORDER BY station_id": [
+        ("a1", "N", -1, 90000000, 1, 1, 1, 1, 1700000000, 1, 0, None, "-"),
+        ("a2", "N", 0, -180000000, 1, 1, 1, 1, 1700000000, 1, 0, "-r_2", "-"),
+        ("a3", "N", 7000000, 180000000, 1, 1, 1, 1, 1700000000, 1, 0, None, "-"),
+        ("a4", "N", 45500000, 9100000, 10, 1, 1, 1, 1700000000, 10, 0, None, "-"),
+        ("a5", "N", -90000000, 100000, 500, 1, 1, 1, 1700000000, 500, 0, "r1", "-"),
     ],
 }
 
@@ -149,12 +150,12 @@ CORRECTED_VALUES = {
         ("description", "p1", "fr", "D"), ("plan", "p1", "fr", "Q"), ("region", "-r_2", "zh-Hant", "M"),
         ("station", "a1", "DE", "Ö\\"),
     ],
-    "SELECT * FROM stations_3 ORDER BY station_id": [
-        ("a1", 'Q "1"\t', -500000, 180000000, 500, 1, 1, 1, 1700000000, 500, 0, None),
-        ("a2", "N", 0, -180000000, 1, 1, 1, 1, 1700000000, 1, 0, "-r_2"),
-        ("a3", "N", 7000000, 180000000, 1, 1, 1, 1, 1700000000, 1, 0, None),
-        ("a4", "N", 0, 45100000, 23, 1, 1, 1, 1700000000, 23, 0, None),
-        ("a5", "N", -1, 0, 500, 1, 1, 1, 1700000000, 500, 0, "r1"),
+    "SELECT * FROM stations_4 ORDER BY station_id": [
+        ("a1", 'Q "1"\t', -500000, 180000000, 500, 1, 1, 1, 1700000000, 500, 0, None, "-"),
+        ("a2", "N", 0, -180000000, 1, 1, 1, 1, 1700000000, 1, 0, "-r_2", "-"),
+        ("a3", "N", 7000000, 180000000, 1, 1, 1, 1, 1700000000, 1, 0, None, "-"),
+        ("a4", "N", 0, 45100000, 23, 1, 1, 1, 1700000000, 23, 0, None, "-"),
+        ("a5", "N", -1, 0, 500, 1, 1, 1, 1700000000, 500, 0, "r1", "-"),
     ],
 }
 
@@ -174,6 +175,48 @@ def test_numbers(program):
         with copied(program.folder, name) as base:
             found = {query: base.execute(query).fetchone() for query in wanted}
         assert found == wanted, (served, found)
+
+
+# Types in another order than that of their bytes, each with a bicycle, which comes into the dock of its number at a1;
+# and what happens to these, and to docks there, then.
+TYPES = ["z", "9", "city", "_", "-", "a-b", "ab", "a"]
+MOVES = [
+    "mark-bike|3|disabled", "mark-dock|a1|3|broken", "mark-bike|3|fit", "mark-bike|3|fit", "mark-dock|a1|3|working",
+    "mark-dock|a1|9|broken", "mark-dock|a1|9|working", "add-docks|a1|1", "set-station|a1|true|true|true",
+    "move-station|a1|1|1", "set-name|station|a1|en|A", "start|17|a1|3", "end|3|b2|1", "mark-dock|b2|1|broken",
+    "mark-dock|b2|1|working", "start|17|b2|1", "recover|2", "mark-bike|3|fit", "open-order|3|a1|b2|z|1", "load|3|9|1",
+    "unload|3|9|1|from|9", "load|3|9|1", "unload|3|9|1|to|1", "open-order|3|a1|b2|-|1", "load|3|10|5",
+    "mark-bike|5|disabled", "unload|3|10|5|to|2", "add-bike|9|z", "open-order|3|*|b2|z|1", "load|3|11|9",
+    "unload|3|11|9|to|3", "mark-bike|1|disabled", "start|17|b2|3", "end|9|a1|1", "top-up|17|1", "set-plan|z|basic",
+]
+# The texts of a1 and b2 after these.
+AFTER = {
+    "unload|3|8|8|to|8": ("-:1:0;9:1:0;_:1:0;a:1:0;a-b:1:0;ab:1:0;city:1:0;z:1:0", "-"),
+    "mark-dock|a1|3|broken": ("-:1:0;9:1:0;_:1:0;a:1:0;a-b:1:0;ab:1:0;city:0:1;z:1:0", "-"),
+    "end|3|b2|1": ("-:1:0;9:1:0;_:1:0;a:1:0;a-b:1:0;ab:1:0;z:1:0", "city:1:0"),
+    "mark-bike|1|disabled": ("9:1:0;_:1:0;a:1:0;a-b:1:0;ab:1:0", "-:0:1;z:1:1"),
+    "set-plan|z|basic": ("9:1:0;_:1:0;a:1:0;a-b:1:0;ab:1:0;z:1:0", "-:0:1;z:0:1"),
+}
+
+
+def test_bicycles_by_type(program):
+    """After each request the text of a station is that of the bicycles in its docks."""
+    commands = [f"add-type|{it}|T|bicycle|human|0|basic" for it in TYPES]
+    commands += ["add-station|a1|A|0|0|9", "add-station|b2|B|0|0|3", "add-truck|3|20", "add-rider|17"]
+    commands += ["top-up|17|100000", *(f"add-bike|{at}|{it}" for at, it in enumerate(TYPES, 1))]
+    for at, kind in enumerate(TYPES, 1):
+        commands += [f"open-order|3|*|a1|{kind}|1", f"load|3|{at}|{at}", f"unload|3|{at}|{at}|to|{at}"]
+    lines = [line for line, _ in CITY[:2]] + [f"0|office|k{at}|{it}" for at, it in enumerate([*commands, *MOVES])]
+    operator, told = model.Operator(), {}
+    for line in lines:
+        wanted = operator.answer(text([line]).removesuffix(b"\n"))
+        assert program.run("lines", "city.db", given=text([line])) == (0, wanted + b"\n", b""), line
+        assert not wanted.startswith(b"refused"), (line, wanted)
+        found = dict(rows_of("SELECT station_id, by_type FROM stations_4", program.folder, "city.db"))
+        assert found == operator.told_types(), (line, found)
+        told[line.split("|", 3)[3]] = tuple(found.values())
+    assert {it: told[it] for it in AFTER} == AFTER, told
+    is_sound(program)
 
 
 def test_kept_commands_and_their_values(program):

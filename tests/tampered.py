@@ -24,7 +24,7 @@ from pathlib import Path
 
 import formats
 from audit import BOUNDS, MAY_BE_NULL, TABLES, is_of_text, read, verdict
-from shared import FOREIGN, SOUND, STORE_FAILED, changed, is_whole, removed
+from shared import FOREIGN, SOUND, STORE_FAILED, by_type, changed, is_whole, removed
 
 TRIED = os.environ.get("BIKESHARE_TAMPERED", "15")
 SEED = int(os.environ.get("BIKESHARE_SEED", "1"))
@@ -326,7 +326,7 @@ def test_regions(program):
     its own."""
     city, _ = made(program)
     tables = tables_of(city, program)
-    begins = ("UPDATE OR IGNORE regions ", 'UPDATE OR IGNORE stations_3 SET "region_id" ')
+    begins = ("UPDATE OR IGNORE regions ", 'UPDATE OR IGNORE stations_4 SET "region_id" ')
     changes = [it for it in updates(tables) if it[0].startswith(begins)]
     changes += [it for it in rows_added_and_removed({"regions": tables["regions"]})]
     assert len(changes) > 300, len(changes)
@@ -402,6 +402,50 @@ def test_names_in_further_languages(program):
     holds(program, city, changes, of_rows, "names")
 
 
+def texts_of_types(pick):
+    """A text that is made of parts as a station's bicycles by type are, and seldom of the right ones."""
+    kinds = ["city", "cargo", "zz", "City", "", "-"]
+    counts = ["0:0", "1:0", "0:1", "1:1", "2:0", "01:0", "-1:0", "1", ""]
+    parts = [f"{pick.choice(kinds)}{pick.choice('::::;,')}{pick.choice(counts)}" for _ in range(pick.randint(0, 3))]
+    return pick.choice([";", ";", ";", ";;", ",", "; "]).join(parts)
+
+
+def with_bicycles(pick):
+    """Bicycles more in docks of a station, some of which break, and a text of them that is right or nearly so."""
+    docks = pick.sample(range(1, 5), pick.randint(1, 4))
+    broken = [it for it in docks if pick.random() < 0.3]
+    types, script = {}, [f"INSERT OR REPLACE INTO docks VALUES ('b2', {it}, 1)" for it in broken]
+    for dock in docks:
+        kind, state = pick.choice(["city", "cargo", "zz"]), pick.choice([0, 0, 1])
+        types.setdefault(kind, [0, 0])[dock in broken or state > 0] += 1
+        script.append(f"INSERT INTO bikes VALUES ({20 + dock}, '{kind}', {state}, 'b2', {dock}, NULL, NULL, NULL)")
+    right = by_type((kind, *counts) for kind, counts in types.items())
+    parts = right.split(";")
+    others = [";".join(pick.sample(parts, len(parts))), right.replace(":1:", ":2:"), right.replace(";", ","), "-"]
+    others += [f"{right};{parts[0]}", ";".join(parts[1:]), right.replace(":0:1", ":1:0"), f"a:0:0;{right}"]
+    text = pick.choice([right, right, right, *others])
+    numbers = f"free = {4 - len(docks)}, broken = {len(broken)}"
+    return "; ".join([*script, f"UPDATE stations_4 SET {numbers}, by_type = '{text}' WHERE station_id = 'b2'"])
+
+
+def test_bicycles_by_type(program):
+    """The text of a station's bicycles by type: any text, and that of other bicycles there. All of it in one sample of
+    its own."""
+    city, _ = made(program)
+    pick = random.Random(f"{SEED} types")
+    setting = "UPDATE stations_4 SET by_type = ? WHERE station_id = ?"
+    texts = {texts_of_types(pick) for _ in range(400)} | {"cargo:0:1"}
+    changes = [
+        (f"{setting} {text!r} {station}", by_sql(setting, (text, station)))
+        for text in sorted(texts)
+        for station in ("a1", "b2", "c3")
+    ]
+    scripts = {with_bicycles(pick) for _ in range(400)}
+    changes += [(it, by_script(it)) for it in sorted(scripts)]
+    assert len(changes) > 1000, len(changes)
+    holds(program, city, changes, of_rows, "types")
+
+
 def test_columns_of_a_bicycles_place(program):
     """A column out of its bounds beside a whole place, several whole places, and halves of one. All of it in one sample
     of its own."""
@@ -471,7 +515,7 @@ def test_tables_and_columns(program):
         "CREATE VIEW seen AS SELECT bike FROM bikes",
     ]
     # The names of tables that other versions have are free here.
-    sound += [f"CREATE TABLE {it} (note TEXT)" for it in ("stations", "stations_2", "kept")]
+    sound += [f"CREATE TABLE {it} (note TEXT)" for it in ("stations", "stations_2", "stations_3", "counts", "kept")]
     sound += [
         "CREATE TABLE helmets (helmet INTEGER PRIMARY KEY, size TEXT UNIQUE)",
         "PRAGMA user_version = 7",
@@ -667,7 +711,7 @@ def test_files_of_no_city(program):
         file = folder / f"no{number}.db"
         file.write_bytes(data)
         assert says(program, file) == STORE_FAILED, (data[:20], says(program, file))
-    for number, name in enumerate([*TABLES, "stations", "stations_2", "kept"]):
+    for number, name in enumerate([*TABLES, "stations", "stations_2", "stations_3", "counts", "kept"]):
         sql = f"CREATE TABLE {name} (a)"
         file = folder / f"other{number}.db"
         by_sql(sql)(file)

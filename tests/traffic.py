@@ -4,7 +4,7 @@ import itertools
 import random
 
 import model
-from shared import TOP, copied, is_sound, loaded
+from shared import TOP, by_type, copied, is_sound, loaded
 
 city = loaded(TOP / "bench/city.py")
 SIZES = {"stations": 9, "docks": 8, "types": 3, "bicycles": 40, "riders": 60, "trucks": 3, "daily": 600}
@@ -89,16 +89,22 @@ def test_the_same_in_a_file_in_parts(program):
         status, told, said = program.run("lines", "city.db", given="".join(lines[at : at + 300]).encode())
         assert (status, told, said) == (0, joined(answers[at : at + 300]), b""), f"lines {at} to {at + 300}: {said!r}"
     is_sound(program)
+    texts = []
     with copied(program.folder, "city.db") as base:
-        found = base.execute("SELECT station_id, docks, free, broken FROM stations_3").fetchall()
-        for station, docks, free, broken in found:
+        found = base.execute("SELECT station_id, docks, free, broken, by_type FROM stations_4").fetchall()
+        for station, docks, free, broken, text in found:
             marked = {
                 dock
                 for (dock,) in base.execute("SELECT dock FROM docks WHERE station_id = ? AND broken = 1", (station,))
             }
-            held = {dock for (dock,) in base.execute("SELECT dock FROM bikes WHERE station_id = ?", (station,))}
+            bikes = base.execute("SELECT dock, type_id, state FROM bikes WHERE station_id = ?", (station,)).fetchall()
+            held, types = {dock for dock, _, _ in bikes}, {}
+            for dock, kind, state in bikes:
+                types.setdefault(kind, [0, 0])[dock in marked or state != 0] += 1
             assert (free, broken) == (docks - len(marked | held), len(marked)), station
-    assert len(found) == SIZES["stations"]
+            assert text == by_type((kind, *counts) for kind, counts in types.items()), (station, text)
+            texts.append(text)
+    assert len(found) == SIZES["stations"] and max(it.count(";") for it in texts) > 0, texts
 
 
 def test_a_seed_makes_the_same_lists(_):

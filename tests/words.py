@@ -310,7 +310,7 @@ def test_no_word_serves_a_file_that_is_refused(program):
         ("UPDATE history SET reply = 'no' WHERE req_key = 'k2'", "unsound history 3"),
         (adoption.AGAIN, "unsound history 38"),
         ("UPDATE meta SET app = 'other'", "foreign"),
-        ("DROP TABLE counts", "foreign"), ("UPDATE meta SET version = 9", "newer 9"),
+        ("DROP TABLE docks", "foreign"), ("UPDATE meta SET version = 9", "newer 9"),
         ("UPDATE meta SET version = 1", "older 1"),
         ("UPDATE meta SET version = 2", "older 2"),
         ("UPDATE meta SET version = 3", "older 3"),

@@ -19,10 +19,7 @@ use Rattle.sqlite.specs.State.{HasCleanDisk, Survives, Shows, IsLive}
 use Rattle.sqlite.specs.Held.{Held, state}
 use Rattle.sqlite.proofs.StateLemmas.{survives_then}
 use Rattle.sqlite.proofs.Callers.{survives_begin}
-use Rattle.bike_sql.proofs.RowListLemmas.{no_list}
-use Rattle.bike_operator.specs.Operator.{Operator, Key, DockKey, no_operator, texts_cmp}
-use Rattle.bike_operator.specs.declared.records.Bike.{Bike}
-use Rattle.bike_operator.specs.Counts.{count}
+use Rattle.bike_operator.specs.Operator.{Operator, DockKey, no_operator, texts_cmp}
 use Rattle.bike_laws.proofs.NoOperatorLemmas.{none_sound}
 use Rattle.bike_book.specs.Tables.{Meta}
 use Rattle.bike_book.specs.Stored.{none_listed, IsListing}
@@ -78,15 +75,6 @@ nobody_else db s sound none h = nobody_in h.0 db s (same_tables h.0 db.schema db
 
 -- ---- the empty tables
 
-no_entries : {K X : Type 0} (R : K → K → Ordering) → map.entries (map.empty {X = X} {R = R}) ≡ []
-no_entries {K} {X} R = no_list _ (sym (map.len-entries (map.empty {X = X} {R = R})) ∙ map.len-empty R X)
-
-none_counted : (test : ℕ × Bike → Bool) → count test (map.entries no_operator.bikes) ≡ 0
-none_counted test = ap (count test) (no_entries _)
-
-no_row : (key : Key) → map.contains_key none_listed.counts key ≡ true → ⊥
-no_row key e = let none = map.get-empty {X = Unit {0}} texts_cmp key in absurd cc
-
 no_dock_row : (key : DockKey) → map.contains_key none_listed.docks key ≡ true → ⊥
 no_dock_row key e = let none = map.get-empty {X = Unit {0}} texts_cmp key in absurd cc
 
@@ -97,8 +85,6 @@ pub none_listing : IsListing no_operator none_listed
 none_listing = record {
   docks = λ key there. absurd (no_dock_row key there);
   marked = λ key broken. absurd (no_broken_dock key broken);
-  counts = λ key there. absurd (no_row key there);
-  counted = λ station type_id _. (none_counted _, none_counted _);
 }
 
 pub fresh_stands : (old db : Database) → IsFresh old db → StandsFor db no_operator

@@ -13,7 +13,7 @@ use bike_judges::BadKey;
 use bike_ledger_rules::{judge_entries, judge_history, judge_rentals, judge_riders};
 use bike_recognition::TableName;
 use bike_schema::StatementFault;
-use bike_station_rules::{judge_counts, judge_docks, judge_stations};
+use bike_station_rules::{judge_docks, judge_stations};
 use sqlite::{Alter, Connection};
 use std::alloc::Global;
 
@@ -32,16 +32,15 @@ pub(crate) fn judge_table<S: Alter>(
         TableName::Segments => judge_segments(conn),
         TableName::Types => judge_types(conn),
         TableName::Regions => judge_regions(conn),
-        TableName::Stations => judge_stations(conn),
+        TableName::Stations => judge_stations(alloc, conn),
         TableName::Docks => judge_docks(conn),
         TableName::Bikes => judge_bikes(conn),
-        TableName::Trucks => judge_trucks(conn),
+        TableName::Trucks => judge_trucks(alloc, conn),
         TableName::Riders => judge_riders(alloc, conn),
         TableName::Rentals => judge_rentals(alloc, conn),
-        TableName::Orders => judge_orders(conn),
+        TableName::Orders => judge_orders(alloc, conn),
         TableName::Entries => judge_entries(alloc, conn),
         TableName::History => judge_history(alloc, conn),
-        TableName::Counts => judge_counts(alloc, conn),
         TableName::MoreNames => judge_names(alloc, conn),
     }
 }

@@ -1,5 +1,5 @@
 -- The row changes that book a system set, a type, region, station or further name added, and a type's default plan or a station's flags or region set.
-use Rattle.std.proofs.Common.{◌≡◌, ◌≤◌, ℕ, pos, List, [], ◌∷◌, true, Option, Some, None, refl, sym, ap, ap₂, ◌∙◌, arith}
+use Rattle.std.proofs.Common.{◌≡◌, ℕ, pos, List, [], ◌∷◌, Option, Some, None, refl, sym, ◌∙◌, arith}
 use Rattle.std.specs.Prelude.{map, option_map}
 use Rattle.std.specs.Ordering.{nat_cmp}
 use Rattle.std.specs.declared.cmp.Ordering.TheVariants.{Equal}
@@ -7,25 +7,26 @@ use Rattle.std.specs.Cmp.{eq_by_cmp_equiv, Equal-is}
 use Rattle.std.specs.FinMap as fin
 use Rattle.std.proofs.lemmas.Int.{ints}
 use Rattle.sqlite_value.specs.declared.value.Value.TheVariants.{Int, Text}
-use Rattle.sqlite_value.specs.Order.{Row, row_cmp}
+use Rattle.sqlite_value.specs.Order.{row_cmp}
 use Rattle.bike_sql.specs.View.{put_row_by, row_with, rows_after_update, with_values}
 use Rattle.bike_sql.proofs.SetLaw.{updated_there}
 use Rattle.bike_operator.specs.Rows.{SystemRow, SettingsRow, moved_to, system_with}
 use Rattle.bike_operator.specs.Operator.{Operator, Station, NameKey, name_key}
-use Rattle.bike_operator.specs.Steps.{key_changed, new_station}
+use Rattle.bike_operator.specs.Steps.{new_station}
 use Rattle.bike_operator.specs.Changes.{text_in}
 use Rattle.bike_operator.specs.Sound.{AreNamesSound}
-use Rattle.bike_accepted.proofs.MapLemmas.{number_order, text_order, known_added, known_changed}
+use Rattle.bike_accepted.proofs.MapLemmas.{number_order}
 use Rattle.bike_accepted.proofs.CatalogueLemmas.{same_docks, docks_changed, docks_added}
 use Rattle.bike_accepted.specs.declared.change.Change.TheVariants as change
 use Rattle.bike_accepted.specs.Effects.{after_change}
 use Rattle.bike_book.specs.Rows.{number_value, system_row, station_row}
 use Rattle.bike_book.specs.Stored.{system_rows, stored_type, stored_region, stored_name}
+use Rattle.bike_book.specs.ByType.{by_type_text}
 use Rattle.bike_book.specs.Between.{docks_left, counted_station, tables_between}
 use Rattle.bike_book.specs.ChangeLaws.{Everywhere, SetSystemLaw, AddTypeLaw, SetPlanLaw, AddRegionLaw, AddStationLaw, SetStationLaw, SetRegionLaw, AddNameLaw, ChangeSystemLaw, MoveStationLaw}
 use Rattle.bike_book.proofs.MapRows.{put_entries, changed_entries}
 use Rattle.bike_book.proofs.Keys.{numbers, number_key, texts, triples, name_triple, IsTriple}
-use Rattle.bike_book.proofs.ListingLemmas.{KeepsNames, names_same, listing_same}
+use Rattle.bike_book.proofs.ListingLemmas.{listing_same}
 
 -- the one key of `system` and `meta`
 pub one_key : row_cmp (number_key 1) (number_key 1) ≡ Equal
@@ -40,7 +41,7 @@ system_put x (Some y) = rw one_key refl
 pub set_system : Everywhere SetSystemLaw
 set_system s m listing x = record {
   leads = λ i. record (tables_between s m) { system = system_put x.now s.system i };
-  listing = listing_same s (after_change (change.SetSystem x) s) m (names_same s (after_change (change.SetSystem x) s) refl refl) refl refl listing;
+  listing = listing_same s (after_change (change.SetSystem x) s) m (same_docks s (after_change (change.SetSystem x) s) refl) refl listing;
 }
 
 settings_put : (x : SettingsRow) (o : Option SystemRow)
@@ -54,13 +55,10 @@ settings_put x (Some y) =
 pub change_system : Everywhere ChangeSystemLaw
 change_system s m listing x = record {
   leads = λ i. record (tables_between s m) { system = settings_put x.now s.system i };
-  listing = listing_same s (after_change (change.ChangeSystem x) s) m (names_same s (after_change (change.ChangeSystem x) s) refl refl) refl refl listing;
+  listing = listing_same s (after_change (change.ChangeSystem x) s) m (same_docks s (after_change (change.ChangeSystem x) s) refl) refl listing;
 }
 
 -- ---- types
-
-pub types_known : (s n : Operator) → n.stations ≡ s.stations → ((q : List ℕ) → fin.contains_key s.types q ≡ true → fin.contains_key n.types q ≡ true) → KeepsNames s n
-types_known s n stations types = let same = names_same s (record n { types = s.types }) stations refl in record { docks = same_docks s n stations; stations = same.stations; types = types }
 
 pub add_type : Everywhere AddTypeLaw
 add_type s m listing t =
@@ -68,7 +66,7 @@ add_type s m listing t =
     let types = put_entries texts stored_type stored_type (λ e. refl) (λ e. refl) s.types t.now.type_id t.now tt (λ q y found. (tt, λ apart. refl)) in
     record {
       leads = λ i. record (tables_between s m) { types = types i };
-      listing = listing_same s n m (types_known s n refl (λ q h. known_added text_order s.types t.now.type_id t.now q h)) refl refl listing;
+      listing = listing_same s n m (same_docks s n refl) refl listing;
     }
 
 pub set_plan : Everywhere SetPlanLaw
@@ -77,7 +75,7 @@ set_plan s m listing type_id plan =
     let types = changed_entries texts stored_type stored_type (λ e. refl) (λ e. refl) s.types type_id.now tt _ (λ t. record t { plan_id = plan.now }) (λ v found. refl) (λ q y found. (tt, λ apart. refl)) in
     record {
       leads = λ i. record (tables_between s m) { types = types i };
-      listing = listing_same s n m (types_known s n refl (λ q h. known_changed text_order s.types type_id.now (λ t. record t { plan_id = plan.now }) q h)) refl refl listing;
+      listing = listing_same s n m (same_docks s n refl) refl listing;
     }
 
 -- ---- regions
@@ -86,33 +84,21 @@ pub add_region : Everywhere AddRegionLaw
 add_region s m listing r =
     let n = after_change (change.AddRegion r) s in
     let regions = put_entries texts stored_region stored_region (λ e. refl) (λ e. refl) s.regions r.now.region_id r.now tt (λ q y found. (tt, λ apart. refl)) in
-    record { leads = λ i. record (tables_between s m) { regions = regions i }; listing = listing_same s n m (names_same s n refl refl) refl refl listing }
+    record { leads = λ i. record (tables_between s m) { regions = regions i }; listing = listing_same s n m (same_docks s n refl) refl listing }
 
 -- ---- stations
 
 pub add_station : Everywhere AddStationLaw
-add_station s m listing x reported free none_taken none_broken =
+add_station s m listing x reported free none_taken none_broken no_types =
     let n = after_change (change.AddStation x reported) s in
     let left : pos x.now.docks ≡ docks_left s x.now.station_id x.now.docks = omega (arith, ints, none_taken, none_broken) in
     let stations =
-    ap (λ (r : Row). put_row_by 1 r (map (counted_station s) (fin.entries s.stations))) (ap₂ (station_row x.now.station_id (new_station x.now reported)) left (sym none_broken))
+    (λ i. put_row_by 1 (station_row x.now.station_id (new_station x.now reported) (left i) (sym none_broken i) (by_type_text (sym no_types i))) (map (counted_station s) (fin.entries s.stations)))
     ∙ put_entries texts (counted_station s) (counted_station s) (λ e. refl) (λ e. refl) s.stations x.now.station_id (new_station x.now reported) tt (λ q y found. (tt, λ apart. refl)) in
     record {
       leads = λ i. record (tables_between s m) { stations = stations i };
-      listing = listing_same s n m (record {
-        docks = docks_added s n x.now.station_id (new_station x.now reported) free refl;
-        stations = λ q h. known_added text_order s.stations x.now.station_id (new_station x.now reported) q h;
-        types = λ q h. h;
-      }) refl refl listing;
+      listing = listing_same s n m (docks_added s n x.now.station_id (new_station x.now reported) free refl) refl listing;
     }
-
--- a station changes, and loses no dock
-pub names_station : (s : Operator) (id : List ℕ) (f : Station → Station) → ((x : Station) → x.row.docks ≤ (f x).row.docks) → KeepsNames s (record s { stations = key_changed s.stations id f })
-names_station s id f docks = record {
-  docks = docks_changed s (record s { stations = key_changed s.stations id f }) id f docks refl;
-  stations = λ q h. known_changed text_order s.stations id f q h;
-  types = λ q h. h;
-}
 
 pub set_station : Everywhere SetStationLaw
 set_station s m listing station installed renting returning reported =
@@ -121,7 +107,7 @@ set_station s m listing station installed renting returning reported =
     let stations = changed_entries texts (counted_station s) (counted_station s) (λ e. refl) (λ e. refl) s.stations station.now tt _ f (λ v found. refl) (λ q y found. (tt, λ apart. refl)) in
     record {
       leads = λ i. record (tables_between s m) { stations = stations i };
-      listing = listing_same s n m (names_station s station.now f (λ x. omega arith)) refl refl listing;
+      listing = listing_same s n m (docks_changed s n station.now f (λ x. omega arith) refl) refl listing;
     }
 
 pub set_region : Everywhere SetRegionLaw
@@ -131,7 +117,7 @@ set_region s m listing station region =
     let stations = changed_entries texts (counted_station s) (counted_station s) (λ e. refl) (λ e. refl) s.stations station.now tt _ f (λ v found. refl) (λ q y found. (tt, λ apart. refl)) in
     record {
       leads = λ i. record (tables_between s m) { stations = stations i };
-      listing = listing_same s n m (names_station s station.now f (λ x. omega arith)) refl refl listing;
+      listing = listing_same s n m (docks_changed s n station.now f (λ x. omega arith) refl) refl listing;
     }
 
 pub move_station : Everywhere MoveStationLaw
@@ -141,7 +127,7 @@ move_station s m listing station p =
     let stations = changed_entries texts (counted_station s) (counted_station s) (λ e. refl) (λ e. refl) s.stations station.now tt _ f (λ v found. refl) (λ q y found. (tt, λ apart. refl)) in
     record {
       leads = λ i. record (tables_between s m) { stations = stations i };
-      listing = listing_same s n m (names_station s station.now f (λ x. omega arith)) refl refl listing;
+      listing = listing_same s n m (docks_changed s n station.now f (λ x. omega arith) refl) refl listing;
     }
 
 -- ---- names in further languages
@@ -155,4 +141,4 @@ add_name s m listing kind id language name are =
     let names =
     put_entries triples stored_name stored_name (λ e. refl) (λ e. refl) s.more_names (name_key kind id.now language.now) name.now (name_triple kind id.now language.now)
     (λ q y found. (named_triple s are q y found, λ apart. refl)) in
-    record { leads = λ i. record (tables_between s m) { more_names = names i }; listing = listing_same s n m (names_same s n refl refl) refl refl listing }
+    record { leads = λ i. record (tables_between s m) { more_names = names i }; listing = listing_same s n m (same_docks s n refl) refl listing }

@@ -7,13 +7,14 @@ use Rattle.bike_operator.specs.Reply.{Reply}
 use Rattle.bike_operator.specs.Request.{Request}
 use Rattle.bike_operator.specs.Operator.{AcceptedRequest}
 use Rattle.bike_operator.specs.Changes.{entry_added}
+use Rattle.bike_accepted.proofs.CatalogueLemmas.{same_docks}
 use Rattle.bike_book.specs.declared.version.TheConstants.{NEWEST}
 use Rattle.bike_book.specs.Rows.{meta_row, history_row}
 use Rattle.bike_book.specs.Stored.{with_numbers, stored_request}
 use Rattle.bike_book.specs.Between.{tables_between}
 use Rattle.bike_book.specs.CloseLaws.{after_close, AreTextsOf, QuietCloseLaw, EntryCloseLaw, RefundCloseLaw, AtEachClose}
 use Rattle.bike_book.proofs.NumberRows.{put_number}
-use Rattle.bike_book.proofs.ListingLemmas.{names_same, listing_same}
+use Rattle.bike_book.proofs.ListingLemmas.{listing_same}
 use Rattle.bike_book.proofs.LedgerRows.{entry_put, balance_set, rentals_same, refunded_set, meta_set, cash_after, revenue_after}
 
 -- ---- the request
@@ -32,7 +33,7 @@ close_quiet s m now q r number caller key command reply listing is texts cash re
     let n = after_close now q r s in
     let meta = meta_set NEWEST s.now (cash_of s.entries) (revenue_of s.entries) now cash revenue ∙ ap₂ (λ (c z : ℤ). meta_row NEWEST now c z ∷ []) cash_is revenue_is in
     let history = request_put s.history now q r number caller.now key.now command.now reply.now is texts in
-    record { leads = λ i. record (tables_between s m) { meta = meta i; history = history i }; listing = listing_same s n m (names_same s n refl refl) refl refl listing }
+    record { leads = λ i. record (tables_between s m) { meta = meta i; history = history i }; listing = listing_same s n m (same_docks s n refl) refl listing }
 
 pub close_entry : AtEachClose EntryCloseLaw
 close_entry s m now q r number caller key command reply listing is texts e balance cash revenue with none =
@@ -44,7 +45,7 @@ close_entry s m now q r number caller key command reply listing is texts e balan
     let rentals = rentals_same s.rentals s.entries e.now none in
     record {
       leads = λ i. record (tables_between s m) { meta = meta i; history = history i; entries = entries i; riders = riders i; rentals = rentals i };
-      listing = listing_same s n m (names_same s n refl refl) refl refl listing;
+      listing = listing_same s n m (same_docks s n refl) refl listing;
     }
 
 pub close_refund : AtEachClose RefundCloseLaw
@@ -57,5 +58,5 @@ close_refund s m now q r number caller key command reply listing is texts e bala
     let rentals = refunded_set s.rentals s.entries e.now refunded refunded_is in
     record {
       leads = λ i. record (tables_between s m) { meta = meta i; history = history i; entries = entries i; riders = riders i; rentals = rentals i };
-      listing = listing_same s n m (names_same s n refl refl) refl refl listing;
+      listing = listing_same s n m (same_docks s n refl) refl listing;
     }

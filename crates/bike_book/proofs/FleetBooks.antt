@@ -9,18 +9,22 @@ use Rattle.bike_operator.specs.declared.records.Place.TheVariants as place
 use Rattle.bike_operator.specs.declared.records.Bike.{Bike}
 use Rattle.bike_operator.specs.Operator.{Operator}
 use Rattle.bike_operator.specs.Counts.{count, is_available, is_working_dock, docks_broken}
+use Rattle.bike_accepted.proofs.CatalogueLemmas.{same_docks}
 use Rattle.bike_accepted.proofs.MapLemmas.{number_order, there_of}
 use Rattle.bike_accepted.proofs.CountLemmas.{one, weight, count-added}
 use Rattle.bike_accepted.specs.Numbers.{is_disabled_of}
 use Rattle.bike_accepted.specs.declared.change.Change.TheVariants as change
 use Rattle.bike_accepted.specs.Effects.{after_change}
-use Rattle.bike_book.specs.Rows.{station_row, count_row, rider_row, first_text, second_text}
-use Rattle.bike_book.specs.Stored.{stored_bike, stored_truck, stored_rider, stored_count}
+use Rattle.bike_book.specs.declared.by_type.CountedType.{CountedType}
+use Rattle.bike_book.specs.ByType.{by_type_text}
+use Rattle.bike_book.specs.Rows.{station_row, rider_row}
+use Rattle.bike_book.specs.Stored.{stored_bike, stored_truck, stored_rider}
 use Rattle.bike_book.specs.Between.{counted_station, tables_between}
 use Rattle.bike_book.specs.ChangeLaws.{Everywhere, AddBikeLaw, AddTruckLaw, AddRiderLaw, SetRiderLaw}
 use Rattle.bike_book.proofs.MapRows.{same_entries, put_entries, set_entries}
-use Rattle.bike_book.proofs.Keys.{numbers, texts, pairs}
-use Rattle.bike_book.proofs.ListingLemmas.{names_same, listing_same, listing_counted}
+use Rattle.bike_book.proofs.Keys.{numbers, texts}
+use Rattle.bike_book.proofs.TypeLaws.{types_same}
+use Rattle.bike_book.proofs.ListingLemmas.{listing_same}
 
 -- ---- bicycles
 
@@ -44,16 +48,15 @@ add_bike s m listing bike type_id none =
     let occupied_is = λ (station : List ℕ). uncounted_added s (λ x. is_working_dock s station x.place) bike b none refl in
     let available_is = λ (station kind : List ℕ). uncounted_added s (λ x. bytes_eq x.type_id kind && is_available s station x) bike b none (neither (bytes_eq type_id.now kind)) in
     let disabled_is = λ (station kind : List ℕ). uncounted_added s (is_disabled_of s station kind) bike b none (neither (bytes_eq type_id.now kind)) in
+    let types_are = λ (station : List ℕ). types_same s n station (λ kind. (available_is station kind, disabled_is station kind)) in
     let bikes = put_entries numbers stored_bike stored_bike (λ e. refl) (λ e. refl) s.bikes bike b tt (λ q y found. (tt, λ apart. refl)) in
     let stations =
     same_entries texts (counted_station s) (counted_station n) s.stations (λ q x found.
-    ap (λ (taken : ℕ). station_row q x (pos x.row.docks -ℤ pos (taken + docks_broken s q x.row.docks)) (docks_broken s q x.row.docks)) (sym (occupied_is q))) in
-    let counts =
-    same_entries pairs (stored_count s) (stored_count n) m.counts (λ k y found.
-    ap₂ (count_row (first_text k) (second_text k)) (sym (available_is (first_text k) (second_text k))) (sym (disabled_is (first_text k) (second_text k)))) in
+    ap₂ (λ (taken : ℕ) (types : List CountedType). station_row q x (pos x.row.docks -ℤ pos (taken + docks_broken s q x.row.docks)) (docks_broken s q x.row.docks) (by_type_text types))
+    (sym (occupied_is q)) (sym (types_are q))) in
     record {
-      leads = λ i. record (tables_between s m) { bikes = bikes i; stations = stations i; counts = counts i };
-      listing = listing_counted s n m (names_same s n refl refl) refl (λ station kind. (available_is station kind, disabled_is station kind)) listing;
+      leads = λ i. record (tables_between s m) { bikes = bikes i; stations = stations i };
+      listing = listing_same s n m (same_docks s n refl) refl listing;
     }
 
 -- ---- trucks
@@ -62,7 +65,7 @@ pub add_truck : Everywhere AddTruckLaw
 add_truck s m listing truck capacity =
     let n = after_change (change.AddTruck truck capacity) s in
     let trucks = put_entries numbers stored_truck stored_truck (λ e. refl) (λ e. refl) s.trucks truck (record { capacity = capacity }) tt (λ q y found. (tt, λ apart. refl)) in
-    record { leads = λ i. record (tables_between s m) { trucks = trucks i }; listing = listing_same s n m (names_same s n refl refl) refl refl listing }
+    record { leads = λ i. record (tables_between s m) { trucks = trucks i }; listing = listing_same s n m (same_docks s n refl) refl listing }
 
 -- ---- riders
 
@@ -72,7 +75,7 @@ add_rider s m listing rider none =
     let riders =
     ap (λ (b : ℤ). put_row_by 1 (rider_row rider false b) (map (stored_rider s.entries) (fin.entries s.riders))) (sym none)
     ∙ put_entries numbers (stored_rider s.entries) (stored_rider s.entries) (λ e. refl) (λ e. refl) s.riders rider (record { is_blocked = false }) tt (λ q y found. (tt, λ apart. refl)) in
-    record { leads = λ i. record (tables_between s m) { riders = riders i }; listing = listing_same s n m (names_same s n refl refl) refl refl listing }
+    record { leads = λ i. record (tables_between s m) { riders = riders i }; listing = listing_same s n m (same_docks s n refl) refl listing }
 
 pub set_rider : Everywhere SetRiderLaw
 set_rider s m listing rider blocked known =
@@ -81,4 +84,4 @@ set_rider s m listing rider blocked known =
     let riders =
     set_entries numbers (stored_rider s.entries) (stored_rider s.entries) (λ e. refl) (λ e. refl) s.riders rider tt _ there.0 (record { is_blocked = blocked }) there.1 refl
     (λ q y found. (tt, λ apart. refl)) in
-    record { leads = λ i. record (tables_between s m) { riders = riders i }; listing = listing_same s n m (names_same s n refl refl) refl refl listing }
+    record { leads = λ i. record (tables_between s m) { riders = riders i }; listing = listing_same s n m (same_docks s n refl) refl listing }

@@ -6,17 +6,16 @@ use Rattle.sqlite_value.specs.declared.value.Value.TheVariants.{Text}
 use Rattle.bike_sql.specs.View.{row_with}
 use Rattle.bike_operator.specs.Rows.{SystemRow}
 use Rattle.bike_ledger.specs.Ledger.{cash_of, revenue_of}
-use Rattle.bike_operator.specs.Operator.{Operator, Key, DockKey, key_of, name_key, dock_key}
-use Rattle.bike_operator.specs.Counts.{is_broken, available_of}
+use Rattle.bike_operator.specs.Operator.{Operator, DockKey, name_key, dock_key}
+use Rattle.bike_operator.specs.Counts.{is_broken}
 use Rattle.bike_book.specs.declared.version.TheConstants.{NEWEST}
-use Rattle.bike_accepted.specs.Numbers.{disabled_of}
-use Rattle.bike_book.specs.Tables.{Docks, Counts}
-use Rattle.bike_book.specs.Rows.{number_value, system_row, dock_row, count_row}
+use Rattle.bike_book.specs.Tables.{Docks}
+use Rattle.bike_book.specs.Rows.{number_value, system_row, dock_row}
 use Rattle.bike_book.specs.Stored.{Listed, IsListing, system_rows, stored_plan, stored_type, stored_region, stored_station, stored_dock, stored_bike, stored_truck, stored_rider, stored_rental}
-use Rattle.bike_book.specs.Stored.{stored_order, stored_entry, stored_count, stored_name}
+use Rattle.bike_book.specs.Stored.{stored_order, stored_entry, stored_name}
 use Rattle.bike_book.specs.Found.{row_under, WhereListed, FoundByKey, FoundListed}
 use Rattle.bike_book.proofs.MapRows.{found_entries}
-use Rattle.bike_book.proofs.Keys.{number_key, numbers, texts, pairs, triples, name_triple, docks, IsPair, IsDockPair}
+use Rattle.bike_book.proofs.Keys.{number_key, numbers, texts, triples, name_triple, docks, IsDockPair}
 use Rattle.bike_book.proofs.NumberRows.{found_number}
 use Rattle.bike_book.proofs.CatalogueBooks.{one_key, named_triple}
 use Rattle.bike_book.proofs.LedgerRows.{meta_found}
@@ -43,12 +42,9 @@ found_by_key s m sound listing = record {
       found_entries triples stored_name (λ e. refl) (name_key kind id language) (name_triple kind id language) s.more_names (λ k y found. named_triple s sound.names k y found);
 }
 
--- ---- docks and counts
+-- ---- docks
 
 module _ (s : Operator) (m : Listed) (listing : IsListing s m) where
-  pub count_pair : (key : Key) (y : Unit {0}) → fin.get m.counts key ≡ Some y → IsPair key
-  count_pair key y found = let it = listing.counts key (ap is_some found) in record { first = it.station; second = it.type_id; is = it.key_is }
-
   pub dock_pair : (key : DockKey) (y : Unit {0}) → fin.get m.docks key ≡ Some y → IsDockPair key
   dock_pair key y found = let it = listing.docks key (ap is_some found) in record { station = it.station; dock = it.dock; is = it.key_is }
 
@@ -64,10 +60,6 @@ module _ (s : Operator) (m : Listed) (listing : IsListing s m) where
       ≡ option_map (λ listed. dock_row station dock (is_broken s station dock)) (fin.get m.docks (dock_key station dock))
   dock_found station dock = found_entries docks (stored_dock s.broken) (λ e. refl) (dock_key station dock) (record { station = station; dock = dock; is = refl }) m.docks dock_pair
 
-  count_found : (station type_id : List ℕ) → row_under s m Counts (Text station ∷ Text type_id ∷ [])
-      ≡ option_map (λ listed. count_row station type_id (available_of s station type_id) (disabled_of s station type_id)) (fin.get m.counts (key_of station type_id))
-  count_found station type_id = found_entries pairs (stored_count s) (λ e. refl) (key_of station type_id) (record { first = station; second = type_id; is = refl }) m.counts count_pair
-
 pub mapped_some : {A B : Type 0} (f : A → B) (o : Option A) → is_some (option_map f o) ≡ is_some o
 mapped_some f None = refl
 mapped_some f (Some x) = refl
@@ -77,7 +69,4 @@ found_listed s m sound listing = record {
   docks = dock_found s m listing;
   dock_listed = λ station dock. ap is_some (dock_found s m listing station dock) ∙ mapped_some _ (fin.get m.docks (dock_key station dock));
   works = λ station dock none. unlisted_works s m listing station dock none (is_broken s station dock) refl;
-  counts = count_found s m listing;
-  count_listed = λ station type_id. ap is_some (count_found s m listing station type_id) ∙ mapped_some _ (fin.get m.counts (key_of station type_id));
-  none = λ station type_id none. listing.counted station type_id (ap is_some none);
 }

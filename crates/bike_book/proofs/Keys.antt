@@ -1,4 +1,4 @@
--- The keys of the tables: numbers, texts, two texts, three texts, and a dock of a station.
+-- The keys of the tables: numbers, texts, three texts, and a dock of a station.
 use Rattle.std.proofs.Common.{◌≡◌, ℕ, ◌<◌, pos, ◌<ℤ◌, List, [], ◌∷◌, refl, sym, ap, ◌∙◌, arith}
 use Rattle.std.specs.Ordering.{nat_cmp, int_cmp, ordering_then, MatchOrdering}
 use Rattle.std.specs.declared.cmp.Ordering.{Ordering}
@@ -11,7 +11,7 @@ use Rattle.sqlite_value.specs.Order.{Row, row_cmp, value_cmp}
 use Rattle.sqlite_value.proofs.OrderLemmas.{value_cmp-Int, value_cmp-Text, then-Equal}
 use Rattle.bike_fields.specs.NameKinds.{kind_text}
 use Rattle.bike_fields.specs.declared.name_kind.NameKind.{NameKind}
-use Rattle.bike_operator.specs.Operator.{Key, NameKey, DockKey, key_of, name_key, dock_key, text_cmp, texts_cmp}
+use Rattle.bike_operator.specs.Operator.{NameKey, DockKey, name_key, dock_key, text_cmp, texts_cmp}
 use Rattle.bike_accepted.proofs.MapLemmas.{number_order, text_order, texts_order}
 use Rattle.bike_book.specs.Rows.{number_value, first_text, second_text, third_text, second_number}
 use Rattle.bike_book.proofs.MapRows.{StoresKeys}
@@ -38,22 +38,6 @@ text_key t = Text t ∷ []
 
 pub texts : StoresKeys text_cmp 1 text_key (λ _. Unit {0})
 texts = record { total = text_order.total; same = text_order.same; compares = λ a b _ _. then-Equal (value_cmp (Text a) (Text b)) ∙ value_cmp-Text a b }
-
--- ---- two texts
-
-pub record IsPair (k : Key) : Type 0 where
-  pub first : List ℕ
-  pub second : List ℕ
-  pub is : k ≡ key_of first second
-
-abbrev pub pair_key : Key → Row
-pair_key k = Text (first_text k) ∷ Text (second_text k) ∷ []
-
-pairs_compare : (a b c d : List ℕ) → row_cmp (Text a ∷ Text b ∷ []) (Text c ∷ Text d ∷ []) ≡ texts_cmp (key_of a b) (key_of c d)
-pairs_compare a b c d = rw (value_cmp-Text a c, value_cmp-Text b d) refl
-
-pub pairs : StoresKeys texts_cmp 2 pair_key IsPair
-pairs = record { total = texts_order.total; same = texts_order.same; compares = λ a b p q. rw (p.is, q.is) (pairs_compare p.first p.second q.first q.second) }
 
 -- ---- three texts
 

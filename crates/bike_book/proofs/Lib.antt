@@ -1,6 +1,11 @@
 pub mod MapRows
 pub mod Keys
 pub mod NumberRows
+pub mod TypeLists
+pub mod TypeLaws
+pub mod Decimals
+pub mod TypeReading
+pub mod TypeTexts
 pub mod ListingLemmas
 pub mod CatalogueBooks
 pub mod NameBooks

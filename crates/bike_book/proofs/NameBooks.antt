@@ -16,7 +16,8 @@ use Rattle.bike_fields.specs.Values.{SegmentRow}
 use Rattle.bike_operator.specs.Rows.{PlanRow, TypeRow, RegionRow, SystemRow}
 use Rattle.bike_operator.specs.Operator.{Station, text_cmp, name_key}
 use Rattle.bike_operator.specs.Steps.{found_changed, key_changed, system_named}
-use Rattle.bike_accepted.proofs.MapLemmas.{text_order, known_changed}
+use Rattle.bike_accepted.proofs.CatalogueLemmas.{same_docks, docks_changed}
+use Rattle.bike_accepted.proofs.MapLemmas.{text_order}
 use Rattle.bike_accepted.specs.declared.change.Change.TheVariants as change
 use Rattle.bike_accepted.specs.Effects.{after_change}
 use Rattle.bike_book.specs.Rows.{system_row}
@@ -25,8 +26,8 @@ use Rattle.bike_book.specs.Between.{counted_station, tables_between}
 use Rattle.bike_book.specs.ChangeLaws.{Everywhere, SetOwnNameLaw, SetFurtherNameLaw, RemoveNameLaw}
 use Rattle.bike_book.proofs.MapRows.{both, below_has, changed_entries, set_entries, removed_entries}
 use Rattle.bike_book.proofs.Keys.{texts, triples, name_triple}
-use Rattle.bike_book.proofs.ListingLemmas.{names_same, listing_same}
-use Rattle.bike_book.proofs.CatalogueBooks.{one_key, system_put, types_known, names_station, named_triple}
+use Rattle.bike_book.proofs.ListingLemmas.{listing_same}
+use Rattle.bike_book.proofs.CatalogueBooks.{one_key, system_put, named_triple}
 
 -- ---- the segments of a plan that changes, and keeps them
 
@@ -81,7 +82,7 @@ set_own_name s m listing named.System id name =
     let n = after_change (change.SetOwnName named.System id name) s in
     record {
       leads = λ i. record (tables_between s m) { system = system_name_put name.now s.system i };
-      listing = listing_same s n m (names_same s n refl refl) refl refl listing;
+      listing = listing_same s n m (same_docks s n refl) refl listing;
     }
 set_own_name s m listing named.Station id name =
     let n = after_change (change.SetOwnName named.Station id name) s in
@@ -89,7 +90,7 @@ set_own_name s m listing named.Station id name =
     let stations = changed_entries texts (counted_station s) (counted_station s) (λ e. refl) (λ e. refl) s.stations id.now tt _ f (λ v found. refl) (λ q y found. (tt, λ apart. refl)) in
     record {
       leads = λ i. record (tables_between s m) { stations = stations i };
-      listing = listing_same s n m (names_station s id.now f (λ x. omega arith)) refl refl listing;
+      listing = listing_same s n m (docks_changed s n id.now f (λ x. omega arith) refl) refl listing;
     }
 set_own_name s m listing named.«Type» id name =
     let n = after_change (change.SetOwnName named.«Type» id name) s in
@@ -97,7 +98,7 @@ set_own_name s m listing named.«Type» id name =
     let types = changed_entries texts stored_type stored_type (λ e. refl) (λ e. refl) s.types id.now tt _ f (λ v found. refl) (λ q y found. (tt, λ apart. refl)) in
     record {
       leads = λ i. record (tables_between s m) { types = types i };
-      listing = listing_same s n m (types_known s n refl (λ q h. known_changed text_order s.types id.now f q h)) refl refl listing;
+      listing = listing_same s n m (same_docks s n refl) refl listing;
     }
 set_own_name s m listing named.Plan id name =
     let n = after_change (change.SetOwnName named.Plan id name) s in
@@ -106,7 +107,7 @@ set_own_name s m listing named.Plan id name =
     let segments = sym (segments_kept s.plans id.now f (λ p. refl)) in
     record {
       leads = λ i. record (tables_between s m) { plans = plans i; segments = segments i };
-      listing = listing_same s n m (names_same s n refl refl) refl refl listing;
+      listing = listing_same s n m (same_docks s n refl) refl listing;
     }
 set_own_name s m listing named.Description id name =
     let n = after_change (change.SetOwnName named.Description id name) s in
@@ -115,13 +116,13 @@ set_own_name s m listing named.Description id name =
     let segments = sym (segments_kept s.plans id.now f (λ p. refl)) in
     record {
       leads = λ i. record (tables_between s m) { plans = plans i; segments = segments i };
-      listing = listing_same s n m (names_same s n refl refl) refl refl listing;
+      listing = listing_same s n m (same_docks s n refl) refl listing;
     }
 set_own_name s m listing named.Region id name =
     let n = after_change (change.SetOwnName named.Region id name) s in
     let f = λ (r : RegionRow). record r { name = name.now } in
     let regions = changed_entries texts stored_region stored_region (λ e. refl) (λ e. refl) s.regions id.now tt _ f (λ v found. refl) (λ q y found. (tt, λ apart. refl)) in
-    record { leads = λ i. record (tables_between s m) { regions = regions i }; listing = listing_same s n m (names_same s n refl refl) refl refl listing }
+    record { leads = λ i. record (tables_between s m) { regions = regions i }; listing = listing_same s n m (same_docks s n refl) refl listing }
 
 -- ---- a name in a further language
 
@@ -138,7 +139,7 @@ set_further_name s m listing kind id language name are there =
     let names =
     set_entries triples stored_name stored_name (λ e. refl) (λ e. refl) s.more_names key (name_triple kind id.now language.now) _ was.0 name.now was.1 refl
     (λ q y found. (named_triple s are q y found, λ apart. refl)) in
-    record { leads = λ i. record (tables_between s m) { more_names = names i }; listing = listing_same s n m (names_same s n refl refl) refl refl listing }
+    record { leads = λ i. record (tables_between s m) { more_names = names i }; listing = listing_same s n m (same_docks s n refl) refl listing }
 
 pub remove_name : Everywhere RemoveNameLaw
 remove_name s m listing kind id language are =
@@ -146,4 +147,4 @@ remove_name s m listing kind id language are =
     let names =
     removed_entries triples stored_name (λ e. refl) s.more_names (name_key kind id.now language.now) (name_triple kind id.now language.now)
     (λ q y found. named_triple s are q y found) in
-    record { leads = λ i. record (tables_between s m) { more_names = names i }; listing = listing_same s n m (names_same s n refl refl) refl refl listing }
+    record { leads = λ i. record (tables_between s m) { more_names = names i }; listing = listing_same s n m (same_docks s n refl) refl listing }

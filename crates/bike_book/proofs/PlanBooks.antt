@@ -13,6 +13,7 @@ use Rattle.bike_sql.specs.View.{by_key, put_row_by}
 use Rattle.bike_fields.specs.Values.{SegmentRow}
 use Rattle.bike_operator.specs.Rows.{PlanRow}
 use Rattle.bike_operator.specs.Operator.{text_cmp}
+use Rattle.bike_accepted.proofs.CatalogueLemmas.{same_docks}
 use Rattle.bike_accepted.proofs.MapLemmas.{text_order}
 use Rattle.bike_accepted.specs.declared.change.Change.TheVariants as change
 use Rattle.bike_accepted.specs.Effects.{after_change}
@@ -24,7 +25,7 @@ use Rattle.bike_book.specs.Between.{tables_between}
 use Rattle.bike_book.specs.ChangeLaws.{Everywhere, AddPlanLaw, segment_writes}
 use Rattle.bike_book.proofs.MapRows.{both, below_has, put_entries}
 use Rattle.bike_book.proofs.Keys.{texts, value_cmp-number_value}
-use Rattle.bike_book.proofs.ListingLemmas.{names_same, listing_same}
+use Rattle.bike_book.proofs.ListingLemmas.{listing_same}
 
 -- ---- segments by their keys: the plan's id, then the place
 
@@ -168,5 +169,5 @@ add_plan s m listing p free =
       leads =
           segments_written id 1 p.now.segments with_plan
           ∙ (λ i. record (tables_between s m) { plans = plans i; segments = segments i });
-      listing = listing_same s n m (names_same s n refl refl) refl refl listing;
+      listing = listing_same s n m (same_docks s n refl) refl listing;
     }

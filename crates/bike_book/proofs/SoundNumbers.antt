@@ -4,6 +4,7 @@ use Rattle.std.specs.Prelude.{◌==◌}
 use Rattle.std.specs.Str.{bytes_eq}
 use Rattle.std.specs.FinMap as fin
 use Rattle.std.proofs.lemmas.Int.{ints}
+use Rattle.std.proofs.lemmas.Bool.{and_right}
 use Rattle.std.proofs.lemmas.Bool.Decides.{eqb_tells}
 use Rattle.std.proofs.lemmas.Slice.Eq.{bytes_eq-Decides}
 use Rattle.bike_ledger.specs.Entries.{Entry}
@@ -14,12 +15,14 @@ use Rattle.bike_operator.specs.declared.records.Place.{Place}
 use Rattle.bike_operator.specs.declared.records.Place.TheVariants as place
 use Rattle.bike_operator.specs.declared.records.Bike.{Bike}
 use Rattle.bike_operator.specs.Operator.{Operator, Station, dock_key, item_at}
-use Rattle.bike_operator.specs.Counts.{count, is_broken, is_working_dock, docks_up_to}
+use Rattle.bike_operator.specs.Counts.{count, is_at, is_broken, is_available, is_working_dock, docks_up_to}
 use Rattle.bike_operator.specs.Sound.{HasDock, IsSound, IsPlace, IsBooking, IsOfRental}
 use Rattle.bike_accepted.proofs.ItemLemmas.{number_within}
 use Rattle.bike_accepted.proofs.MapLemmas.{number_order}
 use Rattle.bike_accepted.proofs.CountLemmas.{none_counted}
-use Rattle.bike_book.specs.NotThere.{WhereSound, NoRefundsYet, NoBalanceYet, NoneDockedYet, NoneBrokenYet}
+use Rattle.bike_accepted.specs.Numbers.{is_available_of, is_disabled_of}
+use Rattle.bike_book.specs.NotThere.{WhereSound, NoRefundsYet, NoBalanceYet, NoneDockedYet, NoTypesYet, NoneBrokenYet}
+use Rattle.bike_book.proofs.TypeLaws.{not_working, not_available, no_types}
 
 -- a sum over entries of which each adds nothing
 nothing_added : (figure : Entry → ℤ) (es : List Entry) → ((n : ℕ) (e : Entry) → item_at n es ≡ Some e → figure e ≡ pos 0) → total figure es ≡ pos 0
@@ -74,16 +77,26 @@ module _ (s : Operator) (sound : IsSound s) where
       let both : ◌≡◌ {A = Option Station} None (Some has.row) = sym none ∙ there in
       absurd cc
 
+  elsewhere : (id : List ℕ) → fin.get s.stations id ≡ None → (k : ℕ) (b : Bike) → fin.get s.bikes k ≡ Some b → is_at id b.place ≡ false
+  elsewhere id none k b found = go b.place (sound.bikes.bikes k b found).placed where
+    go : (p : Place) → IsPlace s k b.type_id p → is_at id p ≡ false
+    go (place.Dock at dock) has = by (bytes_eq at id) refl where
+      by : (c : Bool) → bytes_eq at id ≡ c → c ≡ false
+      by true same = absurd (no_dock id none at dock has ((bytes_eq-Decides at id).0 same))
+      by false same = refl
+    go (place.Rental rental) has = refl
+    go (place.Truck truck order) has = refl
+    go place.Depot has = refl
+
   docked : NoneDockedYet s
-  docked id none = none_counted number_order (λ (b : Bike). is_working_dock s id b.place) s.bikes (λ k b found. elsewhere k b.type_id b.place (sound.bikes.bikes k b found).placed) where
-    elsewhere : (k : ℕ) (kind : List ℕ) (p : Place) → IsPlace s k kind p → is_working_dock s id p ≡ false
-    elsewhere k kind (place.Dock at dock) has = go (bytes_eq at id) refl where
-      go : (c : Bool) → bytes_eq at id ≡ c → (c && not (is_broken s id dock)) ≡ false
-      go true same = absurd (no_dock id none at dock has ((bytes_eq-Decides at id).0 same))
-      go false same = refl
-    elsewhere k kind (place.Rental rental) has = refl
-    elsewhere k kind (place.Truck truck order) has = refl
-    elsewhere k kind place.Depot has = refl
+  docked id none = none_counted number_order (λ (b : Bike). is_working_dock s id b.place) s.bikes (λ k b found. not_working s id b.place (elsewhere id none k b found))
+
+  types : NoTypesYet s
+  types id none = no_types s id (λ t. (
+    none_counted number_order (is_available_of s id t) s.bikes (λ k b found. and_right (bytes_eq b.type_id t) (is_available s id b) (not_available s id b (elsewhere id none k b found))),
+    none_counted number_order (is_disabled_of s id t) s.bikes (λ k b found.
+        and_right (bytes_eq b.type_id t) (is_at id b.place && not (is_available s id b)) (ap (λ (c : Bool). c && not (is_available s id b)) (elsewhere id none k b found))),
+  ))
 
   broken : NoneBrokenYet s
   broken id docks none = none_filtered (λ n. is_broken s id n) (docks_up_to docks) (λ n. go n (is_broken s id n) refl) where
@@ -103,6 +116,9 @@ no_balance = balance
 
 pub none_docked : WhereSound NoneDockedYet
 none_docked = docked
+
+pub no_types_yet : WhereSound NoTypesYet
+no_types_yet = types
 
 pub none_broken : WhereSound NoneBrokenYet
 none_broken = broken

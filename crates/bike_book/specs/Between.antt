@@ -8,6 +8,7 @@ use Rattle.bike_accepted.specs.Numbers.{occupied_docks}
 use Rattle.bike_book.specs.declared.row_change.RowChange.{RowChange}
 use Rattle.bike_book.specs.Tables.{Tables}
 use Rattle.bike_book.specs.Rows.{station_row}
+use Rattle.bike_book.specs.ByType.{types_at, by_type_text}
 use Rattle.bike_book.specs.Stored.{Listed, IsListing, tables_for}
 use Rattle.bike_book.specs.Writes.{RowWrite, writes_of, tables_after_all}
 
@@ -17,7 +18,9 @@ abbrev pub docks_left : Operator → List ℕ → ℕ → ℤ
 docks_left s station docks = pos docks -ℤ pos (occupied_docks s station + docks_broken s station docks)
 
 abbrev pub counted_station : Operator → List ℕ × Station → Row
-counted_station s e = station_row e.0 e.1 (docks_left s e.0 e.1.row.docks) (docks_broken s e.0 e.1.row.docks)
+counted_station s e =
+    station_row e.0 e.1 (docks_left s e.0 e.1.row.docks) (docks_broken s e.0 e.1.row.docks)
+    (by_type_text (types_at s e.0))
 
 -- An operator need not be sound between two changes of a request: then
 -- its tables have the docks left in place of the docks available.

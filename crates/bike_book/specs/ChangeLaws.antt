@@ -17,6 +17,7 @@ use Rattle.bike_accepted.specs.Effects.{after_change}
 use Rattle.bike_book.specs.Tables.{Segments}
 use Rattle.bike_book.specs.Rows.{segment_row}
 use Rattle.bike_book.specs.Stored.{Listed, IsListing}
+use Rattle.bike_book.specs.ByType.{types_at}
 use Rattle.bike_book.specs.Writes.{RowWrite, Add, record_write}
 use Rattle.bike_book.specs.Between.{Leads}
 
@@ -69,6 +70,7 @@ module _ (s : Operator) (m : Listed) where
   AddStationLaw =
       (x : Bor StationRow) (reported : ℕ) → fin.get s.stations x.now.station_id ≡ None
       → occupied_docks s x.now.station_id ≡ 0 → docks_broken s x.now.station_id x.now.docks ≡ 0
+      → types_at s x.now.station_id ≡ []
       → BooksChange (change.AddStation x reported)
 
   -- the flags of a station, where it is there, and its report

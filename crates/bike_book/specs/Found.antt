@@ -15,16 +15,16 @@ use Rattle.bike_ledger.specs.Ledger.{balance_of, cash_of, revenue_of, refunded_o
 use Rattle.bike_operator.specs.declared.records.Rental.{Rental}
 use Rattle.bike_operator.specs.Operator.{Operator, AcceptedRequest, item_numbered, key_of, name_key, dock_key, kept_under}
 use Rattle.bike_operator.specs.Counts.{count, is_on_truck, is_for_order, docked_at, is_broken, is_open, is_riding}
-use Rattle.bike_operator.specs.Counts.{open_rentals, available_of, docks_available, docks_broken}
+use Rattle.bike_operator.specs.Counts.{open_rentals, docks_available, docks_broken}
 use Rattle.bike_operator.specs.Names.{further_names}
 use Rattle.bike_operator.specs.Sound.{IsSound}
 use Rattle.bike_book.specs.declared.version.TheConstants.{NEWEST}
-use Rattle.bike_accepted.specs.Numbers.{disabled_of}
+use Rattle.bike_book.specs.ByType.{types_at, by_type_text}
 use Rattle.bike_book.specs.Tables.{TableName, rows_in, keys_of, Meta, System, Plans, Segments, Types, Regions, Stations}
-use Rattle.bike_book.specs.Tables.{Docks, Bikes, Trucks, Riders, Rentals, Orders, Entries, History, Counts, MoreNames}
+use Rattle.bike_book.specs.Tables.{Docks, Bikes, Trucks, Riders, Rentals, Orders, Entries, History, MoreNames}
 use Rattle.bike_book.specs.Rows.{number_value, meta_row, system_row, plan_row, type_row, region_row, station_row}
 use Rattle.bike_book.specs.Rows.{dock_row, bike_row, truck_row, rider_row, rental_row, order_row, entry_row}
-use Rattle.bike_book.specs.Rows.{count_row, name_row}
+use Rattle.bike_book.specs.Rows.{name_row}
 use Rattle.bike_book.specs.Stored.{Listed, IsListing, with_numbers, segment_rows, stored_bike, stored_rental}
 use Rattle.bike_book.specs.Stored.{stored_request, tables_for}
 
@@ -51,8 +51,8 @@ pub record FoundByKey (s : Operator) (m : Listed) : Type 0 where
   pub types : (id : List ℕ) → row_under s m Types (Text id ∷ []) ≡ option_map (type_row id) (fin.get s.types id)
   pub regions : (id : List ℕ) → row_under s m Regions (Text id ∷ []) ≡ option_map (region_row id) (fin.get s.regions id)
   pub stations : (id : List ℕ) → row_under s m Stations (Text id ∷ [])
-      ≡ option_map (λ x. station_row id x (pos (docks_available s id x.row.docks)) (docks_broken s id x.row.docks))
-      (fin.get s.stations id)
+      ≡ option_map (λ x. station_row id x (pos (docks_available s id x.row.docks)) (docks_broken s id x.row.docks)
+      (by_type_text (types_at s id))) (fin.get s.stations id)
   pub bikes : (bike : ℕ) → row_under s m Bikes (number_value bike ∷ [])
       ≡ option_map (bike_row bike) (fin.get s.bikes bike)
   pub trucks : (truck : ℕ) → row_under s m Trucks (number_value truck ∷ [])
@@ -69,8 +69,7 @@ pub record FoundByKey (s : Operator) (m : Listed) : Type 0 where
       → row_under s m MoreNames (Text (kind_text kind) ∷ Text id ∷ Text language ∷ [])
       ≡ option_map (name_row (name_key kind id language)) (fin.get s.more_names (name_key kind id language))
 
--- A dock has a row where it is listed, and works where it has none. Counts
--- have a row where they are listed, and are 0 where they have none.
+-- A dock has a row where it is listed, and works where it has none.
 pub record FoundListed (s : Operator) (m : Listed) : Type 0 where
   pub docks : (station : List ℕ) (dock : ℕ) → row_under s m Docks (Text station ∷ number_value dock ∷ [])
       ≡ option_map (λ listed. dock_row station dock (is_broken s station dock))
@@ -80,14 +79,6 @@ pub record FoundListed (s : Operator) (m : Listed) : Type 0 where
       ≡ fin.contains_key m.docks (dock_key station dock)
   pub works : (station : List ℕ) (dock : ℕ) → fin.get m.docks (dock_key station dock) ≡ None
       → is_broken s station dock ≡ false
-  pub counts : (station type_id : List ℕ) → row_under s m Counts (Text station ∷ Text type_id ∷ [])
-      ≡ option_map (λ listed. count_row station type_id (available_of s station type_id)
-      (disabled_of s station type_id)) (fin.get m.counts (key_of station type_id))
-  pub count_listed : (station type_id : List ℕ)
-      → is_some (row_under s m Counts (Text station ∷ Text type_id ∷ []))
-      ≡ fin.contains_key m.counts (key_of station type_id)
-  pub none : (station type_id : List ℕ) → fin.get m.counts (key_of station type_id) ≡ None
-      → (available_of s station type_id ≡ 0) × (disabled_of s station type_id ≡ 0)
 
 -- ---- by other columns
 

@@ -1,4 +1,6 @@
 pub mod Tables
+pub mod ByType
+pub mod TypeTexts
 pub mod Rows
 pub mod Numbers
 pub mod Stored

@@ -63,12 +63,13 @@ abbrev pub region_row : List ℕ → RegionRow → Row
 region_row id r = Text id ∷ Text r.name ∷ []
 
 -- station_id, name, lat, lon (microdegrees), docks, installed, renting,
--- returning, reported (seconds), free, broken, region_id (or NULL)
-abbrev pub station_row : List ℕ → Station → ℤ → ℕ → Row
-station_row id x free broken =
+-- returning, reported (seconds), free, broken, region_id (or NULL), by_type (the text of its bicycles by type)
+abbrev pub station_row : List ℕ → Station → ℤ → ℕ → List ℕ → Row
+station_row id x free broken by_type =
     Text id ∷ Text x.row.name ∷ Int x.row.lat ∷ Int x.row.lon ∷ number_value x.row.docks ∷ Int (truth x.is_installed)
     ∷ Int (truth x.is_renting) ∷ Int (truth x.is_returning)
-    ∷ number_value x.reported ∷ Int free ∷ number_value broken ∷ or_null Text x.region ∷ []
+    ∷ number_value x.reported ∷ Int free ∷ number_value broken ∷ or_null Text x.region
+    ∷ Text by_type ∷ []
 
 -- station_id, dock, broken
 abbrev pub dock_row : List ℕ → ℕ → Bool → Row
@@ -138,11 +139,6 @@ entry_row entry e =
 abbrev pub history_row : ℕ → ℕ → List ℕ → List ℕ → List ℕ → List ℕ → Row
 history_row number moment caller key command reply =
     number_value number ∷ number_value moment ∷ Text caller ∷ Text key ∷ Text command ∷ Text reply ∷ []
-
--- station_id, type_id, available, disabled
-abbrev pub count_row : List ℕ → List ℕ → ℕ → ℕ → Row
-count_row station type_id available disabled =
-    Text station ∷ Text type_id ∷ number_value available ∷ number_value disabled ∷ []
 
 -- ---- the parts of a key of two, or of three
 

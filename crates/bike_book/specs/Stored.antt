@@ -1,6 +1,6 @@
 -- The tables of an operator: for each one the row of each record,
 -- in the order of its key, stored numbers by their definitions.
-use Rattle.std.specs.Prelude.{◌≡◌, ℕ, pos, suc, List, [], ◌∷◌, ◌++◌, map, Option, Some, None, true, false}
+use Rattle.std.specs.Prelude.{◌≡◌, ℕ, pos, suc, List, [], ◌∷◌, ◌++◌, map, Option, Some, None, true}
 use Rattle.std.specs.FinMap as fin
 use Rattle.std.specs.FinMap.{FinMap}
 use Rattle.std.specs.FinSet.{FinSet, contains}
@@ -15,16 +15,16 @@ use Rattle.bike_ledger.specs.Ledger.{balance_of, cash_of, revenue_of, refunded_o
 use Rattle.bike_operator.specs.declared.records.Bike.{Bike}
 use Rattle.bike_operator.specs.declared.records.Rental.{Rental}
 use Rattle.bike_operator.specs.declared.records.Order.{Order}
-use Rattle.bike_operator.specs.Operator.{Operator, Station, Truck, Rider, Key, NameKey, DockKey, texts_cmp}
-use Rattle.bike_operator.specs.Operator.{AcceptedRequest, key_of, dock_key}
-use Rattle.bike_operator.specs.Counts.{available_of, docks_available, docks_broken}
+use Rattle.bike_operator.specs.Operator.{Operator, Station, Truck, Rider, NameKey, DockKey, texts_cmp}
+use Rattle.bike_operator.specs.Operator.{AcceptedRequest, dock_key}
+use Rattle.bike_operator.specs.Counts.{docks_available, docks_broken}
 use Rattle.bike_operator.specs.Sound.{HasDock}
 use Rattle.bike_book.specs.declared.version.TheConstants.{NEWEST}
-use Rattle.bike_accepted.specs.Numbers.{disabled_of}
+use Rattle.bike_book.specs.ByType.{types_at, by_type_text}
 use Rattle.bike_book.specs.Tables.{Tables}
 use Rattle.bike_book.specs.Rows.{meta_row, system_row, plan_row, segment_row, type_row, region_row, station_row}
 use Rattle.bike_book.specs.Rows.{dock_row, bike_row, truck_row, rider_row, rental_row, order_row, entry_row}
-use Rattle.bike_book.specs.Rows.{history_row, count_row, name_row, first_text, second_text, second_number}
+use Rattle.bike_book.specs.Rows.{history_row, name_row, first_text, second_number}
 
 -- ---- numbered records with their numbers, from 1
 
@@ -46,9 +46,11 @@ stored_type e = type_row e.0 e.1
 abbrev pub stored_region : List ℕ × RegionRow → Row
 stored_region e = region_row e.0 e.1
 
--- with its docks that are available and those that are broken, as GBFS counts them
+-- with its docks that are available and those that are broken, and its bicycles by type, as GBFS counts them
 abbrev pub stored_station : Operator → List ℕ × Station → Row
-stored_station s e = station_row e.0 e.1 (pos (docks_available s e.0 e.1.row.docks)) (docks_broken s e.0 e.1.row.docks)
+stored_station s e =
+    station_row e.0 e.1 (pos (docks_available s e.0 e.1.row.docks)) (docks_broken s e.0 e.1.row.docks)
+    (by_type_text (types_at s e.0))
 
 abbrev pub stored_dock : FinSet texts_cmp → DockKey × Unit {0} → Row
 stored_dock broken e = dock_row (first_text e.0) (second_number e.0) (contains broken e.0)
@@ -78,12 +80,6 @@ stored_request e =
     history_row e.0 e.1.moment (caller_text e.1.request.caller) e.1.request.key (text_of e.1.request.command)
     (reply_text e.1.reply)
 
--- a station's bicycles of a type, those that can be rented and those that can't
-abbrev pub stored_count : Operator → Key × Unit {0} → Row
-stored_count s e =
-    count_row (first_text e.0) (second_text e.0) (available_of s (first_text e.0) (second_text e.0))
-    (disabled_of s (first_text e.0) (second_text e.0))
-
 abbrev pub stored_name : NameKey × List ℕ → Row
 stored_name e = name_row e.0 e.1
 
@@ -105,16 +101,14 @@ abbrev pub plans_segments : List (List ℕ × PlanRow) → List Row
 plans_segments [] = []
 plans_segments (e ∷ es) = segment_rows e.0 1 e.1.segments ++ plans_segments es
 
--- Which docks and which pairs of station and type have a row. A dock that works
--- needs none, nor do counts of 0 and 0; none of these rows is ever deleted.
+-- Which docks have a row. A dock that works needs none; none of these rows is ever deleted.
 pub record Listed : Type 0 where
   pub docks : FinMap texts_cmp (Unit {0})
-  pub counts : FinMap texts_cmp (Unit {0})
 
 abbrev pub none_listed : Listed
-none_listed = record { docks = fin.empty; counts = fin.empty }
+none_listed = record { docks = fin.empty }
 
--- THE TABLES OF AN OPERATOR, with a row for each of these docks and pairs
+-- THE TABLES OF AN OPERATOR, with a row for each of these docks
 abbrev pub tables_for : Operator → Listed → Tables
 tables_for s m = record {
   meta = meta_rows s;
@@ -132,7 +126,6 @@ tables_for s m = record {
   orders = map stored_order (with_numbers s.orders);
   entries = map stored_entry (with_numbers s.entries);
   history = map stored_request (with_numbers s.history);
-  counts = map (stored_count s) (fin.entries m.counts);
   more_names = map stored_name (fin.entries s.more_names);
 }
 
@@ -143,18 +136,7 @@ pub record IsDockKey (s : Operator) (key : DockKey) : Type 0 where
   pub key_is : key ≡ dock_key station dock
   pub has : HasDock s station dock
 
--- the key is that of a station and a type
-pub record IsCountKey (s : Operator) (key : Key) : Type 0 where
-  pub station : List ℕ
-  pub type_id : List ℕ
-  pub key_is : key ≡ key_of station type_id
-  pub has_station : fin.contains_key s.stations station ≡ true
-  pub has_type : fin.contains_key s.types type_id ≡ true
-
--- What is listed is there, and what isn't listed works, or counts 0 and 0.
+-- What is listed is there, and what isn't listed works.
 pub record IsListing (s : Operator) (m : Listed) : Type 0 where
   pub docks : (key : DockKey) → fin.contains_key m.docks key ≡ true → IsDockKey s key
   pub marked : (key : DockKey) → contains s.broken key ≡ true → fin.contains_key m.docks key ≡ true
-  pub counts : (key : Key) → fin.contains_key m.counts key ≡ true → IsCountKey s key
-  pub counted : (station type_id : List ℕ) → fin.contains_key m.counts (key_of station type_id) ≡ false
-      → (available_of s station type_id ≡ 0) × (disabled_of s station type_id ≡ 0)

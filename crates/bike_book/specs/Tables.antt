@@ -18,7 +18,6 @@ pub data TableName : Type 0 where
   Orders : TableName
   Entries : TableName
   History : TableName
-  Counts : TableName
   MoreNames : TableName
 
 -- the place of the table in the order of the schema
@@ -38,8 +37,7 @@ table_place Rentals = 11
 table_place Orders = 12
 table_place Entries = 13
 table_place History = 14
-table_place Counts = 15
-table_place MoreNames = 16
+table_place MoreNames = 15
 
 abbrev pub is_table : TableName → TableName → Bool
 is_table a b = table_place a == table_place b
@@ -61,7 +59,6 @@ keys_of Rentals = 1
 keys_of Orders = 1
 keys_of Entries = 1
 keys_of History = 1
-keys_of Counts = 2
 keys_of MoreNames = 3
 
 -- the rows of each table
@@ -81,7 +78,6 @@ pub record Tables : Type 0 where
   pub orders : List Row
   pub entries : List Row
   pub history : List Row
-  pub counts : List Row
   pub more_names : List Row
 
 abbrev pub rows_in : Tables → TableName → List Row
@@ -100,7 +96,6 @@ rows_in t Rentals = t.rentals
 rows_in t Orders = t.orders
 rows_in t Entries = t.entries
 rows_in t History = t.history
-rows_in t Counts = t.counts
 rows_in t MoreNames = t.more_names
 
 -- the tables whose rows a function of the name gives
@@ -121,7 +116,6 @@ tables_by rows = record {
   orders = rows Orders;
   entries = rows Entries;
   history = rows History;
-  counts = rows Counts;
   more_names = rows MoreNames;
 }
 

@@ -1,5 +1,5 @@
 -- What row changes do to the tables.
-use Rattle.std.specs.Prelude.{◌≡◌, ℕ, pos, ◌+◌, true, false, List, [], ◌∷◌, Some, None}
+use Rattle.std.specs.Prelude.{ℕ, pos, ◌+◌, true, false, List, [], ◌∷◌, Some, None}
 use Rattle.sqlite_value.specs.declared.value.Value.{Value}
 use Rattle.sqlite_value.specs.declared.value.Value.TheVariants.{Int, Text}
 use Rattle.sqlite_value.specs.Order.{Row}
@@ -17,12 +17,13 @@ use Rattle.bike_accepted.specs.declared.change.Change.{Change}
 use Rattle.bike_accepted.specs.declared.change.Change.TheVariants as change
 use Rattle.bike_book.specs.declared.row_change.RowChange.{RowChange}
 use Rattle.bike_book.specs.declared.row_change.RowChange.TheVariants as row
-use Rattle.bike_book.specs.Tables.{TableName, Tables, is_table, rows_in, with_rows, keys_of, Meta, System, Plans}
+use Rattle.bike_book.specs.Tables.{TableName, Tables, rows_in, with_rows, keys_of, Meta, System, Plans}
 use Rattle.bike_book.specs.Tables.{Segments, Types, Regions, Stations, Docks, Bikes, Trucks, Riders, Rentals, Orders}
-use Rattle.bike_book.specs.Tables.{Entries, History, Counts, MoreNames}
+use Rattle.bike_book.specs.Tables.{Entries, History, MoreNames}
 use Rattle.bike_book.specs.Rows.{truth, number_value, state_number, place_columns, closing_columns, system_row}
 use Rattle.bike_book.specs.Rows.{plan_row, segment_row, type_row, region_row, station_row, dock_row, bike_row}
-use Rattle.bike_book.specs.Rows.{truck_row, rider_row, rental_row, order_row, entry_row, history_row, count_row, name_row}
+use Rattle.bike_book.specs.Rows.{truck_row, rider_row, rental_row, order_row, entry_row, history_row, name_row}
+use Rattle.bike_book.specs.ByType.{by_type_text, with_counts}
 
 -- columns, counted from 0, and what they are set to
 abbrev pub Columns : Type 0
@@ -79,7 +80,7 @@ record_write (change.AddPlan p) = Add Plans (plan_row p.now.plan_id p.now)
 record_write (change.AddType t) = Add Types (type_row t.now.type_id t.now)
 record_write (change.SetPlan type_id plan) = Set Types (Text type_id.now ∷ []) ((5, Text plan.now) ∷ [])
 record_write (change.AddStation x reported) =
-    Add Stations (station_row x.now.station_id (new_station x.now reported) (pos x.now.docks) 0)
+    Add Stations (station_row x.now.station_id (new_station x.now reported) (pos x.now.docks) 0 (by_type_text []))
 record_write (change.SetStation station installed renting returning reported) =
     Set Stations (Text station.now ∷ []) ((5, Int (truth installed)) ∷ (6, Int (truth renting))
     ∷ (7, Int (truth returning)) ∷ (8, number_value reported) ∷ [])
@@ -137,6 +138,10 @@ write_of (row.SetDockCount station docks free) =
 write_of (row.SetDocksReported station free broken reported) =
     Set Stations (Text station.now ∷ [])
     ((9, number_value free) ∷ (10, number_value broken) ∷ (8, number_value reported) ∷ [])
+write_of (row.SetBikesReported station free broken by_type type_id counts reported) =
+    Set Stations (Text station.now ∷ [])
+    ((9, number_value free) ∷ (10, number_value broken)
+    ∷ (12, Text (by_type_text (with_counts type_id.now counts by_type.now))) ∷ (8, number_value reported) ∷ [])
 write_of (row.AddDock station dock broken) = Add Docks (dock_row station.now dock broken)
 write_of (row.SetDock station dock broken) =
     Set Docks (Text station.now ∷ number_value dock ∷ []) ((2, Int (truth broken)) ∷ [])
@@ -147,11 +152,6 @@ write_of (row.SetRefunded rental refunded) = Set Rentals (number_value rental �
 write_of (row.AddEntry e) = Add Entries (entry_row e.now.number e.now)
 write_of (row.AddRequest number moment caller key command reply) =
     Add History (history_row number moment caller.now key.now command.now reply.now)
-write_of (row.AddCount station type_id available disabled) =
-    Add Counts (count_row station.now type_id.now available disabled)
-write_of (row.SetCount station type_id available disabled) =
-    Set Counts (Text station.now ∷ Text type_id.now ∷ [])
-    ((2, number_value available) ∷ (3, number_value disabled) ∷ [])
 write_of (row.SetMeta now cash revenue) =
     Set Meta (Int (pos 1) ∷ []) ((3, number_value now) ∷ (4, Int cash) ∷ (5, Int revenue) ∷ [])
 

@@ -144,7 +144,8 @@ pub mod regions {
     pub const COLUMNS: usize = crate::table!(count regions);
 }
 
-/// The columns of `stations_3`, and of its earlier tables: the first of these ends before the region.
+/// The columns of `stations_4`, and of its earlier tables, which end before the bicycles by type: the first of these
+/// before the region.
 pub mod stations {
     /// The station's identifier.
     pub const STATION_ID: usize = 0;
@@ -181,6 +182,9 @@ pub mod stations {
 
     /// NULL where it stands in no region.
     pub const REGION_ID: usize = 11;
+
+    /// Its bicycles by type, as a text.
+    pub const BY_TYPE: usize = 12;
 
     /// How many there are.
     pub const COLUMNS: usize = crate::table!(count stations);
@@ -370,24 +374,6 @@ pub mod history {
 
     /// How many there are.
     pub const COLUMNS: usize = crate::table!(count history);
-}
-
-/// The columns of `counts`.
-pub mod counts {
-    /// The station's identifier.
-    pub const STATION_ID: usize = 0;
-
-    /// The vehicle type's identifier.
-    pub const TYPE_ID: usize = 1;
-
-    /// How many bicycles can be rented.
-    pub const AVAILABLE: usize = 2;
-
-    /// How many bicycles can't.
-    pub const DISABLED: usize = 3;
-
-    /// How many there are.
-    pub const COLUMNS: usize = crate::table!(count counts);
 }
 
 /// The columns of `more_names`.

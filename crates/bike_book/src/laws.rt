@@ -1,5 +1,6 @@
 //! The laws: which row changes book each record that an accepted command puts or adds, and the close of its request.
 
+ghost use Rattle.bike_book.specs.ByType.{CountsLaw, SameTypesLaw, ChangedTypeLaw, NoTypesLaw, IdentsLaw, ReadsBack};
 ghost use Rattle.bike_book.specs.ChangeLaws.{Everywhere};
 ghost use Rattle.bike_book.specs.ChangeLaws.{SetSystemLaw, AddPlanLaw, AddTypeLaw, SetPlanLaw, AddRegionLaw};
 ghost use Rattle.bike_book.specs.ChangeLaws.{AddStationLaw, SetStationLaw, SetRegionLaw, AddNameLaw, SetOwnNameLaw};
@@ -8,7 +9,8 @@ ghost use Rattle.bike_book.specs.ChangeLaws.{AddBikeLaw, AddTruckLaw, AddRiderLa
 ghost use Rattle.bike_book.specs.ChangeLaws.{AddRentalLaw, CloseRentalLaw, AddOrderLaw, SetOrderLaw};
 ghost use Rattle.bike_book.specs.CloseLaws.{AtEachClose, QuietCloseLaw, EntryCloseLaw, RefundCloseLaw};
 ghost use Rattle.bike_book.specs.Found.{WhereListed, FoundByKey, FoundListed, FoundByColumns, FoundNumbers};
-ghost use Rattle.bike_book.specs.NotThere.{WhereSound, NoRefundsYet, NoBalanceYet, NoneDockedYet, NoneBrokenYet};
+ghost use Rattle.bike_book.specs.NotThere.{WhereSound, NoRefundsYet, NoBalanceYet, NoneDockedYet, NoTypesYet};
+ghost use Rattle.bike_book.specs.NotThere.{NoneBrokenYet};
 
 /// The laws of the changes of the catalogue.
 pub fn books_catalogue()
@@ -59,6 +61,7 @@ pub fn starts_at_zero()
     ensures refunds { WhereSound NoRefundsYet }
     ensures balance { WhereSound NoBalanceYet }
     ensures docked { WhereSound NoneDockedYet }
+    ensures types { WhereSound NoTypesYet }
     ensures broken { WhereSound NoneBrokenYet }
 {}
 
@@ -68,4 +71,17 @@ pub fn finds_rows()
     ensures listed { WhereListed FoundListed }
     ensures by_columns { WhereListed FoundByColumns }
     ensures numbers { WhereListed FoundNumbers }
+{}
+
+/// What is told of a station's bicycles by type: their counts are the operator's, and the types change with these. What
+/// is read of their text are the types.
+pub fn counts_by_type()
+    // The counts at a station, and when its types are the same, change by one, or are none.
+    ensures counts { CountsLaw }
+    ensures same { SameTypesLaw }
+    ensures changed { ChangedTypeLaw }
+    ensures none { NoTypesLaw }
+    // The text of the types, and what is read of it.
+    ensures idents { IdentsLaw }
+    ensures reads { ReadsBack }
 {}

@@ -5,17 +5,22 @@
 //! one operator to those of the next.
 #![tactic(auto)]
 
+mod by_type;
 pub mod columns;
 mod laws;
 mod requests;
 mod row_change;
 mod tables;
+mod type_texts;
 mod version;
 
 pub use bike_operator::BikeState;
+pub use by_type::{CountedType, TypeCounts, counts_of, set_counts};
 pub use laws::{
-    books_catalogue, books_close, books_fleet, books_rentals, finds_rows, starts_at_zero,
+    books_catalogue, books_close, books_fleet, books_rentals, counts_by_type, finds_rows,
+    starts_at_zero,
 };
 pub use requests::{MOST_REQUESTS, RequestCount};
 pub use row_change::RowChange;
+pub use type_texts::{by_type_text, by_type_with, is_text_of, read_by_type};
 pub use version::NEWEST;

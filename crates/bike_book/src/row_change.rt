@@ -1,5 +1,6 @@
 //! Changes of one row each. Their numbers and texts are those of an operator's records.
 
+use crate::by_type::{CountedType, TypeCounts};
 use crate::requests::RequestCount;
 use bike_accepted::Change;
 use bike_fields::{Ident, Segment};
@@ -29,6 +30,17 @@ pub enum RowChange<'a> {
         station: &'a Ident,
         free: u32,
         broken: u32,
+        reported: Moment,
+    },
+    /// Sets how many docks of a station are available, how many are broken, its bicycles by type, and when it reported
+    /// last. The types are those that it had, of which one has these counts then.
+    SetBikesReported {
+        station: &'a Ident,
+        free: u32,
+        broken: u32,
+        by_type: &'a [CountedType],
+        type_id: &'a Ident,
+        counts: TypeCounts,
         reported: Moment,
     },
     /// Adds a row to `docks`.
@@ -70,20 +82,6 @@ pub enum RowChange<'a> {
         key: &'a str,
         command: &'a str,
         reply: &'a str,
-    },
-    /// Adds a row to `counts`: a station's bicycles of a type that can be rented, and those that can't.
-    AddCount {
-        station: &'a Ident,
-        type_id: &'a Ident,
-        available: u32,
-        disabled: u32,
-    },
-    /// Sets the counts of a type at a station.
-    SetCount {
-        station: &'a Ident,
-        type_id: &'a Ident,
-        available: u32,
-        disabled: u32,
     },
     /// Sets the operator's moment and sums in the one row of `meta`.
     SetMeta {

@@ -55,7 +55,7 @@ macro_rules! table {
         region_id TEXT PRIMARY KEY NOT NULL,
         name TEXT NOT NULL
     ) } };
-    ($part:ident stations) => { $crate::table_part! { $part stations_3 (
+    ($part:ident stations) => { $crate::table_part! { $part stations_4 (
         station_id TEXT PRIMARY KEY NOT NULL,
         name TEXT NOT NULL,
         lat INTEGER NOT NULL,
@@ -67,7 +67,8 @@ macro_rules! table {
         reported INTEGER NOT NULL,
         free INTEGER NOT NULL,
         broken INTEGER NOT NULL,
-        region_id TEXT
+        region_id TEXT,
+        by_type TEXT NOT NULL
     ) } };
     ($part:ident docks) => { $crate::table_part! { $part docks (
         station_id TEXT NOT NULL,
@@ -131,13 +132,6 @@ macro_rules! table {
         req_key TEXT NOT NULL,
         command TEXT NOT NULL,
         reply TEXT NOT NULL
-    ) } };
-    ($part:ident counts) => { $crate::table_part! { $part counts (
-        station_id TEXT NOT NULL,
-        type_id TEXT NOT NULL,
-        available INTEGER NOT NULL,
-        disabled INTEGER NOT NULL;
-        PRIMARY KEY (station_id, type_id)
     ) } };
     ($part:ident more_names) => { $crate::table_part! { $part more_names (
         kind TEXT NOT NULL,

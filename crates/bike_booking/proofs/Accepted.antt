@@ -34,6 +34,7 @@ use Rattle.bike_book.specs.Writes.{RowWrite, Add, write_of, writes_of}
 use Rattle.bike_book.specs.Between.{Leads}
 use Rattle.bike_book.specs.Tables.{Entries}
 use Rattle.bike_book.specs.Rows.{entry_row}
+use Rattle.bike_book.specs.NotThere.{NoTypesYet}
 use Rattle.bike_book.specs.CloseLaws.{after_close, AreTextsOf, AreNumbersWith}
 use Rattle.bike_book.proofs.CloseBooks.{close_quiet, close_entry, close_refund}
 use Rattle.bike_book.proofs.SoundNumbers.{no_refunds, no_balance}
@@ -58,6 +59,7 @@ use Rattle.bike_booking.specs.Booking.{IsAccepted, BooksAccepted, SumsTakeOneMor
 use Rattle.bike_booking.proofs.Written.{leads_none, leads_then}
 use Rattle.bike_booking.proofs.NextFigures.{figures_next}
 use Rattle.bike_booking.proofs.MovedBooks.{books_moved}
+use Rattle.bike_booking.proofs.MovedTypes.{no_types_left}
 use Rattle.bike_booking.proofs.ChangedBooks.{IsReady, books_change}
 
 -- ---- what a move and a record leave
@@ -118,8 +120,9 @@ moved_left now (Some (moved.AddDocks station was count)) s = station_left s stat
 moved_left now (Some (moved.Marked at held broken)) s =
     let n = dock_marked at.station.now at.dock broken s in reported now at.station.now s n (mark_left s n.broken)
 
-ready : (s n : Operator) → IsSound s → Leaves s n → IsReady n
-ready s n sound h = record {
+ready : (s n : Operator) → IsSound s → Leaves s n → NoTypesYet n → IsReady n
+ready s n sound h types = record {
+  types = types;
   names = names_kept s n h.more_names h.named sound.names;
   refunds = λ rental above. ap (refunded_of rental) h.entries ∙ no_refunds s sound rental (subst (λ (rs : List Rental). length rs < rental) h.rentals above);
   balance = λ rider none. ap (balance_of rider) h.entries ∙ no_balance s sound rider (ap (λ (m : FinMap nat_cmp Rider). fin.get m rider) (sym h.riders) ∙ none);
@@ -225,7 +228,7 @@ module _ (s : Operator) (m : Listed) (now : ℕ) (q : Request) (a : Accepted) (n
   leads_accepted =
       let one = leads_moved s m now n h.sound h.listing a.moved h.found.moved h.stored.moved in
       let w = one.0 in
-      let two = leads_changed moved_next w (ready s moved_next h.sound left) one.1.listing a.change h.found.change in
+      let two = leads_changed moved_next w (ready s moved_next h.sound left (no_types_left now a.moved s h.sound h.found.moved)) one.1.listing a.change h.found.change in
       let three = closes w two.listing a.entry h.found.entry h.stored.sums in
       let ms = where_moved_writes now n a.moved in
       let cs = where_changed_writes a.change in

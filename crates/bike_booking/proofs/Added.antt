@@ -15,7 +15,7 @@ use Rattle.bike_accepted.specs.declared.change.Change.{Change}
 use Rattle.bike_accepted.specs.declared.change.Change.TheVariants as change
 use Rattle.bike_accepted.specs.declared.accepted.BookedEntry.{BookedEntry}
 use Rattle.bike_booking.specs.declared.stored.Stored.{Stored}
-use Rattle.bike_booking.specs.Writes.{moved_rows, refund_writes, entry_writes, where_moved_writes, where_changed_writes, where_booked_writes, AreAdded}
+use Rattle.bike_booking.specs.Writes.{moved_writes, refund_writes, entry_writes, where_moved_writes, where_changed_writes, where_booked_writes, AreAdded}
 
 pub writes_both : (cs ds : List RowChange) → writes_of (cs ++ ds) ≡ writes_of cs ++ writes_of ds
 writes_both [] ds = refl
@@ -24,6 +24,18 @@ writes_both (c ∷ cs) ds = ap (λ (ws : List RowWrite). write_of c ∷ ws) (wri
 -- these row changes
 pub added_rows : (before rows after : List RowChange) → after ≡ before ++ rows → AreAdded (writes_of rows) before after
 added_rows before rows after is = ap writes_of is ∙ writes_both before rows
+
+-- those of what is put or marked
+pub moved_added : (now : ℕ) (n : Stored) (mo : Movement) (rows before after : List RowChange) (made : Movement) → made ≡ mo → writes_of rows ≡ moved_writes now n mo → after ≡ before ++ rows
+    → AreAdded (moved_writes now n made) before after
+moved_added now n mo rows before after made is writes are =
+    subst (λ (ws : List RowWrite). AreAdded ws before after) (writes ∙ ap (moved_writes now n) (sym is)) (added_rows before rows after are)
+
+-- of two, each by what it writes
+pub two_added : (now : ℕ) (n : Stored) (mo : Movement) (c d : RowChange) (before after : List RowChange) (made : Movement) (v w : RowWrite) → made ≡ mo → write_of c ≡ v → write_of d ≡ w
+    → v ∷ w ∷ [] ≡ moved_writes now n mo → after ≡ before ++ c ∷ d ∷ [] → AreAdded (moved_writes now n made) before after
+two_added now n mo c d before after made v w is one two both are =
+    moved_added now n mo (c ∷ d ∷ []) before after made is ((λ i. one i ∷ two i ∷ []) ∙ both) are
 
 -- and more of them
 pub added_then : (ws vs : List RowWrite) (before middle after : List RowChange) → AreAdded ws before middle → AreAdded vs middle after → AreAdded (ws ++ vs) before after
@@ -89,8 +101,8 @@ module _ (b : BookedEntry) (e : Bor Entry) (rider : ℕ) (r0 r2 r3 : List RowCha
 -- ---- where there is something
 
 module _ (before after : List RowChange) where
-  pub where_moved : (now : ℕ) (n : Stored) (o : Option Movement) (m : Movement) → o ≡ Some m → after ≡ before ++ moved_rows now n m → AreAdded (where_moved_writes now n o) before after
-  where_moved now n o m some are = subst (λ (z : Option Movement). AreAdded (where_moved_writes now n z) before after) (sym some) (added_rows before (moved_rows now n m) after are)
+  pub where_moved : (now : ℕ) (n : Stored) (o : Option Movement) (m : Movement) → o ≡ Some m → AreAdded (moved_writes now n m) before after → AreAdded (where_moved_writes now n o) before after
+  where_moved now n o m some are = subst (λ (z : Option Movement). AreAdded (where_moved_writes now n z) before after) (sym some) are
 
   pub not_moved : (now : ℕ) (n : Stored) (o : Option Movement) → o ≡ None → after ≡ before → AreAdded (where_moved_writes now n o) before after
   not_moved now n o none are = subst (λ (z : Option Movement). AreAdded (where_moved_writes now n z) before after) (sym none) (none_added before after are)

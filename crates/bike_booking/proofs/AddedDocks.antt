@@ -8,14 +8,15 @@ use Rattle.bike_operator.specs.Operator.{Operator, Station, dock_key}
 use Rattle.bike_operator.specs.Counts.{is_broken, docks_up_to, docks_broken}
 use Rattle.bike_operator.specs.Sound.{IsCatalogueSound}
 use Rattle.bike_laws.specs.SingleSteps.Laws.{one}
+use Rattle.bike_laws.proofs.SingleSteps.CatalogueLemmas.{docks_changed}
 use Rattle.bike_laws.proofs.SingleSteps.StoredCountLemmas.{count_last}
+use Rattle.bike_book.specs.ByType.{types_at, by_type_text}
 use Rattle.bike_book.specs.Rows.{number_value, station_row}
 use Rattle.bike_book.specs.Between.{docks_left, counted_station, tables_between}
 use Rattle.bike_book.specs.ChangeLaws.{Everywhere}
 use Rattle.bike_book.proofs.MapRows.{changed_entries}
 use Rattle.bike_book.proofs.Keys.{texts}
 use Rattle.bike_book.proofs.ListingLemmas.{listing_same}
-use Rattle.bike_book.proofs.CatalogueBooks.{names_station}
 use Rattle.bike_booking.specs.PutLaws.{AddDocksLaw}
 
 -- where no dock past the last is broken, there are no more broken ones with the docks past it
@@ -55,7 +56,7 @@ add_docks s m listing station row count d sound found free =
     (λ v there. set v (let both : ◌≡◌ {A = Option Station} (Some row) (Some v) = sym found ∙ there in cc)) (λ q y there. (tt, λ apart. refl)) in
     record {
       leads = λ i. record (tables_between s m) { stations = stations i };
-      listing = listing_same s _ m (names_station s station.now f (λ x. omega arith)) refl refl listing;
+      listing = listing_same s _ m (docks_changed s _ station.now f (λ x. omega arith) refl) refl listing;
     }
   where
     f : Station → Station
@@ -75,4 +76,4 @@ add_docks s m listing station row count d sound found free =
     set v same =
         subst (λ (w : Station). with_values ((4, number_value (row.row.docks + count)) ∷ (9, number_value (d.free + count)) ∷ []) (counted_station s (station.now, w))
         ≡ counted_station s (station.now, f w)) same
-        (ap₂ (λ (z : ℤ) (b : ℕ). station_row station.now (f row) z b) (sym left) (sym broken))
+        (ap₂ (λ (z : ℤ) (b : ℕ). station_row station.now (f row) z b (by_type_text (types_at s station.now))) (sym left) (sym broken))

@@ -19,15 +19,17 @@ use Rattle.bike_laws.specs.SingleSteps.Numbers.{disabled_of, occupied_docks}
 use Rattle.bike_laws.specs.SingleSteps.Laws.{IsMoved, available_share, disabled_share, occupied_share, place_shares, IsAway, IsMarkedAt, ShareLaw, HasPut, PutLaw}
 use Rattle.bike_laws.proofs.SingleSteps.PutLaw.{put_law}
 use Rattle.bike_laws.proofs.SingleSteps.ShareLaw.{away_at, no_occupied, no_available, no_disabled, share_law}
+use Rattle.bike_book.specs.declared.by_type.TypeCounts.{TypeCounts}
+use Rattle.bike_book.specs.ByType.{IsSameCount}
 use Rattle.bike_book.specs.Rows.{number_value, state_number, place_columns, bike_row}
 use Rattle.bike_book.specs.Stored.{stored_bike}
 use Rattle.bike_book.specs.Writes.{Columns, columns_from}
 use Rattle.bike_book.specs.Between.{docks_left}
 use Rattle.bike_book.proofs.MapRows.{set_entries}
 use Rattle.bike_book.proofs.Keys.{numbers}
-use Rattle.bike_booking.specs.Facts.{DockTotals, BikeTotals, HasDockTotals, HasBikeTotals}
+use Rattle.bike_booking.specs.Facts.{DockTotals, HasDockTotals, HasBikeTotals}
 use Rattle.bike_booking.proofs.NumbersMove.{DocksMove, BikesMove}
-use Rattle.bike_booking.proofs.TotalsRows.{HasTotalsAt, totals_at, SameDocks, SameBikes, SameBikesElsewhere}
+use Rattle.bike_booking.proofs.TotalsRows.{HasTotalsAt, totals_at, SameDocks, SameBikesElsewhere}
 
 -- ---- the bicycle's own row
 
@@ -99,7 +101,7 @@ module _ {s n : Operator} {bike : ℕ} {b x : Bike} (h : BikeMoves s n bike b x)
 
   bikes_stay : (station kind : List ℕ) → available_share s station kind (Some b) ≡ available_share s station kind (Some x)
       → disabled_share s station kind (Some b) ≡ disabled_share s station kind (Some x)
-      → SameBikes s n station kind
+      → IsSameCount s n station kind
   bikes_stay station kind same also = let a = available_moves station kind in let d = disabled_moves station kind in (omega (arith, a, same), omega (arith, d, also))
 
   -- in no dock before, and in none now
@@ -107,7 +109,7 @@ module _ {s n : Operator} {bike : ℕ} {b x : Bike} (h : BikeMoves s n bike b x)
     pub docks_away : (station : List ℕ) → SameDocks s n station
     docks_away station = docks_stay station (no_occupied s station b (away_at station b.place from_away) ∙ sym (no_occupied s station x (away_at station x.place to_away)))
 
-    pub bikes_away : (station kind : List ℕ) → SameBikes s n station kind
+    pub bikes_away : (station kind : List ℕ) → IsSameCount s n station kind
     bikes_away station kind =
         bikes_stay station kind (no_available s station b (away_at station b.place from_away) kind ∙ sym (no_available s station x (away_at station x.place to_away) kind))
         (no_disabled s station b (away_at station b.place from_away) kind ∙ sym (no_disabled s station x (away_at station x.place to_away) kind))
@@ -147,7 +149,7 @@ module _ {s n : Operator} {bike : ℕ} {b x : Bike} {at : List ℕ} {from_broken
       (omega (arith, ints, free, left, was, is, by), (law h.moves).broken at y.row.docks ∙ had.1 ∙ sym moves.broken)
 
   -- the counts of its type
-  module _ (k o : BikeTotals) (has : HasBikeTotals s at b.type_id k) (moves : BikesMove k o (place_shares from_broken b.state b.place) (place_shares to_broken x.state x.place)) where
+  module _ (k o : TypeCounts) (has : HasBikeTotals s at b.type_id k) (moves : BikesMove k o (place_shares from_broken b.state b.place) (place_shares to_broken x.state x.place)) where
     pub available_here : available_of n at b.type_id ≡ o.available
     available_here =
         let moved = available_moves h.moves at b.type_id in

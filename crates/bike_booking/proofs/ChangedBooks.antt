@@ -6,6 +6,7 @@ use Rattle.bike_operator.specs.Operator.{Operator}
 use Rattle.bike_operator.specs.Sound.{AreNamesSound}
 use Rattle.bike_book.specs.Stored.{Listed, IsListing}
 use Rattle.bike_book.specs.ChangeLaws.{BooksChange}
+use Rattle.bike_book.specs.NotThere.{NoTypesYet}
 use Rattle.bike_book.proofs.CatalogueBooks.{set_system, add_type, set_plan, add_region, add_station, set_station, set_region, add_name, change_system, move_station}
 use Rattle.bike_book.proofs.NameBooks.{set_own_name, set_further_name, remove_name}
 use Rattle.bike_book.proofs.PlanBooks.{add_plan}
@@ -15,11 +16,12 @@ use Rattle.bike_accepted.specs.declared.change.Change.{Change}
 use Rattle.bike_accepted.specs.declared.change.Change.TheVariants as change
 use Rattle.bike_accepted.specs.Found.{IsFound}
 
--- What is known of an operator beside the record: names stand under three texts, and what isn't there has no balance and no refunds.
+-- What is known of an operator beside the record: names stand under three texts, and what isn't there has no balance, no refunds and no bicycles.
 pub record IsReady (s : Operator) : Type 0 where
   pub names : AreNamesSound s
   pub refunds : (rental : ℕ) → length s.rentals < rental → refunded_of rental s.entries ≡ pos 0
   pub balance : (rider : ℕ) → fin.get s.riders rider ≡ None → balance_of rider s.entries ≡ pos 0
+  pub types : NoTypesYet s
 
 module _ (s : Operator) (m : Listed) (listing : IsListing s m) (ready : IsReady s) where
   pub books_change : (c : Change) → IsFound s c → BooksChange s m c
@@ -27,7 +29,7 @@ module _ (s : Operator) (m : Listed) (listing : IsListing s m) (ready : IsReady 
   books_change (change.AddPlan p) found = add_plan s m listing p found
   books_change (change.AddType t) found = add_type s m listing t
   books_change (change.SetPlan type_id plan) found = set_plan s m listing type_id plan
-  books_change (change.AddStation x reported) found = add_station s m listing x reported found.absent found.none_docked found.none_broken
+  books_change (change.AddStation x reported) found = add_station s m listing x reported found.absent found.none_docked found.none_broken (ready.types x.now.station_id found.absent)
   books_change (change.SetStation station installed renting returning reported) found = set_station s m listing station installed renting returning reported
   books_change (change.AddRegion r) found = add_region s m listing r
   books_change (change.SetRegion station region) found = set_region s m listing station region

@@ -19,10 +19,12 @@ use Rattle.bike_laws.specs.SingleSteps.Laws.{one, IsMoved, available_share, disa
 use Rattle.bike_laws.proofs.SingleSteps.DockLaw.{dock_is}
 use Rattle.bike_laws.proofs.SingleSteps.ShareLaw.{share_law}
 use Rattle.bike_laws.proofs.SingleSteps.MarkLaw.{mark_law}
+use Rattle.bike_book.specs.declared.by_type.TypeCounts.{TypeCounts}
+use Rattle.bike_book.specs.ByType.{IsSameCount}
 use Rattle.bike_book.specs.Between.{docks_left}
-use Rattle.bike_booking.specs.Facts.{DockTotals, BikeTotals}
+use Rattle.bike_booking.specs.Facts.{DockTotals}
 use Rattle.bike_booking.proofs.NumbersMove.{IsMarkedEmpty, IsMarkedHeld}
-use Rattle.bike_booking.proofs.TotalsRows.{HasTotalsAt, totals_at, SameDocks, SameBikes, SameBikesElsewhere}
+use Rattle.bike_booking.proofs.TotalsRows.{HasTotalsAt, totals_at, SameDocks, SameBikesElsewhere}
 
 -- a dock is broken or works
 pub broken_or_not : (b : Bool) → one (not b) + one b ≡ 1
@@ -74,7 +76,7 @@ module _ {s n : Operator} {at : List ℕ} {dock : ℕ} {mark : Bool} (law : Mark
 
 -- ---- an empty dock
 
-module _ {s : Operator} {at : List ℕ} {dock : ℕ} {mark : Bool} {d e : DockTotals} (sound : AreBikesSound s) (h : IsMarkedEmpty s at dock mark d e) where
+module _ (s : Operator) (at : List ℕ) (dock : ℕ) (mark : Bool) (sound : AreBikesSound s) (empty : docked_at s at dock ≡ None) where
   abbrev empty_next : Operator
   empty_next = dock_marked at dock mark s
 
@@ -82,24 +84,27 @@ module _ {s : Operator} {at : List ℕ} {dock : ℕ} {mark : Bool} {d e : DockTo
   empty_law = mark_law s empty_next at dock mark (has_marked s at dock mark) sound
 
   no_bike : docked_bike s at dock ≡ None
-  no_bike = ap (option_map (λ (b : ℕ × Bike). b.1)) h.empty
+  no_bike = ap (option_map (λ (b : ℕ × Bike). b.1)) empty
 
-  pub empty_bikes : (station kind : List ℕ) → SameBikes s empty_next station kind
+  pub empty_bikes : (station kind : List ℕ) → IsSameCount s empty_next station kind
   empty_bikes station kind = let a = available_moves empty_law None no_bike station kind in let n = disabled_moves empty_law None no_bike station kind in (omega (arith, a), omega (arith, n))
 
   pub empty_elsewhere : (station : List ℕ) → station ≢ at → SameDocks s empty_next station
   empty_elsewhere = docks_elsewhere empty_law None no_bike (λ station apart. refl)
 
-  pub empty_here : (x : Station) → fin.get s.stations at ≡ Some x → HasTotalsAt empty_next at x e
-  empty_here x found =
-      let had = totals_at s at d h.docks x found in
-      let free = had.0 in
-      let broken = had.1 in
-      let left = left_here empty_law None no_bike h.has x found in
-      let marked = broken_here empty_law None no_bike h.has x found in
-      let by_free = h.free_moves in
-      let by_broken = h.broken_moves in
-      (omega (arith, ints, free, left, by_free), omega (arith, broken, marked, by_broken))
+pub empty_here : {s : Operator} {at : List ℕ} {dock : ℕ} {mark : Bool} {d e : DockTotals} → AreBikesSound s → IsMarkedEmpty s at dock mark d e → (x : Station) → fin.get s.stations at ≡ Some x
+    → HasTotalsAt (dock_marked at dock mark s) at x e
+empty_here {s} {at} {dock} {mark} {d} {e} sound h x found =
+    let had = totals_at s at d h.docks x found in
+    let free = had.0 in
+    let broken = had.1 in
+    let law = empty_law s at dock mark sound h.empty in
+    let here = no_bike s at dock mark sound h.empty in
+    let left = left_here law None here h.has x found in
+    let marked = broken_here law None here h.has x found in
+    let by_free = h.free_moves in
+    let by_broken = h.broken_moves in
+    (omega (arith, ints, free, left, by_free), omega (arith, broken, marked, by_broken))
 
 -- ---- a dock with a bicycle in it
 
@@ -155,7 +160,7 @@ module _ (s : Operator) (at : List ℕ) (dock : ℕ) (mark : Bool) (bike : ℕ) 
       omega (arith, moved, p, q)
 
 -- with the numbers before and after
-module _ {s : Operator} {at : List ℕ} {dock : ℕ} {mark : Bool} {bike : ℕ} {b : Bike} {d e : DockTotals} {n o : BikeTotals} (sound : AreBikesSound s)
+module _ {s : Operator} {at : List ℕ} {dock : ℕ} {mark : Bool} {bike : ℕ} {b : Bike} {d e : DockTotals} {n o : TypeCounts} (sound : AreBikesSound s)
     (h : IsMarkedHeld s at dock mark bike b d e n o) where
   pub held_here : (x : Station) → fin.get s.stations at ≡ Some x → HasTotalsAt (dock_marked at dock mark s) at x e
   held_here x found =

@@ -6,6 +6,7 @@ use Rattle.bike_operator.specs.Operator.{Operator, Station}
 use Rattle.bike_operator.specs.Counts.{docks_available, docks_broken}
 use Rattle.bike_operator.specs.Sound.{AreBikesSound}
 use Rattle.bike_laws.proofs.SingleSteps.DockLaw.{docks_law}
+use Rattle.bike_book.specs.ByType.{types_at, by_type_text}
 use Rattle.bike_book.specs.Rows.{station_row}
 use Rattle.bike_book.specs.Stored.{Listed, stored_station, tables_for}
 use Rattle.bike_book.specs.Writes.{writes_of, tables_after_all}
@@ -20,7 +21,7 @@ module _ (s : Operator) (sound : AreBikesSound s) where
 
   tables_same : (m : Listed) → tables_between s m ≡ tables_for s m
   tables_same m =
-      let stations = same_entries texts (counted_station s) (stored_station s) s.stations (λ q x found. ap (λ (left : ℤ). station_row q x left (docks_broken s q x.row.docks)) (left_is q x found)) in
+      let stations = same_entries texts (counted_station s) (stored_station s) s.stations (λ q x found. ap (λ (left : ℤ). station_row q x left (docks_broken s q x.row.docks) (by_type_text (types_at s q))) (left_is q x found)) in
       λ i. record (tables_for s m) { stations = stations i }
 
 pub stored_docks : StoredDocksLaw

@@ -1,6 +1,7 @@
 pub mod Added
 pub mod Written
 pub mod MovedBooks
+pub mod MovedTypes
 pub mod ChangedBooks
 pub mod NextFigures
 pub mod Accepted

@@ -8,7 +8,8 @@ use Rattle.bike_operator.specs.Steps.{dock_marked}
 use Rattle.bike_operator.specs.Sound.{AreBikesSound}
 use Rattle.bike_laws.specs.SingleSteps.Laws.{one, IsMoved, dock_shares, MarkLaw, is_free}
 use Rattle.bike_laws.proofs.SingleSteps.MarkLaw.{mark_law}
-use Rattle.bike_booking.specs.Facts.{DockTotals, BikeTotals, HasDockTotals, HasBikeTotals}
+use Rattle.bike_book.specs.declared.by_type.TypeCounts.{TypeCounts}
+use Rattle.bike_booking.specs.Facts.{DockTotals, HasDockTotals, HasBikeTotals}
 use Rattle.bike_booking.specs.Put.{IsDockAt, moved_by, Adds, adds_marked, bikes_by, docks_marked_empty, docks_marked_held}
 use Rattle.bike_booking.specs.PutLaws.{AtEachMoment, MarkedEmptyLaw, MarkedHeldLaw}
 use Rattle.bike_booking.proofs.NumbersMove.{IsMarkedEmpty, IsMarkedHeld, BikesMove}
@@ -57,7 +58,7 @@ module _ (s : Operator) (station : List ℕ) (dock : ℕ) (was broken : Bool) (d
     broken_moves = broken_moves;
   }
 
-  module _ (bike : ℕ) (b : Bike) (n : BikeTotals) (held : docked_at s station dock ≡ Some (bike, b)) (bikes : HasBikeTotals s station b.type_id n) where
+  module _ (bike : ℕ) (b : Bike) (n : TypeCounts) (held : docked_at s station dock ≡ Some (bike, b)) (bikes : HasBikeTotals s station b.type_id n) where
     abbrev adds : Adds
     adds = adds_marked was broken b.state
 
@@ -74,7 +75,7 @@ module _ (s : Operator) (station : List ℕ) (dock : ℕ) (was broken : Bool) (d
         let disabled = moved_is n.disabled adds.less.disabled adds.more.disabled (omega (arith, z, z_has, z_was)) in
         record { available = omega (arith, available, a_was); disabled = omega (arith, disabled, z_was) }
 
-    is_held : IsMarkedHeld s station dock broken bike b d (docks_marked_held was broken d) n (bikes_by adds n)
+    pub is_held : IsMarkedHeld s station dock broken bike b d (docks_marked_held was broken d) n (bikes_by adds n)
     is_held = record { has = found.has; held = held; docks = docks; bikes = bikes; free_stays = refl; broken_moves = broken_moves; bikes_move = bikes_move }
 
 -- ---- the laws
@@ -85,8 +86,8 @@ marked_empty s m now listing station dock was broken d sound found empty docks =
     empty_books s m listing sound station dock broken now d e (is_empty s station.now dock was broken d sound found docks empty)
 
 pub marked_held : AtEachMoment MarkedHeldLaw
-marked_held s m now listing station type_id dock was broken bike b d n sound type_is found held docks bikes =
+marked_held s m now listing station type_id dock was broken bike b d by_type n sound type_is found held docks types bikes =
     let e = docks_marked_held was broken d in
     let o = bikes_by (adds_marked was broken b.state) n in
     let h = is_held s station.now dock was broken d sound found docks bike b n held bikes in
-    held_books s m listing sound station dock broken now type_id bike b d e n o type_is h
+    held_books s m listing sound station dock broken now type_id.now by_type.now bike b d e n o type_is types h

@@ -5,14 +5,15 @@ use Rattle.bike_operator.specs.Operator.{Operator}
 use Rattle.bike_operator.specs.Counts.{is_broken, docked_at}
 use Rattle.bike_operator.specs.Sound.{HasDock}
 use Rattle.bike_laws.specs.SingleSteps.Laws.{one, IsMoved, Shares, dock_shares}
-use Rattle.bike_booking.specs.Facts.{DockTotals, BikeTotals, HasDockTotals, HasBikeTotals}
+use Rattle.bike_book.specs.declared.by_type.TypeCounts.{TypeCounts}
+use Rattle.bike_booking.specs.Facts.{DockTotals, HasDockTotals, HasBikeTotals}
 
 -- The bicycle added the one shares and adds the others now. A dock that it takes isn't available.
 pub record DocksMove (old new : DockTotals) (less more : Shares) : Type 0 where
   pub free : IsMoved old.free new.free more.occupied less.occupied
   pub broken : new.broken ≡ old.broken
 
-pub record BikesMove (old new : BikeTotals) (less more : Shares) : Type 0 where
+pub record BikesMove (old new : TypeCounts) (less more : Shares) : Type 0 where
   pub available : IsMoved old.available new.available less.available more.available
   pub disabled : IsMoved old.disabled new.disabled less.disabled more.disabled
 
@@ -26,7 +27,7 @@ pub record IsMarkedEmpty (s : Operator) (station : List ℕ) (dock : ℕ) (broke
 
 -- A dock of the station with a bicycle in it is marked. It wasn't available, and isn't.
 pub record IsMarkedHeld (s : Operator) (station : List ℕ) (dock : ℕ) (broken : Bool) (bike : ℕ) (b : Bike)
-    (d e : DockTotals) (n o : BikeTotals) : Type 0 where
+    (d e : DockTotals) (n o : TypeCounts) : Type 0 where
   pub has : HasDock s station dock
   pub held : docked_at s station dock ≡ Some (bike, b)
   pub docks : HasDockTotals s station d

@@ -1,4 +1,4 @@
--- Rows of stations, counts and docks, where the numbers of one station change.
+-- Rows of stations and docks, where the numbers of one station change.
 use Rattle.std.proofs.Common.{◌≡◌, ◌≢◌, ℕ, pos, List, [], ◌∷◌, Bool, true, false, Option, Some, refl, sym, ap, ap₂, ◌∙◌, subst}
 use Rattle.std.specs.Prelude.{map, if◌then◌else◌}
 use Rattle.std.specs.Ordering.{eq_by_cmp}
@@ -8,22 +8,27 @@ use Rattle.std.specs.FinMap as fin
 use Rattle.std.specs.Borrow.{Bor}
 use Rattle.sqlite_value.specs.declared.value.Value.TheVariants.{Int, Text}
 use Rattle.bike_sql.specs.View.{put_row_by, rows_after_update, with_values}
-use Rattle.bike_operator.specs.Operator.{Operator, Station, Key, DockKey, text_cmp, texts_cmp, key_of, dock_key}
+use Rattle.bike_operator.specs.Operator.{Operator, Station, DockKey, text_cmp, texts_cmp, dock_key}
 use Rattle.bike_operator.specs.Counts.{is_broken, available_of, docks_broken}
 use Rattle.bike_operator.specs.Steps.{key_changed}
 use Rattle.bike_laws.proofs.SingleSteps.MapLemmas.{text_order, texts_order, there_of}
+use Rattle.bike_laws.proofs.SingleSteps.Moment.{reports}
 use Rattle.bike_laws.specs.SingleSteps.Numbers.{disabled_of}
+use Rattle.bike_book.specs.declared.by_type.TypeCounts.{TypeCounts}
+use Rattle.bike_book.specs.declared.by_type.CountedType.{CountedType}
 use Rattle.bike_book.specs.declared.row_change.RowChange.TheVariants as row
+use Rattle.bike_book.specs.ByType.{types_at, by_type_text, with_counts, IsSameCount}
 use Rattle.bike_book.specs.Tables.{Tables}
-use Rattle.bike_book.specs.Rows.{truth, number_value, station_row, dock_row, count_row}
-use Rattle.bike_book.specs.Stored.{Listed, IsListing, stored_dock, stored_count}
+use Rattle.bike_book.specs.Rows.{truth, number_value, station_row, dock_row}
+use Rattle.bike_book.specs.Stored.{Listed, IsListing, stored_dock}
 use Rattle.bike_book.specs.Writes.{write_of, tables_after}
 use Rattle.bike_book.specs.Between.{docks_left, counted_station}
 use Rattle.bike_book.proofs.MapRows.{same_entries, put_entries, set_entries, changed_entries}
-use Rattle.bike_book.proofs.Keys.{texts, pairs, docks, IsPair, IsDockPair}
-use Rattle.bike_book.proofs.FoundKeys.{count_pair, dock_pair}
-use Rattle.bike_booking.specs.Facts.{DockTotals, BikeTotals, HasDockTotals}
-use Rattle.bike_booking.specs.AddedOrSet.{count_change, dock_change, with_count, with_dock}
+use Rattle.bike_book.proofs.Keys.{texts, docks, IsDockPair}
+use Rattle.bike_book.proofs.FoundKeys.{dock_pair}
+use Rattle.bike_book.proofs.TypeLaws.{types_same, type_changed}
+use Rattle.bike_booking.specs.Facts.{DockTotals, HasDockTotals}
+use Rattle.bike_booking.specs.AddedOrSet.{dock_change, with_dock}
 
 -- ---- keys that differ
 
@@ -35,9 +40,6 @@ apart_keys {R = R} total a b apart same =
 
 apart_texts : (a b : List ℕ) → eq_by_cmp text_cmp a b ≡ false → b ≢ a
 apart_texts a b apart same = apart_keys text_order.total a b apart (sym same)
-
-pub apart_pairs : (a b c d : List ℕ) → eq_by_cmp texts_cmp (key_of a b) (key_of c d) ≡ false → c ≡ a → d ≢ b
-apart_pairs a b c d apart first second = apart_keys texts_order.total (key_of a b) (key_of c d) apart (ap₂ key_of (sym first) (sym second))
 
 apart_docks : (a b : List ℕ) (m n : ℕ) → eq_by_cmp texts_cmp (dock_key a m) (dock_key b n) ≡ false → b ≡ a → n ≢ m
 apart_docks a b m n apart first second = apart_keys texts_order.total (dock_key a m) (dock_key b n) apart (ap₂ dock_key (sym first) (sym second))
@@ -58,72 +60,59 @@ module _ (s n : Operator) where
   abbrev pub SameDocks : List ℕ → Type 0
   SameDocks station = (docks : ℕ) → (docks_left s station docks ≡ docks_left n station docks) × (docks_broken s station docks ≡ docks_broken n station docks)
 
-  pub stations_same : ((station : List ℕ) → SameDocks station) → map (counted_station s) (fin.entries s.stations) ≡ map (counted_station n) (fin.entries s.stations)
-  stations_same same = same_entries texts (counted_station s) (counted_station n) s.stations (λ q y there. let e = same q y.row.docks in ap₂ (station_row q y) e.0 e.1)
+  -- and the same bicycles by type
+  abbrev pub SameTypes : List ℕ → Type 0
+  SameTypes station = types_at n station ≡ types_at s station
+
+  -- ---- bicycles by type
+
+  -- as many bicycles of each type stand at each station in both, but of one type at one station
+  abbrev pub SameBikesElsewhere : List ℕ → List ℕ → Type 0
+  SameBikesElsewhere at type_id = (station kind : List ℕ) → (station ≡ at → kind ≢ type_id) → IsSameCount s n station kind
+
+  module _ (at type_id : List ℕ) (others : SameBikesElsewhere at type_id) where
+    pub types_elsewhere : (station : List ℕ) → station ≢ at → SameTypes station
+    types_elsewhere station apart = types_same s n station (λ kind. others station kind (λ same. absurd (apart same)))
+
+    -- the counts of that type are set there
+    pub types_here : (o : TypeCounts) → available_of n at type_id ≡ o.available → disabled_of n at type_id ≡ o.disabled → types_at n at ≡ with_counts type_id o (types_at s at)
+    types_here o available disabled =
+        type_changed s n at type_id (λ other apart. others at other (λ same. apart))
+        ∙ (λ i. with_counts type_id (record { available = available i; disabled = disabled i }) (types_at s at))
+
+  -- ---- rows
+
+  row_same : (station : List ℕ) (x : Station) → SameDocks station → SameTypes station → counted_station s (station, x) ≡ counted_station n (station, x)
+  row_same station x same types = let e = same x.row.docks in λ i. station_row station x (e.0 i) (e.1 i) (by_type_text (sym types i))
+
+  pub stations_same : ((station : List ℕ) → SameDocks station) → ((station : List ℕ) → SameTypes station)
+      → map (counted_station s) (fin.entries s.stations) ≡ map (counted_station n) (fin.entries s.stations)
+  stations_same same types = same_entries texts (counted_station s) (counted_station n) s.stations (λ q y there. row_same q y (same q) (types q))
 
   -- the numbers of one station are set, and it reports
-  pub stations_set : (station : List ℕ) (e : DockTotals) (now : ℕ) → ((other : List ℕ) → other ≢ station → SameDocks other)
-      → ((x : Station) → fin.get s.stations station ≡ Some x → HasTotalsAt n station x e)
-      → rows_after_update 1 (Text station ∷ []) (with_values ((9, number_value e.free) ∷ (10, number_value e.broken) ∷ (8, number_value now) ∷ [])) (map (counted_station s) (fin.entries s.stations))
-      ≡ map (counted_station n) (fin.entries (key_changed s.stations station (λ x. record x { reported = now })))
-  stations_set station e now others here =
-      changed_entries texts (counted_station s) (counted_station n) (λ x. refl) (λ x. refl) s.stations station tt
-      (with_values ((9, number_value e.free) ∷ (10, number_value e.broken) ∷ (8, number_value now) ∷ []))
-      (λ x. record x { reported = now }) (λ x found. let e = here x found in sym (ap₂ (station_row station (record x { reported = now })) e.0 e.1))
-      (λ q y there. (tt, λ apart. let e = others q (apart_texts station q apart) y.row.docks in ap₂ (station_row q y) e.0 e.1))
+  module _ (station : List ℕ) (e : DockTotals) (now : ℕ) (same : (other : List ℕ) → other ≢ station → SameDocks other) (types : (other : List ℕ) → other ≢ station → SameTypes other)
+      (here : (x : Station) → fin.get s.stations station ≡ Some x → HasTotalsAt n station x e) where
+    others : (q : List ℕ) (y : Station) → fin.get s.stations q ≡ Some y → Unit {0} × (eq_by_cmp text_cmp station q ≡ false → counted_station s (q, y) ≡ counted_station n (q, y))
+    others q y there = (tt, λ apart. let other = apart_texts station q apart in row_same q y (same q other) (types q other))
 
-  -- ---- counts
+    -- those of its docks
+    pub docks_set : SameTypes station
+        → rows_after_update 1 (Text station ∷ []) (with_values ((9, number_value e.free) ∷ (10, number_value e.broken) ∷ (8, number_value now) ∷ [])) (map (counted_station s) (fin.entries s.stations))
+        ≡ map (counted_station n) (fin.entries (key_changed s.stations station (reports now)))
+    docks_set stay =
+        changed_entries texts (counted_station s) (counted_station n) (λ x. refl) (λ x. refl) s.stations station tt
+        (with_values ((9, number_value e.free) ∷ (10, number_value e.broken) ∷ (8, number_value now) ∷ []))
+        (reports now) (λ x found. let t = here x found in λ i. station_row station (reports now x) (sym t.0 i) (sym t.1 i) (by_type_text (sym stay i))) others
 
-  -- a station has as many bicycles of a type, that can be rented and that can't, in both
-  abbrev pub SameBikes : List ℕ → List ℕ → Type 0
-  SameBikes station type_id = (available_of s station type_id ≡ available_of n station type_id) × (disabled_of s station type_id ≡ disabled_of n station type_id)
-
-  abbrev pub SameBikesElsewhere : List ℕ → List ℕ → Type 0
-  SameBikesElsewhere at type_id = (station kind : List ℕ) → (station ≡ at → kind ≢ type_id) → SameBikes station kind
-
-  module _ (m : Listed) (listing : IsListing s m) where
-    pub counts_same : ((station type_id : List ℕ) → SameBikes station type_id) → map (stored_count s) (fin.entries m.counts) ≡ map (stored_count n) (fin.entries m.counts)
-    counts_same same = same_entries pairs (stored_count s) (stored_count n) m.counts (λ q y there.
-        let p = count_pair s m listing q y there in
-        let e = same p.first p.second in
-        rw p.is (ap₂ (count_row p.first p.second) e.0 e.1))
-
-    -- the numbers of one type at one station are set, or added where they aren't listed
-    pub count_written : (station type_id : Bor (List ℕ)) (o : BikeTotals) → SameBikesElsewhere station.now type_id.now
-        → available_of n station.now type_id.now ≡ o.available → disabled_of n station.now type_id.now ≡ o.disabled → (t : Tables) → t.counts ≡ map (stored_count s) (fin.entries m.counts)
-        → tables_after (write_of (count_change m station type_id o)) t ≡ record t { counts = map (stored_count n) (fin.entries (with_count station.now type_id.now m).counts) }
-    count_written station type_id o others available disabled t is = go (fin.contains_key m.counts (key_of station.now type_id.now)) refl where
-      good : IsPair (key_of station.now type_id.now)
-      good = record { first = station.now; second = type_id.now; is = refl }
-
-      new_row : count_row station.now type_id.now o.available o.disabled ≡ stored_count n (key_of station.now type_id.now, tt)
-      new_row = sym (ap₂ (count_row station.now type_id.now) available disabled)
-
-      each : (q : Key) (y : Unit {0}) → fin.get m.counts q ≡ Some y → IsPair q × (eq_by_cmp texts_cmp (key_of station.now type_id.now) q ≡ false → stored_count s (q, y) ≡ stored_count n (q, y))
-      each q y found =
-          let p = count_pair s m listing q y found in (
-            p,
-            λ apart.
-                let differ : eq_by_cmp texts_cmp (key_of station.now type_id.now) (key_of p.first p.second) ≡ false = ap (eq_by_cmp texts_cmp (key_of station.now type_id.now)) (sym p.is) ∙ apart in
-                let e = others p.first p.second (apart_pairs station.now type_id.now p.first p.second differ) in
-                rw p.is (ap₂ (count_row p.first p.second) e.0 e.1),
-          )
-
-      go : (b : Bool) → fin.contains_key m.counts (key_of station.now type_id.now) ≡ b
-          → tables_after (write_of (if b then row.SetCount station type_id o.available o.disabled else row.AddCount station type_id o.available o.disabled)) t
-          ≡ record t { counts = map (stored_count n) (fin.entries (fin.insert m.counts (key_of station.now type_id.now) tt)) }
-      go true there =
-          let set : rows_after_update 2 (Text station.now ∷ Text type_id.now ∷ []) (with_values ((2, number_value o.available) ∷ (3, number_value o.disabled) ∷ [])) t.counts
-          ≡ map (stored_count n) (fin.entries (fin.insert m.counts (key_of station.now type_id.now) tt)) =
-          ap (rows_after_update 2 (Text station.now ∷ Text type_id.now ∷ []) (with_values ((2, number_value o.available) ∷ (3, number_value o.disabled) ∷ []))) is
-          ∙ set_entries pairs (stored_count s) (stored_count n) (λ x. refl) (λ x. refl) m.counts (key_of station.now type_id.now) good
-          (with_values ((2, number_value o.available) ∷ (3, number_value o.disabled) ∷ []))
-          tt tt (there_of (fin.get m.counts (key_of station.now type_id.now)) there).1 new_row each in
-          λ i. record t { counts = set i }
-      go false none =
-          let added : put_row_by 2 (count_row station.now type_id.now o.available o.disabled) t.counts ≡ map (stored_count n) (fin.entries (fin.insert m.counts (key_of station.now type_id.now) tt)) =
-          ap₂ (put_row_by 2) new_row is ∙ put_entries pairs (stored_count s) (stored_count n) (λ x. refl) (λ x. refl) m.counts (key_of station.now type_id.now) tt good each in
-          λ i. record t { counts = added i }
+    -- and its bicycles by type
+    pub types_set : (by_type : List CountedType) → types_at n station ≡ by_type
+        → rows_after_update 1 (Text station ∷ []) (with_values ((9, number_value e.free) ∷ (10, number_value e.broken) ∷ (12, Text (by_type_text by_type)) ∷ (8, number_value now) ∷ []))
+        (map (counted_station s) (fin.entries s.stations))
+        ≡ map (counted_station n) (fin.entries (key_changed s.stations station (reports now)))
+    types_set by_type are =
+        changed_entries texts (counted_station s) (counted_station n) (λ x. refl) (λ x. refl) s.stations station tt
+        (with_values ((9, number_value e.free) ∷ (10, number_value e.broken) ∷ (12, Text (by_type_text by_type)) ∷ (8, number_value now) ∷ []))
+        (reports now) (λ x found. let t = here x found in λ i. station_row station (reports now x) (sym t.0 i) (sym t.1 i) (by_type_text (sym are i))) others
 
 -- ---- docks
 

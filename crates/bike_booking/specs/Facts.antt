@@ -1,20 +1,16 @@
 -- The stored numbers of a station: what is read before a bicycle is put or a dock is marked, and written after it.
-use Rattle.std.specs.Prelude.{◌≡◌, ℕ, pos, List, true, Some}
+use Rattle.std.specs.Prelude.{◌≡◌, ℕ, pos, List, Some}
 use Rattle.std.specs.FinMap as map
 use Rattle.bike_operator.specs.Operator.{Operator, Station}
 use Rattle.bike_operator.specs.Counts.{available_of, docks_broken}
 use Rattle.bike_laws.specs.SingleSteps.Numbers.{disabled_of}
+use Rattle.bike_book.specs.declared.by_type.TypeCounts.{TypeCounts}
 use Rattle.bike_book.specs.Between.{docks_left}
 
 -- a station's docks that are available, and those that are broken
 pub record DockTotals : Type 0 where
   pub free : ℕ
   pub broken : ℕ
-
--- a station's bicycles of a type that can be rented, and those that can't
-pub record BikeTotals : Type 0 where
-  pub available : ℕ
-  pub disabled : ℕ
 
 -- the station is there, with these numbers between two changes
 pub record HasDockTotals (s : Operator) (station : List ℕ) (d : DockTotals) : Type 0 where
@@ -23,9 +19,7 @@ pub record HasDockTotals (s : Operator) (station : List ℕ) (d : DockTotals) : 
   pub free : docks_left s station row.row.docks ≡ pos d.free
   pub broken : docks_broken s station row.row.docks ≡ d.broken
 
--- the station and the type are there, with these numbers
-pub record HasBikeTotals (s : Operator) (station type_id : List ℕ) (n : BikeTotals) : Type 0 where
-  pub station_is : map.contains_key s.stations station ≡ true
-  pub type_is : map.contains_key s.types type_id ≡ true
+-- the station has so many bicycles of the type that can be rented, and that can't
+pub record HasBikeTotals (s : Operator) (station type_id : List ℕ) (n : TypeCounts) : Type 0 where
   pub available : available_of s station type_id ≡ n.available
   pub disabled : disabled_of s station type_id ≡ n.disabled

@@ -11,7 +11,8 @@ use Rattle.bike_operator.specs.Counts.{is_broken, docked_at}
 use Rattle.bike_operator.specs.Changes.{place_of}
 use Rattle.bike_operator.specs.Sound.{HasDock}
 use Rattle.bike_laws.specs.SingleSteps.Laws.{one, Shares, dock_shares, place_shares, IsAway}
-use Rattle.bike_booking.specs.Facts.{DockTotals, BikeTotals}
+use Rattle.bike_book.specs.declared.by_type.TypeCounts.{TypeCounts}
+use Rattle.bike_booking.specs.Facts.{DockTotals}
 
 -- ---- the record
 
@@ -71,7 +72,7 @@ adds_marked was broken state = record { less = dock_shares was state; more = doc
 abbrev pub docks_by : Adds → DockTotals → DockTotals
 docks_by a d = record { free = moved_by d.free a.more.occupied a.less.occupied; broken = d.broken }
 
-abbrev pub bikes_by : Adds → BikeTotals → BikeTotals
+abbrev pub bikes_by : Adds → TypeCounts → TypeCounts
 bikes_by a n =
     record {
       available = moved_by n.available a.less.available a.more.available;

@@ -3,12 +3,11 @@
 ghost use Rattle.std.specs.Prelude.{◌≡◌, ◌+◌, ◌++◌, ◌≤◌, length, Some, None};
 ghost use Rattle.bike_book.specs.declared.row_change.RowChange.TheVariants as row;
 ghost use Rattle.bike_book.specs.ChangeLaws.{segment_writes, change_writes};
-ghost use Rattle.bike_book.specs.Writes.{writes_of};
+ghost use Rattle.bike_book.specs.Writes.{write_of, writes_of};
 ghost use Rattle.bike_booking.specs.Put.{bikes_by};
-ghost use Rattle.bike_accepted.specs.declared.movement.Movement.TheVariants as moved;
 ghost use Rattle.bike_booking.specs.Room.{HasRoom, TakesRows};
 ghost use Rattle.bike_booking.specs.Stored.{counts_in};
-ghost use Rattle.bike_booking.specs.Writes.{count_row, dock_row, moved_rows, entry_writes, close_rows};
+ghost use Rattle.bike_booking.specs.Writes.{dock_row, put_write, mark_write, moved_writes, entry_writes, close_rows};
 ghost use Rattle.bike_booking.specs.Writes.{writes_of_accepted, AreAdded};
 
 use crate::shares::{BikeShares, moved_by, one};
@@ -16,13 +15,13 @@ use crate::stored::{Stored, StoredCounts, StoredDock, Sums};
 use crate::texts::KeptTexts;
 use arrayvec::ArrayVec;
 use bike_accepted::{Accepted, BikeStatus, BookedEntry, Change, DockAt, DockOccupant, Movement};
-use bike_book::{RequestCount, RowChange};
+use bike_book::{RequestCount, RowChange, TypeCounts};
 use bike_fields::{DockCount, Ident, Segment};
 use bike_fixed::Moment;
 
-/// A request makes at most this many row changes: 3 of what is put or marked, a record and 8 segments of a plan, 3 of
+/// A request makes at most this many row changes: 2 of what is put or marked, a record and 8 segments of a plan, 3 of
 /// an entry and 2 of the close.
-pub const MOST_ROW_CHANGES: usize = 17;
+pub const MOST_ROW_CHANGES: usize = 16;
 
 /// The row changes of a request. They take no memory.
 pub type Rows<'a> = ArrayVec<RowChange<'a>, MOST_ROW_CHANGES>;
@@ -39,29 +38,12 @@ fn add<'a>(rows: &mut Rows<'a>, more: &[RowChange<'a>])
 }
 
 /// The counts of a type at a station when a bicycle that added the one shares adds the others.
-fn count_row<'a>(
-    counts: &Option<StoredCounts>,
-    station: &'a Ident,
-    type_id: &'a Ident,
-    less: BikeShares,
-    more: BikeShares,
-) -> RowChange<'a>
-    ensures { result ≡ count_row counts.now station.entry type_id.entry
-        (bikes_by (record { less = less; more = more }) (counts_in counts.now)) }
+fn counts_by(stored: &StoredCounts, less: BikeShares, more: BikeShares) -> TypeCounts
+    ensures { result ≡ bikes_by (record { less = less; more = more }) (counts_in stored.now) }
 {
-    match counts {
-        None => RowChange::AddCount {
-            station,
-            type_id,
-            available: moved_by(0, less.available(), more.available()),
-            disabled: moved_by(0, less.disabled(), more.disabled()),
-        },
-        Some(stored) => RowChange::SetCount {
-            station,
-            type_id,
-            available: moved_by(stored.available.get(), less.available(), more.available()),
-            disabled: moved_by(stored.disabled.get(), less.disabled(), more.disabled()),
-        },
+    TypeCounts {
+        available: moved_by(stored.available.get(), less.available(), more.available()),
+        disabled: moved_by(stored.disabled.get(), less.disabled(), more.disabled()),
     }
 }
 
@@ -73,18 +55,6 @@ fn bike_row<'a>(bike: u32, becomes: &BikeStatus<'a>) -> RowChange<'a>
         bike,
         state: becomes.state,
         place: becomes.place,
-    }
-}
-
-/// The numbers of a station's docks, with its report.
-fn docks_row<'a>(at: &DockAt<'a>, free: u32, broken: u32, now: Moment) -> RowChange<'a>
-    ensures { result ≡ row.SetDocksReported at.now.station free broken now }
-{
-    RowChange::SetDocksReported {
-        station: at.station,
-        free,
-        broken,
-        reported: now,
     }
 }
 
@@ -125,56 +95,82 @@ fn dock_row<'a>(is_listed: bool, at: &DockAt<'a>, is_broken: bool) -> RowChange<
     }
 }
 
-/// Adds the row changes of an empty dock that is marked.
-fn push_mark<'a>(
-    rows: &mut Rows<'a>,
+/// The station of a dock into, from or in which a bicycle is put: the numbers of its docks, its bicycles by type,
+/// and its report.
+fn put_row<'a>(
+    at: &DockAt<'a>,
+    type_id: &'a Ident,
+    was: &BikeStatus<'a>,
+    becomes: &BikeStatus<'a>,
+    stored: &'a Stored,
+    now: Moment,
+) -> RowChange<'a>
+    ensures { write_of result ≡ put_write now stored.now at.now type_id.entry was.now becomes.now }
+{
+    let dock = &stored.dock;
+    let less = BikeShares::of(at.is_broken, was);
+    let more = BikeShares::of(at.is_broken, becomes);
+    RowChange::SetBikesReported {
+        station: at.station,
+        free: moved_by(dock.free.get(), more.occupied(), less.occupied()),
+        broken: dock.broken.get(),
+        by_type: stored.by_type.as_slice(),
+        type_id,
+        counts: counts_by(&stored.counts, less, more),
+        reported: now,
+    }
+}
+
+/// The station of an empty dock that is marked: the numbers of its docks, and its report.
+fn empty_mark_row<'a>(
     at: &DockAt<'a>,
     is_broken: bool,
     stored: &Stored,
     now: Moment,
-)
-    requires { HasRoom 3 rows.old }
-    ensures rows { rows.new.items ≡ rows.old.items ++ moved_rows now stored.now (moved.Marked at.now None is_broken) }
-    ensures room { TakesRows 3 rows.old rows.new }
+) -> RowChange<'a>
+    ensures { write_of result ≡ mark_write now stored.now at.now None is_broken }
 {
     let dock = &stored.dock;
     let was = one(at.is_broken);
     let is = one(is_broken);
-    let free = moved_by(dock.free.get(), is, was);
-    let broken = moved_by(dock.broken.get(), was, is);
-    let mark = dock_row(dock.is_listed, at, is_broken);
-    add(rows, &[mark, docks_row(at, free, broken, now)]);
+    RowChange::SetDocksReported {
+        station: at.station,
+        free: moved_by(dock.free.get(), is, was),
+        broken: moved_by(dock.broken.get(), was, is),
+        reported: now,
+    }
 }
 
-/// Adds the row changes of a dock that is marked with a bicycle in it.
-fn push_held_mark<'a>(
-    rows: &mut Rows<'a>,
+/// The station of a dock that is marked with a bicycle in it: the numbers of its docks, its bicycles by type, and its
+/// report.
+fn held_mark_row<'a>(
     at: &DockAt<'a>,
     held: &DockOccupant<'a>,
     is_broken: bool,
-    stored: &Stored,
+    stored: &'a Stored,
     now: Moment,
-)
-    requires { HasRoom 3 rows.old }
-    ensures rows { rows.new.items ≡ rows.old.items ++ moved_rows now stored.now
-        (moved.Marked at.now (Some held.now) is_broken) }
-    ensures room { TakesRows 3 rows.old rows.new }
+) -> RowChange<'a>
+    ensures { write_of result ≡ mark_write now stored.now at.now (Some held.now) is_broken }
 {
     let dock = &stored.dock;
     let less = BikeShares::in_dock(at.is_broken, held.state);
     let more = BikeShares::in_dock(is_broken, held.state);
-    let broken = moved_by(dock.broken.get(), one(at.is_broken), one(is_broken));
-    let mark = dock_row(dock.is_listed, at, is_broken);
-    let docks = docks_row(at, dock.free.get(), broken, now);
-    let count = count_row(&stored.counts, at.station, held.type_id, less, more);
-    add(rows, &[mark, docks, count]);
+    RowChange::SetBikesReported {
+        station: at.station,
+        free: dock.free.get(),
+        broken: moved_by(dock.broken.get(), one(at.is_broken), one(is_broken)),
+        by_type: stored.by_type.as_slice(),
+        type_id: held.type_id,
+        counts: counts_by(&stored.counts, less, more),
+        reported: now,
+    }
 }
 
 /// Adds the row changes of what is put or marked.
-fn push_moved<'a>(rows: &mut Rows<'a>, moved: &Movement<'a>, stored: &Stored, now: Moment)
-    requires { HasRoom 3 rows.old }
-    ensures rows { rows.new.items ≡ rows.old.items ++ moved_rows now stored.now moved.now }
-    ensures room { TakesRows 3 rows.old rows.new }
+fn push_moved<'a>(rows: &mut Rows<'a>, moved: &Movement<'a>, stored: &'a Stored, now: Moment)
+    requires { HasRoom 2 rows.old }
+    ensures added { AreAdded (moved_writes now stored.now moved.now) rows.old.items rows.new.items }
+    ensures room { TakesRows 2 rows.old rows.new }
 {
     match moved {
         Movement::Away { bike, becomes, .. } => add(rows, &[bike_row(*bike, becomes)]),
@@ -185,13 +181,8 @@ fn push_moved<'a>(rows: &mut Rows<'a>, moved: &Movement<'a>, stored: &Stored, no
             was,
             becomes,
         } => {
-            let dock = &stored.dock;
-            let less = BikeShares::of(at.is_broken, was);
-            let more = BikeShares::of(at.is_broken, becomes);
-            let free = moved_by(dock.free.get(), more.occupied(), less.occupied());
-            let docks = docks_row(at, free, dock.broken.get(), now);
-            let count = count_row(&stored.counts, at.station, type_id, less, more);
-            add(rows, &[bike_row(*bike, becomes), docks, count]);
+            let numbers = put_row(at, type_id, was, becomes, stored, now);
+            add(rows, &[bike_row(*bike, becomes), numbers]);
         }
         Movement::AddDocks {
             station,
@@ -200,14 +191,16 @@ fn push_moved<'a>(rows: &mut Rows<'a>, moved: &Movement<'a>, stored: &Stored, no
         } => add(rows, &[dock_count_row(station, was, count, &stored.dock)]),
         Movement::Marked {
             at,
-            held: None,
+            held,
             is_broken,
-        } => push_mark(rows, at, *is_broken, stored, now),
-        Movement::Marked {
-            at,
-            held: Some(held),
-            is_broken,
-        } => push_held_mark(rows, at, held, *is_broken, stored, now),
+        } => {
+            let mark = dock_row(stored.dock.is_listed, at, *is_broken);
+            let numbers = match held {
+                None => empty_mark_row(at, *is_broken, stored, now),
+                Some(held) => held_mark_row(at, held, *is_broken, stored, now),
+            };
+            add(rows, &[mark, numbers]);
+        }
     }
 }
 
@@ -282,10 +275,11 @@ fn push_close<'a>(
     add(rows, &[meta_row, request_row]);
 }
 
-/// The row changes of an accepted command, whose request gets this number in the history.
+/// The row changes of an accepted command, whose request gets this number in the history. They borrow what is stored of
+/// the station's bicycles.
 pub fn rows_of<'a>(
     accepted: &'a Accepted<'a>,
-    stored: &Stored,
+    stored: &'a Stored,
     now: Moment,
     number: RequestCount,
     texts: &KeptTexts<'a>,

@@ -4,6 +4,7 @@ ghost use Rattle.std.specs.Prelude.{◌≡◌, ◌↔◌, IfSome, IsTrue};
 ghost use Rattle.bike_booking.specs.Sums.{AreBounded, sums_after};
 
 use bike_accepted::BookedEntry;
+use bike_book::CountedType;
 use bike_fields::DockTotal;
 use bike_fixed::Cents;
 use bike_ledger::{cash_after, is_balance, revenue_after};
@@ -60,12 +61,14 @@ impl Sums {
 }
 
 /// What is stored of what an accepted command touches.
-#[derive(Clone, Copy)]
+#[derive(Drop)]
 pub struct Stored {
     /// The dock and its station.
     pub dock: StoredDock,
-    /// The counts there of the type of the bicycle that is put or marked; none where they have no row.
-    pub counts: Option<StoredCounts>,
+    /// The station's bicycles by type.
+    pub by_type: Vec<CountedType>,
+    /// The counts there of the type of the bicycle that is put or marked.
+    pub counts: StoredCounts,
     /// The operator's sums with the entry of the request.
     pub sums: Sums,
 }

@@ -1,6 +1,5 @@
 -- A name with what has it beside it: the station and the region of its identifier, or the vehicle type and the plan.
-use Rattle.std.proofs.Common.{◌≡◌, ℕ, ◌+◌, ℤ, List, [], ◌∷◌, ◌++◌, length, Bool, true, false, ◌&&◌, Option, Some, is_some, refl, ap, ◌∙◌}
-use Rattle.std.specs.Prelude.{take}
+use Rattle.std.proofs.Common.{◌≡◌, ℕ, ◌+◌, List, [], ◌∷◌, ◌++◌, length, Bool, true, false, ◌&&◌, Option, Some, is_some, refl, ap, ◌∙◌}
 use Rattle.std.specs.FinMap as fin
 use Rattle.sqlite_value.specs.declared.value.Value.TheVariants.{Text}
 use Rattle.sqlite_value.specs.Order.{Row, column}
@@ -9,7 +8,7 @@ use Rattle.bike_sql.specs.View.{partner}
 use Rattle.bike_catalogue.specs.Rows.{SystemRow}
 use Rattle.bike_fields.specs.declared.name_kind.NameKind.{NameKind}
 use Rattle.bike_fields.specs.declared.name_kind.NameKind.TheVariants as named
-use Rattle.bike_operator.specs.Operator.{Operator, Station}
+use Rattle.bike_operator.specs.Operator.{Operator}
 use Rattle.bike_operator.specs.Names.{has_named, is_system}
 use Rattle.bike_book.specs.Tables.{Tables, Types, Regions, Stations}
 use Rattle.bike_book.specs.declared.columns.plans.TheConstants as plans
@@ -17,12 +16,10 @@ use Rattle.bike_book.specs.declared.columns.types.TheConstants as types
 use Rattle.bike_book.specs.declared.columns.regions.TheConstants as regions
 use Rattle.bike_book.specs.declared.columns.stations.TheConstants as stations
 use Rattle.bike_book.specs.declared.columns.more_names.TheConstants as more_names
-use Rattle.bike_book.proofs.Keys.{text_key, texts}
 use Rattle.bike_readings.specs.Readings.{plan_read, type_read, region_read, station_read, name_read}
 use Rattle.bike_readings.specs.ReadOff.{station_in, operator_of}
 use Rattle.bike_readings.specs.Rules.{AreInOrder}
-use Rattle.bike_readings.proofs.CatalogueRows.{type_reading, region_reading, station_reading, name_reading}
-use Rattle.bike_readings.proofs.ReadRows.{mapped}
+use Rattle.bike_readings.proofs.CatalogueRows.{name_reading}
 use Rattle.bike_judges.specs.Lines.{part, or_nulls, with_two}
 use Rattle.bike_catalogue_rules.specs.Names.{FurtherName, system_key, is_own_id, is_place_there, is_offer_there, of_kind, has_place, has_offer}
 use Rattle.bike_judges.proofs.Lookups.{type_key, region_key, station_part, station_key}

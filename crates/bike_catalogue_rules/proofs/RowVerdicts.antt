@@ -29,7 +29,7 @@ some_good Fact (Some x) good = refl
 module _ (t : Tables) (name : TableName) (test : ℕ → Row → Bool) where
   -- a row passes exactly where it is good
   pub record IsTestOf : Type 0 where
-    pub may_lack : (key : Row) → MayLack (operator_of t) name key
+    pub may_lack : (key : Row) → MayLack name key
     pub good : (below : ℕ) (r : Row) → Has (rows_in t name) r → test below r ≡ true → IsGoodRow t (operator_of t) below name r
     pub passes : (below : ℕ) (r : Row) → Has (rows_in t name) r → IsGoodRow t (operator_of t) below name r → test below r ≡ true
 

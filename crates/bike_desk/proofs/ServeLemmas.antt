@@ -4,8 +4,11 @@ use Rattle.std.specs.Prelude.{IfSome, is_none, ◌&&◌, max, string_bytes}
 use Rattle.std.specs.Option.{ok_or}
 use Rattle.std.specs.Str.{bytes_eq}
 use Rattle.std.specs.FinMap as map
-use Rattle.sqlite.specs.State.{State}
+use Rattle.sqlite_trees.specs.declared.store.Store.{Ghosts}
+use Rattle.sqlite.specs.State.{State, HasCleanDisk}
+use Rattle.sqlite.specs.Held.{Held, state}
 use Rattle.bike_fixed.specs.Whole.{last_moment}
+use Rattle.bike_commands.specs.declared.command.Command.{Command}
 use Rattle.bike_commands.specs.declared.request.Request.{Request}
 use Rattle.bike_commands.specs.declared.reply.Reply.{Reply}
 use Rattle.bike_commands.specs.declared.reply.Reply.TheVariants.{Refused}
@@ -14,7 +17,10 @@ use Rattle.bike_commands.specs.declared.refusal.Refusal.TheVariants as refusal
 use Rattle.bike_commands.specs.Commands.{text_of}
 use Rattle.bike_commands.specs.Requests.{IsRequest}
 use Rattle.sqlite.specs.Effect.{Database}
+use Rattle.bike_views.specs.declared.view_and_docks.StationDocks.{StationDocks}
 use Rattle.bike_views.specs.declared.view_and_docks.ViewAndDocks.{ViewAndDocks}
+use Rattle.bike_views.specs.ViewAndDocks.{docks_for, told_of}
+use Rattle.bike_views.specs.Open.{AnswersOpen}
 use Rattle.bike_operator.specs.Operator.{Operator, AcceptedRequest, key_in, kept_under}
 use Rattle.bike_operator.specs.Sound.{IsSound}
 use Rattle.bike_operator.specs.Steps.{refusal_of, reply_of}
@@ -23,7 +29,6 @@ use Rattle.bike_laws.proofs.OrderLemmas.{step_sound}
 use Rattle.bike_laws.proofs.RetryLemmas.{first_kept}
 use Rattle.bike_book.specs.declared.row_change.RowChange.{RowChange}
 use Rattle.bike_book.specs.Stored.{Listed, IsListing}
-use Rattle.bike_schema.specs.Tables.{tables_of}
 use Rattle.bike_schema.specs.Stands.{Stores, Keeps}
 use Rattle.bike_office_reads.specs.declared.kept.KeptRow.{KeptRow}
 use Rattle.bike_office_reads.specs.Accounts.{KeepsSame}
@@ -40,7 +45,8 @@ use Rattle.bike_booking.specs.Booking.{IsAccepted, AreTexts, Books, SumsTakeOneM
 use Rattle.bike_booking.proofs.NextFigures.{figures_next}
 use Rattle.bike_schema.specs.declared.fault.StatementFault.{StatementFault}
 use Rattle.bike_schema.specs.declared.fault.StatementFault.TheVariants.{StoreFailed}
-use Rattle.bike_desk.specs.Serving.{IsNextBy, IsReadFor, Accepts}
+use Rattle.bike_desk.specs.Serving.{IsNextBy, AreDocksIn, IsReadFor, IsAcceptedIn, Accepts}
+use Rattle.bike_desk.proofs.KeepLemmas.{kept_ours, still}
 
 module _ (s : Operator) (t : ℕ) (q : Request) where
   -- a kept key
@@ -78,13 +84,10 @@ acceptance_moves s t q anew free same =
     let kept = first_kept s t q (ap₂ (λ k r. is_none k && is_none r) anew free) in
     let none : kept_under (key_in q) (step s t q).1.history ≡ None = ap (λ (o : Operator). kept_under (key_in q) o.history) same ∙ anew in cc
 
--- what is booked leads on, from the same rows after a read
-pub booked_next : (old new : State) (s : Operator) (now : ℕ) (q : Request) (h : Stores old.now s) (rows : List RowChange) → new.now ≡ old.now → Keeps new s → IsSound (after_acceptance s now q)
-    → Books rows s h.listed now q → IsNextBy new rows s (after_acceptance s now q)
-booked_next old new s now q h rows same keeps sound books =
-    let tables = ap tables_of same ∙ h.tables in
-    let again : Stores new.now s = record { has = keeps.tables; sound = h.sound; listed = h.listed; listing = h.listing; tables = tables } in
-    record { keeps = keeps; stores = again; listed = books.listed; leads = books.leads; sound = sound }
+-- what is booked leads on
+pub booked_next : (c : State) (s : Operator) (now : ℕ) (q : Request) (h : Stores c.now s) (rows : List RowChange) → Keeps c s → IsSound (after_acceptance s now q) → Books rows s h.listed now q
+    → IsNextBy c rows s (after_acceptance s now q)
+booked_next c s now q h rows keeps sound books = record { keeps = keeps; stores = h; listed = books.listed; leads = books.leads; sound = sound }
 
 -- an acceptance of which is known what is stored
 pub accepts_stored : (s : Operator) (m : Listed) (now : ℕ) (q : Request) (a : Accepted) (after : Figures) (texts : KeptTexts) (n : Stored)
@@ -99,6 +102,25 @@ accepts_stored s m now q a after texts n sound listing it moved is = record {
   texts_are = it.texts_are;
   sound_after = it.sound_after;
 }
+
+-- what is stored was read of what an accepted request moves
+module _ {S : Type 0} (g : Ghosts S) (old new : Held S) (s : Operator) (a : Accepted) (docks : Option StationDocks) (n : Stored) (keeps : Keeps (state g old) s) (seen : HasCleanDisk (state g new))
+    (read : AnswersOpen g old new {E = StatementFault} (Ok n) (λ s m n. (c : Command) → told_of docks ≡ docks_for s m c → IfSome a.moved (IsMovedStored s m n))) where
+  -- the database is as it was
+  pub stored_same : (state g new).now ≡ (state g old).now
+  stored_same = ((read.answers keeps.is_open).same seen (kept_ours (state g old) s keeps)).0.now_is
+
+  -- after it the connection keeps the operator, and what was read is what is stored
+  pub stored_read : (now : ℕ) (q : Request) (after : Figures) (texts : KeptTexts) → n.sums ≡ after.sums → AreDocksIn (state g old).now s q.command docks → Accepts s now q a after texts
+      → Keeps (state g new) s × IsAcceptedIn (state g new).now s now q a n after.requests texts
+  stored_read now q after texts is found it =
+      let ours = kept_ours (state g old) s keeps in
+      let answered = read.answers keeps.is_open in
+      let told : IsAcceptedIn (state g old).now s now q a n after.requests texts =
+      λ h. accepts_stored s h.listed now q a after texts n h.sound h.listing it (answered.found seen ours s h q.command (found h)) is in (
+        still g old new s keeps seen (answered.same seen ours) read.quiet,
+        subst (λ db. IsAcceptedIn db s now q a n after.requests texts) (sym stored_same) told,
+      )
 
 -- what is there is so where the other wasn't answered
 found_there : {X E : Type 0} (o : Option X) {x : X} (e : E) → ◌≡◌ {A = Result X E} (Ok x) (ok_or o e) → o ≡ Some x

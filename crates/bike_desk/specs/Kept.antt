@@ -1,20 +1,22 @@
 -- How the clauses begin that speak of the operator which a connection keeps.
-use Rattle.std.specs.Prelude.{◌≡◌, ℕ, List, None, Result, OnOk}
+use Rattle.std.specs.Prelude.{◌≡◌, ℕ, List, Option, None, Result, OnOk}
 use Rattle.std.specs.FinMap as map
 use Rattle.sqlite_trees.specs.declared.store.Store.{Ghosts}
 use Rattle.sqlite.specs.State.{State, HasCleanDisk}
 use Rattle.sqlite.specs.Held.{Held, state}
 use Rattle.bike_commands.specs.declared.request.Request.{Request}
+use Rattle.bike_operator.specs.declared.view.View.{View}
 use Rattle.bike_operator.specs.Operator.{Operator, key_in, kept_under}
 use Rattle.bike_accepted.specs.declared.accepted.Accepted.{Accepted}
 use Rattle.bike_book.specs.declared.row_change.RowChange.{RowChange}
 use Rattle.bike_schema.specs.Stands.{AllLeft, Keeps}
 use Rattle.bike_booking.specs.declared.texts.KeptTexts.{KeptTexts}
 use Rattle.bike_booking.specs.declared.figures.Figures.{Figures}
-use Rattle.bike_views.specs.declared.view_and_docks.ViewAndDocks.{ViewAndDocks}
+use Rattle.bike_booking.specs.declared.stored.Stored.{Stored}
+use Rattle.bike_views.specs.declared.view_and_docks.StationDocks.{StationDocks}
 use Rattle.bike_desk.specs.declared.serve.RequestTexts.{RequestTexts}
 use Rattle.bike_desk.specs.Desk.{TreesStandForEither}
-use Rattle.bike_desk.specs.Serving.{IsNextBy, IsFoundIn, IsReadFor, Accepts}
+use Rattle.bike_desk.specs.Serving.{IsNextBy, IsReadFor, IsAcceptedIn}
 
 -- So it is of each operator that the connection kept, where the disk is clean afterwards.
 abbrev pub ForEachKept : {S : Type 0} → Ghosts S → Held S → Held S → (Operator → Type 0) → Type 0
@@ -27,18 +29,18 @@ ForEachNext g old new changes says =
     HasCleanDisk (state g new) → (s next : Operator) → IsNextBy (state g old) changes s next → says s next
 
 -- So it is of each of them and each moment for which all this was read.
-abbrev pub ForEachRead : {S : Type 0} → Ghosts S → Held S → Held S → ℕ → Request → Figures → ViewAndDocks
-    → (Operator → ℕ → Type 0) → Type 0
-ForEachRead g old new now q figures x says =
+abbrev pub ForEachRead : {S : Type 0} → Ghosts S → Held S → Held S → ℕ → Request → Figures → View
+    → Option StationDocks → (Operator → ℕ → Type 0) → Type 0
+ForEachRead g old new now q figures view docks says =
     HasCleanDisk (state g new) → (s : Operator) (moment : ℕ) → Keeps (state g old) s
-    → IsReadFor (state g old).now s moment now q figures x → says s moment
+    → IsReadFor (state g old).now s moment now q figures (record { view = view; docks = docks }) → says s moment
 
--- So it is of each of them and each request that it accepts so, for which this was found.
-abbrev pub ForEachAccepted : {S : Type 0} → Ghosts S → Held S → Held S → ViewAndDocks → ℕ → Accepted → Figures
-    → KeptTexts → (Operator → Request → Type 0) → Type 0
-ForEachAccepted g old new x now a after texts says =
+-- So it is of each of them and each request that it accepts so, of which this is stored.
+abbrev pub ForEachStored : {S : Type 0} → Ghosts S → Held S → Held S → ℕ → Accepted → Stored → ℕ → KeptTexts
+    → (Operator → Request → Type 0) → Type 0
+ForEachStored g old new now a n number texts says =
     HasCleanDisk (state g new) → (s : Operator) (q : Request) → Keeps (state g old) s
-    → IsFoundIn (state g old).now s q.command x → Accepts s now q a after texts → says s q
+    → IsAcceptedIn (state g old).now s now q a n number texts → says s q
 
 -- nothing is kept under the request's key
 abbrev pub IsAnew : Operator → RequestTexts → Type 0

@@ -1,5 +1,5 @@
 -- What serving one request rests on.
-use Rattle.std.specs.Prelude.{◌≡◌, ◌≤◌, ◌+◌, ℕ, max, List, length, None, Ok}
+use Rattle.std.specs.Prelude.{◌≡◌, ◌≤◌, ◌+◌, ℕ, max, List, length, Option, None, Ok}
 use Rattle.std.specs.FinMap as map
 use Rattle.sqlite.specs.Effect.{Database}
 use Rattle.sqlite.specs.State.{State}
@@ -22,10 +22,12 @@ use Rattle.bike_book.specs.Leads.{LeadsTo}
 use Rattle.bike_schema.specs.Stands.{Stores, Keeps}
 use Rattle.bike_booking.specs.declared.texts.KeptTexts.{KeptTexts}
 use Rattle.bike_booking.specs.declared.figures.Figures.{Figures}
-use Rattle.bike_booking.specs.Booking.{AreTexts}
+use Rattle.bike_booking.specs.declared.stored.Stored.{Stored}
+use Rattle.bike_booking.specs.Booking.{AreTexts, IsAccepted}
 use Rattle.bike_booking.specs.Figures.{figures_of}
 use Rattle.bike_booking.specs.Sums.{sums_of, sums_after}
-use Rattle.bike_views.specs.ViewAndDocks.{IsFoundFor}
+use Rattle.bike_views.specs.ViewAndDocks.{IsFoundFor, docks_for, told_of}
+use Rattle.bike_views.specs.declared.view_and_docks.StationDocks.{StationDocks}
 use Rattle.bike_views.specs.declared.view_and_docks.ViewAndDocks.{ViewAndDocks}
 use Rattle.bike_desk.specs.declared.serve.RequestTexts.{RequestTexts}
 use Rattle.bike_desk.specs.declared.serve.Outcome.{Outcome}
@@ -49,6 +51,10 @@ pub record IsNextBy (c : State) (changes : List RowChange) (s next : Operator) :
 abbrev pub IsFoundIn : Database → Operator → Command → ViewAndDocks → Type 0
 IsFoundIn db s c x = (h : Stores db s) → IsFoundFor s h.listed c x
 
+-- and the docks that came with it
+abbrev pub AreDocksIn : Database → Operator → Command → Option StationDocks → Type 0
+AreDocksIn db s c docks = (h : Stores db s) → told_of docks ≡ docks_for s h.listed c
+
 -- What was read for a request that comes at a moment: its key isn't kept, the
 -- figures and the view are the operator's, and `now` is the later of both moments.
 pub record IsReadFor (db : Database) (s : Operator) (moment now : ℕ) (q : Request) (figures : Figures)
@@ -70,6 +76,10 @@ pub record Accepts (s : Operator) (now : ℕ) (q : Request) (a : Accepted) (afte
   pub number_is : after.requests ≡ length s.history + 1
   pub sound_after : IsSound (after_acceptance s now q)
   pub texts_are : AreTexts s now q texts
+
+-- the operator whose tables the database has accepts the request so, and this is stored of what that touches
+abbrev pub IsAcceptedIn : Database → Operator → ℕ → Request → Accepted → Stored → ℕ → KeptTexts → Type 0
+IsAcceptedIn db s now q a n number texts = (h : Stores db s) → IsAccepted s h.listed now q a n number texts
 
 -- What is told is the step's reply; the connection keeps the operator after it, whose figures these are.
 pub record Serves (c : State) (next : Reply × Operator) (served : Outcome) : Type 0 where

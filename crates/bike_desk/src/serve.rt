@@ -12,20 +12,22 @@ ghost use Rattle.bike_booking.specs.Sums.{AreBounded};
 ghost use Rattle.bike_schema.specs.Makes.{OthersStay};
 ghost use Rattle.bike_schema.specs.Stands.{Keeps};
 ghost use Rattle.bike_desk.specs.Desk.{IsRemembered};
-ghost use Rattle.bike_desk.specs.Kept.{CrashLeavesEither, ForEachAccepted, ForEachKept, ForEachRead, IsAnew, StaysWith};
+ghost use Rattle.bike_desk.specs.Kept.{CrashLeavesEither, ForEachKept, ForEachRead};
+ghost use Rattle.bike_desk.specs.Kept.{ForEachStored, IsAnew, StaysWith};
 ghost use Rattle.bike_desk.specs.Serving.{IsAsked, Serves};
 
 use crate::remembered::DeskMemory;
 use crate::transaction::make_all;
 use bike_accepted::Accepted;
-use bike_booking::{Figures, KeptTexts, books_accepted, rows_of};
+use bike_book::RequestCount;
+use bike_booking::{Figures, KeptTexts, Stored, books_accepted, rows_of};
 use bike_commands::{Refusal, Reply, Request};
 use bike_core::decide;
 use bike_fixed::Moment;
 use bike_office_reads::{KeptRow, find_kept};
-use bike_operator::is_bounded;
+use bike_operator::{View, is_bounded};
 use bike_schema::StatementFault;
-use bike_views::{KnownFigures, ViewAndDocks, find_stored, find_view, know_figures};
+use bike_views::{KnownFigures, StationDocks, ViewAndDocks, find_stored, find_view, know_figures};
 use sqlite::{Alter, Connection};
 use std::alloc::Global;
 
@@ -70,13 +72,14 @@ fn next_figures(
         .ok_or(StatementFault::StoreFailed)
 }
 
-/// Makes the row changes of an accepted command, and adds its request to the history, all in one transaction. `after`
-/// are the operator's figures after it.
-fn store_accepted<'a, S: Alter>(
+/// Makes the row changes of an accepted command of which this is stored, and adds its request with this number to the
+/// history, all in one transaction.
+fn store_rows<'a, S: Alter>(
+    alloc: Global,
     conn: &mut Connection<S>,
-    found: &ViewAndDocks,
     accepted: &'a Accepted<'a>,
-    after: &Figures,
+    stored: &'a Stored,
+    number: RequestCount,
     now: Moment,
     texts: &KeptTexts<'a>,
 ) -> Result<(), StatementFault>
@@ -85,26 +88,27 @@ fn store_accepted<'a, S: Alter>(
     ensures ended { conn.new.in_transaction ≡ false }
     ensures clean { doubt (state S.Store conn.old).is_clean ≤ doubt (state S.Store conn.new).is_clean }
     // Done: the operator after the acceptance, and other tables as before.
-    ensures made { ForEachAccepted S.Store conn.old conn.new found.now now accepted.now after.entry.now texts.now
+    ensures made { ForEachStored S.Store conn.old conn.new now accepted.now stored.now number texts.now
         (λ s q. OnOk result (Keeps (state S.Store conn.new) (after_acceptance s now q))) }
-    ensures others { ForEachAccepted S.Store conn.old conn.new found.now now accepted.now after.entry.now texts.now
+    ensures others { ForEachStored S.Store conn.old conn.new now accepted.now stored.now number texts.now
         (λ s q. OnOk result (OthersStay (state S.Store conn.old).now (state S.Store conn.new).now)) }
     // Whatever the end, a crash leaves the operator before or after.
-    ensures left { ForEachAccepted S.Store conn.old conn.new found.now now accepted.now after.entry.now texts.now
+    ensures left { ForEachStored S.Store conn.old conn.new now accepted.now stored.now number texts.now
         (λ s q. CrashLeavesEither (state S.Store conn.new) s (after_acceptance s now q)) }
 {
-    let stored = find_stored(conn, &found.docks, &accepted.moved, after.sums)?;
     books_accepted();
-    let rows = rows_of(accepted, &stored, now, after.requests, texts);
-    make_all(conn, rows.as_slice())
+    let rows = rows_of(accepted, stored, now, number, texts);
+    make_all(alloc, conn, rows.as_slice())
 }
 
 /// Serves a request whose key isn't kept by a decision on what was read for it: the operator's figures, and the view
-/// with what was read beside it. `StoreFailed` also where no further request can be numbered.
+/// with the docks that came with it. `StoreFailed` also where no further request can be numbered.
 fn serve_read<'a, S: Alter>(
+    alloc: Global,
     conn: &mut Connection<S>,
     figures: &Figures,
-    found: &'a ViewAndDocks,
+    view: &'a View,
+    docks: Option<StationDocks>,
     now: Moment,
     asked: RequestTexts<'a>,
 ) -> Result<Outcome, StatementFault>
@@ -114,18 +118,17 @@ fn serve_read<'a, S: Alter>(
     ensures ended { conn.new.in_transaction ≡ false }
     ensures clean { doubt (state S.Store conn.old).is_clean ≤ doubt (state S.Store conn.new).is_clean }
     // Done: the step of the operator, other tables as before, and all where the step changes nothing.
-    ensures ok { ForEachRead S.Store conn.old conn.new now asked.entry.request.now figures.entry.now found.now
+    ensures ok { ForEachRead S.Store conn.old conn.new now asked.entry.request.now figures.entry.now view.now docks
         (λ s t. IfOk result (Serves (state S.Store conn.new) (step s t asked.entry.request.now))) }
-    ensures others { ForEachRead S.Store conn.old conn.new now asked.entry.request.now figures.entry.now found.now
+    ensures others { ForEachRead S.Store conn.old conn.new now asked.entry.request.now figures.entry.now view.now docks
         (λ s t. OnOk result (OthersStay (state S.Store conn.old).now (state S.Store conn.new).now)) }
-    ensures rests { ForEachRead S.Store conn.old conn.new now asked.entry.request.now figures.entry.now found.now
+    ensures rests { ForEachRead S.Store conn.old conn.new now asked.entry.request.now figures.entry.now view.now docks
         (λ s t. StaysWith S.Store conn.old conn.new s (step s t asked.entry.request.now).1 result) }
     // Failed: a crash leaves the operator before or after.
-    ensures failed { ForEachRead S.Store conn.old conn.new now asked.entry.request.now figures.entry.now found.now
+    ensures failed { ForEachRead S.Store conn.old conn.new now asked.entry.request.now figures.entry.now view.now docks
         (λ s t. OnErr result (CrashLeavesEither (state S.Store conn.new) s (step s t asked.entry.request.now).1)) }
 {
     let request = asked.request;
-    let view = &found.view;
     // Every view of a sound operator is bounded: else what is stored is nobody's.
     if !is_bounded(view, now) {
         return Err(StatementFault::StoreFailed);
@@ -138,6 +141,7 @@ fn serve_read<'a, S: Alter>(
         Ok(accepted) => {
             books_accepted();
             let after = next_figures(figures, now, &accepted)?;
+            let stored = find_stored(alloc, conn, docks, &accepted.moved, after.sums)?;
             let reply = accepted.reply;
             let spelled = reply.text();
             let key = request.key.as_str();
@@ -147,7 +151,8 @@ fn serve_read<'a, S: Alter>(
                 command: asked.text,
                 reply: spelled.as_str(),
             };
-            store_accepted(conn, found, &accepted, &after, now, &texts)?;
+            let number = after.requests;
+            store_rows(alloc, conn, &accepted, &stored, number, now, &texts)?;
             Ok(Outcome {
                 reply,
                 figures: Some(after),
@@ -188,7 +193,8 @@ fn serve_anew<'a, S: Alter>(
     let request = asked.request;
     let found = find_view(alloc, conn, &request.command, &known)?;
     let now = moment.later(&figures.now);
-    serve_read(conn, &figures, &found, now, asked)
+    let ViewAndDocks { view, docks } = found;
+    serve_read(alloc, conn, &figures, &view, docks, now, asked)
 }
 
 /// Serves one request, of whose command `text` is the text, by what is remembered of the operator.

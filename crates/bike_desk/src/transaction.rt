@@ -11,10 +11,12 @@ use bike_book::RowChange;
 use bike_schema::StatementFault;
 use bike_writes::put;
 use sqlite::{Alter, Connection};
+use std::alloc::Global;
 
 /// Makes all changes in one transaction, or none. Tables of other names stay. An error says nothing of whether the
 /// changes were made.
 pub fn make_all<S: Alter>(
+    alloc: Global,
     conn: &mut Connection<S>,
     changes: &[RowChange<'_>],
 ) -> Result<(), StatementFault>
@@ -33,7 +35,7 @@ pub fn make_all<S: Alter>(
 {
     let mut staged = conn.transaction();
     'changes: for change in changes {
-        put(&mut staged, change)?;
+        put(alloc, &mut staged, change)?;
     }
     match staged.commit() {
         Ok(()) => Ok(()),

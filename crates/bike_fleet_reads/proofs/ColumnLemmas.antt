@@ -10,8 +10,11 @@ use Rattle.sqlite.specs.Values.{or_null}
 use Rattle.bike_fields.specs.Bytes.{is_ident, kept_if, ident_of}
 use Rattle.bike_operator.specs.declared.records.BikeState.{BikeState}
 use Rattle.bike_operator.specs.declared.records.BikeState.TheVariants.{Fit, Disabled, Retired}
+use Rattle.bike_book.specs.declared.by_type.CountedType.{CountedType}
 use Rattle.bike_book.specs.Rows.{state_number}
-use Rattle.bike_schema.specs.Columns.{state_in, ident_in, or_none, read_or_failed}
+use Rattle.bike_book.specs.ByType.{ReadsBack, by_type_read, by_type_text}
+use Rattle.bike_schema.specs.Columns.{state_in, ident_in, or_none, read_or_failed, text_in}
+use Rattle.bike_fleet_reads.specs.Holds.{AreTypesIn}
 
 -- a bicycle's state
 pub holds_state : (v : Value) (state : BikeState) → Ok state ≡ read_or_failed (state_in v) → v ≡ Int (state_number state)
@@ -59,3 +62,10 @@ holds_optional_ident (Text text) ident is = by (ident_in (Text text)) refl is
     by : (read : Option (List ℕ)) → ident_in (Text text) ≡ read → option_map Some read ≡ Some ident → Text text ≡ or_null Text ident
     by None read is = absurd (cc)
     by (Some t) read is = let some : Some t ≡ ident = cc in (holds_ident (Text text) t read).0 ∙ ap (or_null Text) some
+
+-- the types of which the text tells that was read of a column
+pub holds_types : (v : Value) (text : List ℕ) (list : List CountedType) → ReadsBack → text_in v ≡ Some text → by_type_read text ≡ Some list → AreTypesIn v list
+holds_types v text list back is read cs idents holds = back cs list idents (ap by_type_read (same (is_utf8 (by_type_text cs)) (ap text_in (sym holds) ∙ is)) ∙ read) where
+  same : (b : Bool) → (if b then Some (by_type_text cs) else None) ≡ Some text → by_type_text cs ≡ text
+  same true it = cc
+  same false it = absurd (cc)

@@ -15,32 +15,43 @@ use Rattle.bike_operator.specs.declared.records.Bike.{Bike}
 use Rattle.bike_operator.specs.declared.records.Order.{Order}
 use Rattle.bike_operator.specs.declared.view.StationView.{StationView}
 use Rattle.bike_operator.specs.declared.view.TruckView.{TruckView}
-use Rattle.bike_operator.specs.Operator.{Operator, Station, Truck, item_numbered, key_of, dock_key}
+use Rattle.bike_operator.specs.Operator.{Operator, Station, Truck, item_numbered, dock_key}
 use Rattle.bike_operator.specs.Counts.{docked_at, is_broken, docks_available, docks_broken}
 use Rattle.bike_operator.specs.Sound.{IsSound}
 use Rattle.bike_operator.specs.View.{has_end, station_at, station_view, truck_at, truck_view}
-use Rattle.bike_book.specs.Tables.{Stations, Docks, Types, Bikes, Trucks, Orders, Counts}
-use Rattle.bike_book.specs.Rows.{truth, number_value, state_number, place_columns, end_text, station_row, type_row, bike_row, truck_row, order_row, count_row}
+use Rattle.bike_book.specs.Tables.{Stations, Docks, Types, Bikes, Trucks, Orders}
+use Rattle.bike_book.specs.Rows.{truth, number_value, state_number, place_columns, end_text, station_row, type_row, bike_row, truck_row, order_row}
+use Rattle.bike_book.specs.declared.by_type.CountedType.{CountedType}
+use Rattle.bike_book.specs.ByType.{IdentsLaw, by_type_text, types_at}
 use Rattle.bike_book.specs.Stored.{Listed, IsListing, stored_bike}
 use Rattle.bike_book.specs.Found.{row_under, rows_by}
 use Rattle.bike_book.proofs.FoundKeys.{found_by_key, found_listed}
 use Rattle.bike_book.proofs.FoundColumns.{found_by_columns}
 use Rattle.bike_fleet_reads.specs.declared.stations.DockNumbers.{DockNumbers}
-use Rattle.bike_fleet_reads.specs.declared.counts.TypeCounts.{TypeCounts}
+use Rattle.bike_fleet_reads.specs.declared.stations.StationNumbers.{StationNumbers}
 use Rattle.bike_fleet_reads.specs.declared.bikes.NumberedBike.{NumberedBike}
-use Rattle.bike_fleet_reads.specs.Fleet.{dock_numbers_of, dock_numbers_at, IsMark, type_counts_of, no_counts, AreCounts, numbered_pair}
-use Rattle.bike_fleet_reads.specs.Holds.{HoldsAny, HoldsStation, HoldsDockNumbers, HoldsMark, HoldsCounts, HoldsPlan, HoldsTruck, HoldsBike, HoldsPlace, HoldsNumbered, HoldsOrder}
+use Rattle.bike_fleet_reads.specs.Fleet.{dock_numbers_of, AreNumbersAt, IsMark, numbered_pair, numbers_pair}
+use Rattle.bike_fleet_reads.specs.Holds.{HoldsAny, HoldsStation, HoldsNumbers, HoldsMark, HoldsPlan, HoldsTruck, HoldsBike, HoldsPlace, HoldsNumbered, HoldsOrder}
 
--- What a row holds is what the record shows of which the row is.
-held_found : {Y Z : Type 0} (row_of : Y → Row) (view : Y → Z) (Holds : Row → Z → Type 0) (o : Option Y) (row : Option Row) (x : Option Z)
-    → ((y : Y) (z : Z) → o ≡ Some y → Holds (row_of y) z → z ≡ view y) → row ≡ option_map row_of o → HoldsAny Holds row x → x ≡ option_map view o
-held_found {Y} {Z} row_of view Holds o row x only is held = by o x refl (subst (λ r. HoldsAny Holds r x) is held)
+-- What is told of what a row holds is what the record shows of which the row is.
+told_found : {Y Z W : Type 0} (row_of : Y → Row) (view : Y → W) (tell : Z → W) (Holds : Row → Z → Type 0) (o : Option Y) (row : Option Row) (x : Option Z)
+    → ((y : Y) (z : Z) → o ≡ Some y → Holds (row_of y) z → tell z ≡ view y) → row ≡ option_map row_of o → HoldsAny Holds row x → option_map tell x ≡ option_map view o
+told_found {Y} {Z} row_of view tell Holds o row x only is held = by o x refl (subst (λ r. HoldsAny Holds r x) is held)
   where
-    by : (p : Option Y) (x : Option Z) → o ≡ p → HoldsAny Holds (option_map row_of p) x → x ≡ option_map view p
+    by : (p : Option Y) (x : Option Z) → o ≡ p → HoldsAny Holds (option_map row_of p) x → option_map tell x ≡ option_map view p
     by None None found h = refl
     by None (Some z) found h = absurd h
     by (Some y) None found h = absurd h
     by (Some y) (Some z) found h = ap Some (only y z found h)
+
+itself : {X : Type 0} (o : Option X) → option_map (λ x. x) o ≡ o
+itself None = refl
+itself (Some x) = refl
+
+-- the same of the whole value
+held_found : {Y Z : Type 0} (row_of : Y → Row) (view : Y → Z) (Holds : Row → Z → Type 0) (o : Option Y) (row : Option Row) (x : Option Z)
+    → ((y : Y) (z : Z) → o ≡ Some y → Holds (row_of y) z → z ≡ view y) → row ≡ option_map row_of o → HoldsAny Holds row x → x ≡ option_map view o
+held_found row_of view Holds o row x only is held = sym (itself x) ∙ told_found row_of view (λ z. z) Holds o row x only is held
 
 -- ---- columns that hold one value alone
 
@@ -102,22 +113,20 @@ same_bike n b c held =
 
 -- ---- records
 
--- what the view shows of a station and of a truck, and a bicycle with its number
+-- what the view shows of a station and of a truck
 abbrev station_shown : Station → StationView
 station_shown y = record { docks = y.row.docks; is_installed = y.is_installed; is_renting = y.is_renting; is_returning = y.is_returning }
 
 abbrev truck_shown : Truck → TruckView
 truck_shown t = record { capacity = t.capacity }
 
-abbrev numbered_shown : ℕ × Bike → NumberedBike
-numbered_shown e = record { number = e.0; bike = e.1 }
-
 module _ (s : Operator) (m : Listed) (sound : IsSound s) (listing : IsListing s m) where
   pub station_found : (id : List ℕ) (row : Option Row) (x : Option StationView) → row ≡ row_under s m Stations (Text id ∷ []) → HoldsAny HoldsStation row x → x ≡ station_at s id
   station_found id row x is held =
       held_found _ station_shown HoldsStation (fin.get s.stations id) row x (λ y z found h. same y z h) (is ∙ (found_by_key s m sound listing).stations id) held ∙ viewed (fin.get s.stations id)
     where
-      same : (y : Station) (z : StationView) → HoldsStation (station_row id y (pos (docks_available s id y.row.docks)) (docks_broken s id y.row.docks)) z → z ≡ station_shown y
+      same : (y : Station) (z : StationView) → HoldsStation (station_row id y (pos (docks_available s id y.row.docks)) (docks_broken s id y.row.docks) (by_type_text (types_at s id))) z
+          → z ≡ station_shown y
       same y z h =
           let docks : z.docks ≡ y.row.docks = cc in
           let installed : z.is_installed ≡ y.is_installed = same_truth _ _ (cc) in
@@ -129,15 +138,21 @@ module _ (s : Operator) (m : Listed) (sound : IsSound s) (listing : IsListing s 
       viewed None = refl
       viewed (Some y) = refl
 
-  pub dock_numbers_found : (id : List ℕ) (row : Option Row) (x : Option DockNumbers) → row ≡ row_under s m Stations (Text id ∷ []) → HoldsAny HoldsDockNumbers row x → x ≡ dock_numbers_at s id
-  dock_numbers_found id row x is held =
-      held_found _ (dock_numbers_of s id) HoldsDockNumbers (fin.get s.stations id) row x (λ y z found h. same y z h) (is ∙ (found_by_key s m sound listing).stations id) held
+  -- a station's numbers, whose types have identifiers
+  pub numbers_found : IdentsLaw → (id : List ℕ) (row : Option Row) (x : Option StationNumbers) → row ≡ row_under s m Stations (Text id ∷ []) → HoldsAny HoldsNumbers row x → AreNumbersAt s id x
+  numbers_found idents id row x is held = told_found _ shown numbers_pair HoldsNumbers (fin.get s.stations id) row x (λ y z found h. same y z h) (is ∙ (found_by_key s m sound listing).stations id) held
     where
-      same : (y : Station) (z : DockNumbers) → HoldsDockNumbers (station_row id y (pos (docks_available s id y.row.docks)) (docks_broken s id y.row.docks)) z → z ≡ dock_numbers_of s id y
+      shown : Station → DockNumbers × List CountedType
+      shown y = (dock_numbers_of s id y, types_at s id)
+
+      same : (y : Station) (z : StationNumbers) → HoldsNumbers (station_row id y (pos (docks_available s id y.row.docks)) (docks_broken s id y.row.docks) (by_type_text (types_at s id))) z
+          → numbers_pair z ≡ shown y
       same y z h =
-          let free : z.free ≡ docks_available s id y.row.docks = cc in
-          let broken : z.broken ≡ docks_broken s id y.row.docks = cc in
-          λ i. record { free = free i; broken = broken i }
+          let docks = h.docks in
+          let free : z.docks.free ≡ docks_available s id y.row.docks = cc in
+          let broken : z.docks.broken ≡ docks_broken s id y.row.docks = cc in
+          let types : z.by_type.items ≡ types_at s id = h.by_type (types_at s id) (idents s id sound) refl in
+          λ i. (record { free = free i; broken = broken i }, types i)
 
   pub mark_found : (station : List ℕ) (dock : ℕ) (row : Option Row) (x : Option Bool) → row ≡ row_under s m Docks (Text station ∷ number_value dock ∷ []) → HoldsAny HoldsMark row x
       → IsMark s m station dock x
@@ -150,26 +165,6 @@ module _ (s : Operator) (m : Listed) (sound : IsSound s) (listing : IsListing s 
           → (is_some (option_map (λ (u : Unit {0}). is_broken s station dock) o) ≡ is_some o) × (unwrap_or (option_map (λ (u : Unit {0}). is_broken s station dock) o) false ≡ is_broken s station dock)
       by None works = (refl, sym (works refl))
       by (Some u) works = (refl, refl)
-
-  pub counts_found : (station type_id : List ℕ) (row : Option Row) (x : Option TypeCounts) → row ≡ row_under s m Counts (Text station ∷ Text type_id ∷ []) → HoldsAny HoldsCounts row x
-      → AreCounts s m station type_id x
-  counts_found station type_id row x is held =
-      let listed = found_listed s m sound listing in
-      let read = held_found _ (λ u. type_counts_of s station type_id) HoldsCounts (fin.get m.counts (key_of station type_id)) row x (λ y z found h. same z h) (is ∙ listed.counts station type_id) held in
-      subst (AreCounts s m station type_id) (sym read) (by (fin.get m.counts (key_of station type_id)) (listed.none station type_id))
-    where
-      same : (z : TypeCounts) → HoldsCounts (count_row station type_id (type_counts_of s station type_id).available (type_counts_of s station type_id).disabled) z
-          → z ≡ type_counts_of s station type_id
-      same z h =
-          let available : z.available ≡ (type_counts_of s station type_id).available = cc in
-          let disabled : z.disabled ≡ (type_counts_of s station type_id).disabled = cc in
-          λ i. record { available = available i; disabled = disabled i }
-
-      by : (o : Option (Unit {0})) → (o ≡ None → ((type_counts_of s station type_id).available ≡ 0) × ((type_counts_of s station type_id).disabled ≡ 0))
-          → (is_some (option_map (λ (u : Unit {0}). type_counts_of s station type_id) o) ≡ is_some o)
-          × (unwrap_or (option_map (λ (u : Unit {0}). type_counts_of s station type_id) o) no_counts ≡ type_counts_of s station type_id)
-      by None none = let zero = none refl in (refl, λ i. record { available = (sym zero.0) i; disabled = (sym zero.1) i })
-      by (Some u) none = (refl, refl)
 
   pub plan_found : (id : List ℕ) (row : Option Row) (x : Option (List ℕ)) → row ≡ row_under s m Types (Text id ∷ []) → HoldsAny HoldsPlan row x → x ≡ option_map (λ t. t.plan_id) (fin.get s.types id)
   plan_found id row x is held = held_found (type_row id) (λ t. t.plan_id) HoldsPlan (fin.get s.types id) row x (λ y z found h. cc) (is ∙ (found_by_key s m sound listing).types id) held
@@ -188,27 +183,19 @@ module _ (s : Operator) (m : Listed) (sound : IsSound s) (listing : IsListing s 
   bike_found bike row x is held =
       held_found (bike_row bike) (λ b. b) HoldsBike (fin.get s.bikes bike) row x (λ y z found h. same_bike bike y z h) (is ∙ (found_by_key s m sound listing).bikes bike) held
       ∙ itself (fin.get s.bikes bike)
-    where
-      itself : (o : Option Bike) → option_map (λ b. b) o ≡ o
-      itself None = refl
-      itself (Some b) = refl
 
   pub docked_found : (station : List ℕ) (dock : ℕ) (row : Option Row) (x : Option NumberedBike) → row ≡ slice_get (rows_by s m Bikes (3 ∷ 4 ∷ []) (Text station ∷ number_value dock ∷ [])) 0
       → HoldsAny HoldsNumbered row x
       → option_map numbered_pair x ≡ docked_at s station dock
   docked_found station dock row x is held =
-      ap (option_map numbered_pair) (held_found stored_bike numbered_shown HoldsNumbered (docked_at s station dock) row x (λ y z found h. same y z h)
-      (is ∙ (found_by_columns s m sound listing).docked station dock) held) ∙ paired (docked_at s station dock)
+      told_found stored_bike (λ e. e) numbered_pair HoldsNumbered (docked_at s station dock) row x (λ y z found h. same y z h) (is ∙ (found_by_columns s m sound listing).docked station dock) held
+      ∙ itself (docked_at s station dock)
     where
-      same : (y : ℕ × Bike) (z : NumberedBike) → HoldsNumbered (stored_bike y) z → z ≡ numbered_shown y
+      same : (y : ℕ × Bike) (z : NumberedBike) → HoldsNumbered (stored_bike y) z → numbered_pair z ≡ y
       same y z h =
           let number : z.number ≡ y.0 = let e = h.number in cc in
           let bike : z.bike ≡ y.1 = same_bike y.0 y.1 z.bike h.bike in
-          λ i. record { number = number i; bike = bike i }
-
-      paired : (o : Option (ℕ × Bike)) → option_map numbered_pair (option_map numbered_shown o) ≡ o
-      paired None = refl
-      paired (Some e) = refl
+          λ i. (number i, bike i)
 
   -- a station's identifier, or the depot
   good_end : (e : OrderEnd) → has_end s e ≡ true → IsEnd e

@@ -12,7 +12,7 @@ use Rattle.bike_sql.specs.Answer.{HasOneAnswer}
 use Rattle.bike_sql.proofs.RowListLemmas.{filter_all}
 use Rattle.bike_sql.proofs.SelectLaws.{first_with, last_row, rows_with_null, every_column}
 use Rattle.bike_sql.proofs.WalkLaw.{Finds}
-use Rattle.bike_book.specs.Tables.{Types, Regions, Stations, Docks, Bikes, Trucks, Orders, Counts}
+use Rattle.bike_book.specs.Tables.{Types, Regions, Stations, Docks, Bikes, Trucks, Orders}
 use Rattle.bike_book.specs.Rows.{number_value}
 use Rattle.bike_schema.specs.Layouts.{layout_of}
 use Rattle.bike_schema.specs.Tables.{tables_of}
@@ -26,7 +26,7 @@ use Rattle.bike_fleet_reads.specs.Holds.{order_column}
 
 -- ---- by the key
 
-pub finds_station : (station : List ℕ) → FindsIn (codes "SELECT * FROM stations_3 WHERE station_id = ?1") (Text station ∷ []) (λ t. row_with 1 (Text station ∷ []) t.stations)
+pub finds_station : (station : List ℕ) → FindsIn (codes "SELECT * FROM stations_4 WHERE station_id = ?1") (Text station ∷ []) (λ t. row_with 1 (Text station ∷ []) t.stations)
 unfolding everything
 finds_station station = keyed_in Stations (λ tree. refl, refl) refl
 
@@ -34,11 +34,6 @@ pub finds_dock : (station : List ℕ) (dock : ℕ) → FindsIn (codes "SELECT * 
     (λ t. row_with 2 (Text station ∷ number_value dock ∷ []) t.docks)
 unfolding everything
 finds_dock station dock = keyed_in Docks (λ tree. refl, refl) refl
-
-pub finds_counts : (station type_id : List ℕ) → FindsIn (codes "SELECT * FROM counts WHERE station_id = ?1 AND type_id = ?2") (Text station ∷ Text type_id ∷ [])
-    (λ t. row_with 2 (Text station ∷ Text type_id ∷ []) t.counts)
-unfolding everything
-finds_counts station type_id = keyed_in Counts (λ tree. refl, refl) refl
 
 pub finds_bike : (bike : ℕ) → FindsIn (codes "SELECT * FROM bikes WHERE bike = ?1") (number_value bike ∷ []) (λ t. row_with 1 (number_value bike ∷ []) t.bikes)
 unfolding everything
@@ -124,7 +119,7 @@ lists_orders truck = record {
 abbrev count_row_of : List Row → Option Row
 count_row_of rows = Some (count (length rows) ∷ [])
 
-pub counts_stations : FindsIn (codes "SELECT count(*) FROM stations_3") [] (λ t. count_row_of t.stations)
+pub counts_stations : FindsIn (codes "SELECT count(*) FROM stations_4") [] (λ t. count_row_of t.stations)
 unfolding everything
 counts_stations = counted_in Stations (λ tree. refl, refl)
 

@@ -3,15 +3,16 @@ use Rattle.std.specs.Prelude.{◌≡◌, ◌==◌, ℕ, List, Bool, false, not, 
 use Rattle.std.specs.FinMap as map
 use Rattle.bike_operator.specs.declared.records.Bike.{Bike}
 use Rattle.bike_operator.specs.declared.records.Order.{Order}
-use Rattle.bike_operator.specs.Operator.{Operator, Station, item_numbered, key_of, dock_key}
-use Rattle.bike_operator.specs.Counts.{available_of, docks_available, docks_broken, is_broken, order_load, truck_load}
+use Rattle.bike_operator.specs.Operator.{Operator, Station, item_numbered, dock_key}
+use Rattle.bike_operator.specs.Counts.{docks_available, docks_broken, is_broken, order_load, truck_load}
 use Rattle.bike_operator.specs.Sound.{IsSound}
 use Rattle.bike_operator.specs.View.{station_at}
-use Rattle.bike_laws.specs.SingleSteps.Numbers.{disabled_of}
+use Rattle.bike_book.specs.declared.by_type.CountedType.{CountedType}
+use Rattle.bike_book.specs.ByType.{types_at}
 use Rattle.bike_book.specs.Stored.{Listed}
 use Rattle.bike_fleet_reads.specs.declared.stations.DockNumbers.{DockNumbers}
+use Rattle.bike_fleet_reads.specs.declared.stations.StationNumbers.{StationNumbers}
 use Rattle.bike_fleet_reads.specs.declared.stations.StationRow.{StationRow}
-use Rattle.bike_fleet_reads.specs.declared.counts.TypeCounts.{TypeCounts}
 use Rattle.bike_fleet_reads.specs.declared.bikes.NumberedBike.{NumberedBike}
 use Rattle.bike_fleet_reads.specs.declared.bikes.TruckLoad.{TruckLoad}
 
@@ -20,43 +21,39 @@ abbrev pub dock_numbers_of : Operator → List ℕ → Station → DockNumbers
 dock_numbers_of s station x =
     record { free = docks_available s station x.row.docks; broken = docks_broken s station x.row.docks }
 
-abbrev pub dock_numbers_at : Operator → List ℕ → Option DockNumbers
-dock_numbers_at s station = option_map (dock_numbers_of s station) (map.get s.stations station)
+-- the numbers of a station's docks, with the list of its bicycles by type
+abbrev pub numbers_pair : StationNumbers → DockNumbers × List CountedType
+numbers_pair n = (n.docks, n.by_type.items)
+
+-- those of a station, and none where it isn't there
+abbrev pub station_numbers_at : Operator → List ℕ → Option (DockNumbers × List CountedType)
+station_numbers_at s station =
+    option_map (λ x. (dock_numbers_of s station x, types_at s station)) (map.get s.stations station)
+
+abbrev pub AreNumbersAt : Operator → List ℕ → Option StationNumbers → Type 0
+AreNumbersAt s station numbers = option_map numbers_pair numbers ≡ station_numbers_at s station
 
 -- some dock of a station is broken, by its numbers
-abbrev pub has_broken : Option DockNumbers → Bool
+abbrev pub has_broken : Option StationNumbers → Bool
 has_broken None = false
-has_broken (Some n) = not (n.broken == 0)
+has_broken (Some n) = not (n.docks.broken == 0)
 
 -- Of each sound operator's station that has these numbers, or isn't there, no dock is broken.
-abbrev pub NoDockIsBroken : Option DockNumbers → Type 0
+abbrev pub NoDockIsBroken : Option StationNumbers → Type 0
 NoDockIsBroken numbers =
-    (s : Operator) (station : List ℕ) → IsSound s → numbers ≡ dock_numbers_at s station
+    (s : Operator) (station : List ℕ) → IsSound s → AreNumbersAt s station numbers
     → (dock : ℕ) → is_broken s station dock ≡ false
 
--- a station as a command sees it, and the numbers of its docks
-abbrev pub station_row_at : Operator → List ℕ → StationRow
-station_row_at s station = record { station = station_at s station; numbers = dock_numbers_at s station }
+-- a station as a command sees it, and its numbers
+pub record IsStationRow (s : Operator) (station : List ℕ) (x : StationRow) : Type 0 where
+  pub station_is : x.station ≡ station_at s station
+  pub numbers_are : AreNumbersAt s station x.numbers
 
 -- A dock's mark: there where the dock has a row, and whether it is broken. A dock with no row works.
 abbrev pub IsMark : Operator → Listed → List ℕ → ℕ → Option Bool → Type 0
 IsMark s m station dock mark =
     (is_some mark ≡ map.contains_key m.docks (dock_key station dock))
     × (unwrap_or mark false ≡ is_broken s station dock)
-
--- a station's bicycles of a type, those that can be rented and those that can't
-abbrev pub type_counts_of : Operator → List ℕ → List ℕ → TypeCounts
-type_counts_of s station type_id =
-    record { available = available_of s station type_id; disabled = disabled_of s station type_id }
-
-abbrev pub no_counts : TypeCounts
-no_counts = record { available = 0; disabled = 0 }
-
--- Counts of a type at a station: there where they have a row. Counts with no row are 0 and 0.
-abbrev pub AreCounts : Operator → Listed → List ℕ → List ℕ → Option TypeCounts → Type 0
-AreCounts s m station type_id counts =
-    (is_some counts ≡ map.contains_key m.counts (key_of station type_id))
-    × (unwrap_or counts no_counts ≡ type_counts_of s station type_id)
 
 -- a bicycle with its number, as a pair
 abbrev pub numbered_pair : NumberedBike → ℕ × Bike

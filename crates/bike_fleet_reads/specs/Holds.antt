@@ -13,8 +13,10 @@ use Rattle.bike_operator.specs.declared.records.Order.{Order}
 use Rattle.bike_operator.specs.declared.view.StationView.{StationView}
 use Rattle.bike_operator.specs.declared.view.TruckView.{TruckView}
 use Rattle.bike_book.specs.Rows.{truth, number_value, state_number, place_columns, end_text}
+use Rattle.bike_book.specs.declared.by_type.CountedType.{CountedType}
+use Rattle.bike_book.specs.ByType.{AreIdents, by_type_text}
 use Rattle.bike_fleet_reads.specs.declared.stations.DockNumbers.{DockNumbers}
-use Rattle.bike_fleet_reads.specs.declared.counts.TypeCounts.{TypeCounts}
+use Rattle.bike_fleet_reads.specs.declared.stations.StationNumbers.{StationNumbers}
 use Rattle.bike_fleet_reads.specs.declared.bikes.NumberedBike.{NumberedBike}
 use Rattle.bike_fleet_reads.specs.declared.orders.OrderNumbers.{OrderNumbers}
 
@@ -29,7 +31,7 @@ HoldsAny Holds (Some row) None = ⊥
 abbrev pub columns_at : ℕ → ℕ → Row → Row
 columns_at from many row = map (column row) (range_with_len from many)
 
--- ---- stations, docks and counts
+-- ---- stations and docks
 
 abbrev pub HoldsStation : Row → StationView → Type 0
 HoldsStation row x =
@@ -39,11 +41,17 @@ HoldsStation row x =
 abbrev pub HoldsDockNumbers : Row → DockNumbers → Type 0
 HoldsDockNumbers row n = columns_at 9 2 row ≡ number_value n.free ∷ number_value n.broken ∷ []
 
+-- these are the types of which the column is the text
+abbrev pub AreTypesIn : Value → List CountedType → Type 0
+AreTypesIn v list = (cs : List CountedType) → AreIdents cs → v ≡ Text (by_type_text cs) → list ≡ cs
+
+-- the numbers of a station's docks, and its bicycles by type
+pub record HoldsNumbers (row : Row) (n : StationNumbers) : Type 0 where
+  pub docks : HoldsDockNumbers row n.docks
+  pub by_type : AreTypesIn (column row 12) n.by_type.items
+
 abbrev pub HoldsMark : Row → Bool → Type 0
 HoldsMark row broken = column row 2 ≡ Int (truth broken)
-
-abbrev pub HoldsCounts : Row → TypeCounts → Type 0
-HoldsCounts row c = columns_at 2 2 row ≡ number_value c.available ∷ number_value c.disabled ∷ []
 
 -- the default plan in the row of a type
 abbrev pub HoldsPlan : Row → List ℕ → Type 0

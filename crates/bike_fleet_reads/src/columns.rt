@@ -27,7 +27,7 @@ pub fn dock_total_at(row: &Row, at: usize) -> Result<DockTotal, StatementFault>
 }
 
 /// No dock, or no bicycle.
-pub(crate) fn no_docks() -> DockTotal
+pub fn no_docks() -> DockTotal
     ensures { result ≡ 0 }
 {
     match DockTotal::new(0) {

@@ -77,7 +77,7 @@ module _ (t : Tables) (up : AreInOrder t) (wide : AreWide t) where
   abbrev kind_of : Row → Option (List ℕ × TypeRow)
   kind_of row = partner_read type_read t.types (column row 1)
 
-  abbrev station_of : Row → Option (List ℕ × Station × ℤ × ℕ)
+  abbrev station_of : Row → Option (List ℕ × Station × ℤ × ℕ × List ℕ)
   station_of row = partner_read station_read t.stations (column row 3)
 
   abbrev rental_of : Row → Option (ℕ × Rental × ℤ)
@@ -127,11 +127,12 @@ module _ (t : Tables) (up : AreInOrder t) (wide : AreWide t) where
 
   -- ---- what partners tell
 
-  dock_held : (o : Option (List ℕ × Station × ℤ × ℕ)) (station : List ℕ) (dock : ℕ) → option_map (λ e. e.1) o ≡ fin.get s.stations station → 1 ≤ dock → has_dock dock o ≡ true → HasDock s station dock
+  dock_held : (o : Option (List ℕ × Station × ℤ × ℕ × List ℕ)) (station : List ℕ) (dock : ℕ) → option_map (λ e. e.1) o ≡ fin.get s.stations station → 1 ≤ dock → has_dock dock o ≡ true
+      → HasDock s station dock
   dock_held None station dock is low fits = absurd cc
   dock_held (Some x) station dock is low fits = record { row = x.1; found = sym is; low = low; high = grind (arith, nat_tests, fits) }
 
-  held_dock : (o : Option (List ℕ × Station × ℤ × ℕ)) (station : List ℕ) (dock : ℕ) → option_map (λ e. e.1) o ≡ fin.get s.stations station → HasDock s station dock → has_dock dock o ≡ true
+  held_dock : (o : Option (List ℕ × Station × ℤ × ℕ × List ℕ)) (station : List ℕ) (dock : ℕ) → option_map (λ e. e.1) o ≡ fin.get s.stations station → HasDock s station dock → has_dock dock o ≡ true
   held_dock None station dock is it = absurd (let both : ◌≡◌ {A = Option Station} None (Some it.row) = is ∙ it.found in cc)
   held_dock (Some x) station dock is it =
       let docks : x.1.row.docks ≡ it.row.row.docks = ap (λ (y : Station). y.row.docks) (same_Some x.1 it.row (is ∙ it.found)) in

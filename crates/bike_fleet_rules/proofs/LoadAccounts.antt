@@ -1,9 +1,8 @@
 -- The accounts of trucks, and of orders: each is opened by its own row, and grows by one with each line that loads it.
-use Rattle.std.proofs.Common.{◌≡◌, ℕ, zero, suc, List, [], ◌∷◌, ◌++◌, Bool, cond, Option, Some, None, refl, sym, ap, ◌∙◌}
+use Rattle.std.proofs.Common.{◌≡◌, ℕ, zero, suc, [], ◌∷◌, ◌++◌, Bool, cond, Option, Some, None, refl, sym, ap, ◌∙◌}
 use Rattle.std.specs.Prelude.{take}
-use Rattle.std.specs.declared.cmp.Ordering.TheVariants.{Equal}
 use Rattle.sqlite_value.specs.declared.value.Value.{Value}
-use Rattle.sqlite_value.specs.Order.{Row, column, value_cmp}
+use Rattle.sqlite_value.specs.Order.{Row, column}
 use Rattle.bike_operator.specs.declared.records.Place.{Place}
 use Rattle.bike_book.specs.Rows.{number_value}
 use Rattle.bike_judges.specs.declared.pass.Opening.{Opening}
@@ -11,7 +10,7 @@ use Rattle.bike_judges.specs.declared.pass.Opening.TheVariants.{Head, Unread, It
 use Rattle.bike_judges.specs.Lines.{nulls, part}
 use Rattle.bike_judges.proofs.StretchLaw.{AreAccounts}
 use Rattle.bike_fleet_rules.specs.Loads.{is_head, loads}
-use Rattle.bike_fleet_rules.proofs.CountingLaw.{kept_where, commute_where}
+use Rattle.bike_fleet_rules.proofs.CountingLaw.{kept_where}
 use Rattle.bike_fleet_rules.proofs.LoadLemmas.{loads_own}
 
 first_of : (more spare : ℕ) (row : Row) → column (take (suc more) (row ++ nulls spare)) 0 ≡ column row 0
@@ -53,7 +52,4 @@ module _ {A X : Type 0} (number : A → ℕ) (test : ℕ → Place → Bool) (on
     key_is = λ a. refl;
     keeps = λ a x. kept_where one_more owner (λ b. ap number_value (same_number b)) (λ b. loads (test (number b)) (number b) x) a;
     others = λ a x apart. ap (λ (b : Bool). cond b (one_more a) a) (loads_own (test (number a)) (number a) x apart);
-    commutes = λ a x y.
-        commute_where one_more (λ b. loads (test (number b)) (number b) x) (λ b. loads (test (number b)) (number b) y)
-        (λ b. ap (λ (n : ℕ). loads (test n) n x) (same_number b)) (λ b. ap (λ (n : ℕ). loads (test n) n y) (same_number b)) a;
   }

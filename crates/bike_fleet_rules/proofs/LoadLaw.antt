@@ -1,9 +1,8 @@
 -- The verdict on what was brought of orders, by their lines.
-use Rattle.std.proofs.Common.{◌≡◌, ℕ, ◌+◌, List, [], ◌∷◌, ◌++◌, map, Bool, true, false, cond, Option, Some, None, refl, sym, ap, ◌∙◌}
+use Rattle.std.proofs.Common.{◌≡◌, ℕ, ◌+◌, List, map, Bool, Option, Some, None, refl, ap, ◌∙◌}
 use Rattle.std.specs.Prelude.{take, nat_le}
-use Rattle.std.specs.declared.cmp.Ordering.TheVariants.{Equal}
 use Rattle.sqlite_value.specs.declared.value.Value.{Value}
-use Rattle.sqlite_value.specs.Order.{Row, column, value_cmp}
+use Rattle.sqlite_value.specs.Order.{Row, column}
 use Rattle.sqlite_rules.specs.Lists.{Has}
 use Rattle.bike_operator.specs.declared.records.Order.{Order}
 use Rattle.bike_operator.specs.Operator.{Operator}
@@ -15,12 +14,12 @@ use Rattle.bike_readings.proofs.FleetRows.{order_reading}
 use Rattle.bike_readings.specs.ReadOff.{operator_of}
 use Rattle.bike_readings.specs.Rules.{AreInOrder}
 use Rattle.bike_judges.specs.declared.query.Query.TheVariants as query
-use Rattle.bike_judges.specs.declared.pass.Opening.TheVariants.{Head, Item}
-use Rattle.bike_judges.specs.Lines.{lines_of, head, nulls, order_line, order_bike_line}
+use Rattle.bike_judges.specs.Lines.{lines_of, nulls, order_line, order_bike_line}
 use Rattle.bike_judges.specs.Passes.{pass, is_good_with, Demands}
 use Rattle.bike_judges.specs.Verdicts.{IsFirstFailing}
 use Rattle.bike_judges.proofs.StretchLaw.{HasOneKey, AreAccounts, AreItems, merged_verdict}
-use Rattle.bike_fleet_rules.specs.Loads.{loads, order_opened, order_begins, order_more, order_good, order_key}
+use Rattle.bike_judges.proofs.ApartLines.{numbered_owned}
+use Rattle.bike_fleet_rules.specs.Loads.{order_opened, order_begins, order_more, order_good, order_key}
 use Rattle.bike_fleet_rules.specs.declared.orders.OrderAccount.{OrderAccount}
 use Rattle.bike_fleet_rules.proofs.Parts.{AreWide, begins_with_one, own_part}
 use Rattle.bike_fleet_rules.proofs.Apart.{lines_apart}
@@ -70,6 +69,7 @@ module _ (t : Tables) (up : AreInOrder t) (wide : AreWide t) where
       → IsFirstFailing t Orders (Demands t Orders load_test) verdict
   loads_verdict verdict is =
       merged_verdict order_begins order_more order_good order_key owner t Orders up one 0 accounts order_bike_line t.bikes items
+      (numbered_owned (λ row. column row 7) 1 0 t.bikes (up Bikes) (λ row has. begins_with_one row 7 (wide Bikes row has)))
       (lines_apart 0 0 (λ row. column row 7) 0 t.orders t.bikes (up Orders) (up Bikes) (λ row has. begins_with_one row 7 (wide Orders row has)) (λ row has. begins_with_one row 7 (wide Bikes row has)))
       verdict is
     where

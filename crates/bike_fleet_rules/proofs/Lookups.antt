@@ -1,39 +1,28 @@
 -- What stands in the operator under a key is what the row with that key spells, where the rows stand in the order of their keys.
-use Rattle.std.proofs.Common.{◌≡◌, ℕ, ℤ, cond, List, [], ◌∷◌, Bool, true, false, ◌&&◌, T, Option, Some, None, length, arith, refl, sym, ap, ap₂, ◌∙◌}
+use Rattle.std.proofs.Common.{◌≡◌, ℕ, ℤ, cond, List, [], ◌∷◌, Bool, true, false, Option, Some, None, length, arith, refl, sym, ap, ◌∙◌}
 use Rattle.std.specs.Prelude.{take, option_map, option_and_then}
-use Rattle.std.specs.List.{filter_map, cons_option, list_any, AllByRecursion}
+use Rattle.std.specs.List.{filter_map, list_any}
 use Rattle.sqlite_sql.specs.Ops.{is_null}
 use Rattle.bike_book.specs.Rows.{number_value}
 use Rattle.bike_judges.specs.Lines.{nulls, or_nulls}
 use Rattle.bike_judges.proofs.Lookups.{SpellsKeys, entries_read, found_at, type_key, station_key, truck_key}
 use Rattle.bike_fleet_rules.proofs.Parts.{IsWidePartner}
-use Rattle.std.specs.Ordering.{is_lt}
-use Rattle.std.specs.declared.cmp.Ordering.{Ordering}
-use Rattle.std.specs.declared.cmp.Ordering.TheVariants.{Less, Equal}
 use Rattle.std.specs.FinMap as fin
-use Rattle.std.specs.FinMap.Entries as entries
 use Rattle.sqlite_value.specs.declared.value.Value.TheVariants.{Text}
 use Rattle.sqlite_value.specs.declared.value.Value.{Value}
-use Rattle.sqlite_value.specs.Order.{Row, row_cmp, column}
+use Rattle.sqlite_value.specs.Order.{Row, column}
 use Rattle.sqlite_rules.specs.Lists.{Has}
-use Rattle.bike_sql.specs.View.{by_key, row_with, partner}
-use Rattle.bike_sql.proofs.OrderLemmas.{Rises}
-use Rattle.bike_sql.proofs.TreeLemmas.{by_key_total}
+use Rattle.bike_sql.specs.View.{row_with, partner}
 use Rattle.bike_catalogue.specs.Rows.{TypeRow}
 use Rattle.bike_operator.specs.declared.records.Rental.{Rental}
 use Rattle.bike_operator.specs.declared.records.Order.{Order}
 use Rattle.bike_operator.specs.Operator.{Station, Truck}
 use Rattle.bike_book.specs.Tables.{Tables, Types, Stations, Bikes, Trucks}
-use Rattle.bike_book.proofs.MapRows.{StoresKeys, has_find}
 use Rattle.bike_book.proofs.Keys.{number_key, text_key, numbers, texts}
 use Rattle.bike_readings.specs.Readings.{type_read, station_read, truck_read, rental_read, order_read}
-use Rattle.bike_readings.proofs.CatalogueRows.{type_reading, station_reading}
-use Rattle.bike_readings.proofs.FleetRows.{truck_reading}
 use Rattle.bike_readings.specs.ReadOff.{station_in, rental_in, bike_in, rental_at, order_at, operator_of}
 use Rattle.bike_readings.specs.Rules.{AreInOrder}
-use Rattle.bike_readings.proofs.ReadLists.{read_of, has_read, find_has}
-use Rattle.bike_readings.proofs.ReadRows.{mapped}
-use Rattle.bike_readings.proofs.Places.{has_under, under_has}
+use Rattle.bike_readings.proofs.Places.{under_has}
 use Rattle.bike_fleet_rules.proofs.CountedRows.{counted_is}
 
 pub bike_key : SpellsKeys numbers bike_in
@@ -64,11 +53,12 @@ module _ {X : Type 0} (read : Row → Option X) (rows : List Row) where
   or_nulls_read width (Some row) none = refl
 
 -- a station is read with its numbers, which the operator has not
-station_without : (o : Option Row) → option_map (λ (e : List ℕ × Station). e.1) (option_and_then station_in o) ≡ option_map (λ (e : List ℕ × Station × ℤ × ℕ). e.1) (option_and_then station_read o)
+station_without : (o : Option Row) → option_map (λ (e : List ℕ × Station). e.1) (option_and_then station_in o)
+    ≡ option_map (λ (e : List ℕ × Station × ℤ × ℕ × List ℕ). e.1) (option_and_then station_read o)
 station_without None = refl
 station_without (Some row) = go (station_read row) where
-  go : (q : Option (List ℕ × Station × ℤ × ℕ)) → option_map (λ (e : List ℕ × Station). e.1) (option_map (λ (e : List ℕ × Station × ℤ × ℕ). (e.0, e.1)) q)
-      ≡ option_map (λ (e : List ℕ × Station × ℤ × ℕ). e.1) q
+  go : (q : Option (List ℕ × Station × ℤ × ℕ × List ℕ)) → option_map (λ (e : List ℕ × Station). e.1) (option_map (λ (e : List ℕ × Station × ℤ × ℕ × List ℕ). (e.0, e.1)) q)
+      ≡ option_map (λ (e : List ℕ × Station × ℤ × ℕ × List ℕ). e.1) q
   go None = refl
   go (Some x) = refl
 
@@ -93,7 +83,7 @@ module _ (t : Tables) (up : AreInOrder t) where
 
   pub station_partner : (v : Value) (id : List ℕ) → v ≡ Text id → option_map (λ e. e.1) (partner_read station_read t.stations v) ≡ fin.get (operator_of t).stations id
   station_partner v id is =
-      ap (λ (w : Value). option_map (λ (e : List ℕ × Station × ℤ × ℕ). e.1) (partner_read station_read t.stations w)) is
+      ap (λ (w : Value). option_map (λ (e : List ℕ × Station × ℤ × ℕ × List ℕ). e.1) (partner_read station_read t.stations w)) is
       ∙ sym (station_without (row_with 1 (text_key id) t.stations)) ∙ sym (found_at texts station_in station_key t.stations (up Stations) id tt)
 
   pub truck_partner : (v : Value) (n : ℕ) → v ≡ number_value n → option_map (λ e. e.1) (partner_read truck_read t.trucks v) ≡ fin.get (operator_of t).trucks n

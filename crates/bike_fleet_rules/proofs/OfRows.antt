@@ -40,7 +40,7 @@ module _ (t : Tables) (name : TableName) where
     pub good : (below : ℕ) (row : Row) → Has (rows_in t name) row → Fact below row → IsGoodRow t (operator_of t) below name row
     pub says : (below : ℕ) (row : Row) → Has (rows_in t name) row → IsGoodRow t (operator_of t) below name row → Fact below row
 
-  module _ (Fact : ℕ → Row → Type 0) (it : SaysGood Fact) (lacks : (key : Row) → MayLack (operator_of t) name key) where
+  module _ (Fact : ℕ → Row → Type 0) (it : SaysGood Fact) (lacks : (key : Row) → MayLack name key) where
     pub good_key : (key : Row) → OfEach Fact key → IsGoodKey t name key
     good_key key each = go (row_under t name key) refl where
       go : (o : Option Row) → row_under t name key ≡ o → IsGoodAt t (operator_of t) name key (rows_below t name key) o

@@ -82,7 +82,7 @@ module _ (t : Tables) (up : AreInOrder t) (wide : AreWide t) where
   abbrev kind_of : Row → Option (List ℕ × TypeRow)
   kind_of row = partner_read type_read t.types (column row 4)
 
-  abbrev station_of : ℕ → Row → Option (List ℕ × Station × ℤ × ℕ)
+  abbrev station_of : ℕ → Row → Option (List ℕ × Station × ℤ × ℕ × List ℕ)
   station_of at row = partner_read station_read t.stations (column row at)
 
   names_is : (n : ℕ) (row : Row) → Has t.orders row → order_names n (names_line row) ≡ is_order_named n (order_read row) (truck_of row) (kind_of row)
@@ -128,7 +128,7 @@ module _ (t : Tables) (up : AreInOrder t) (wide : AreWide t) where
 
   end_is : (e : OrderEnd) (v : Value) → v ≡ Text (end_text e) → is_end_there e (partner_read station_read t.stations v) ≡ has_end s e
   end_is end.Depot v is = refl
-  end_is (end.Station id) v is = known_as (λ (e : List ℕ × Station × ℤ × ℕ). e.1) (partner_read station_read t.stations v) (fin.get s.stations id) (station_partner t up v id is)
+  end_is (end.Station id) v is = known_as (λ (e : List ℕ × Station × ℤ × ℕ × List ℕ). e.1) (partner_read station_read t.stations v) (fin.get s.stations id) (station_partner t up v id is)
 
   -- ---- what is demanded
 

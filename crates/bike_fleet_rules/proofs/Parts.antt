@@ -15,7 +15,7 @@ use Rattle.bike_sql.proofs.OrderLemmas.{order_has}
 use Rattle.bike_sql.proofs.TreeLemmas.{by_key_total}
 use Rattle.bike_sql.proofs.RowListLemmas.{map_has}
 use Rattle.bike_sql.proofs.FrameLemmas.{rows_of_is}
-use Rattle.bike_book.specs.Tables.{TableName, Tables, tables_by, keys_of, rows_in as table_rows}
+use Rattle.bike_book.specs.Tables.{TableName, Tables, keys_of, rows_in as table_rows}
 use Rattle.bike_schema.specs.Layouts.{layout_of, name_of}
 use Rattle.bike_schema.specs.Tables.{tables_of, HasTables}
 use Rattle.bike_readings.proofs.RulesLaws.{rows_by}

@@ -1,11 +1,10 @@
 -- The verdict on trucks, by their lines.
-use Rattle.std.proofs.Common.{◌≡◌, ℕ, ◌+◌, ◌&&◌, List, [], ◌∷◌, ◌++◌, map, Bool, true, false, cond, Option, Some, None, refl, sym, ap, ◌∙◌, arith}
+use Rattle.std.proofs.Common.{◌≡◌, ℕ, ◌+◌, ◌&&◌, List, map, Bool, true, Option, Some, None, refl, sym, ap, ◌∙◌, arith}
 use Rattle.std.specs.Prelude.{take, nat_lt, nat_le}
 use Rattle.std.specs.Option.{IsSomeAnd}
-use Rattle.std.specs.declared.cmp.Ordering.TheVariants.{Equal}
 use Rattle.std.proofs.lemmas.Bool.Decides.{nat_tests}
 use Rattle.sqlite_value.specs.declared.value.Value.{Value}
-use Rattle.sqlite_value.specs.Order.{Row, column, value_cmp}
+use Rattle.sqlite_value.specs.Order.{Row, column}
 use Rattle.sqlite_rules.specs.Lists.{Has}
 use Rattle.bike_operator.specs.declared.limits.TheConstants.{MOST_TRUCKS}
 use Rattle.bike_operator.specs.Operator.{Operator, Truck}
@@ -18,11 +17,11 @@ use Rattle.bike_readings.specs.ReadOff.{operator_of}
 use Rattle.bike_readings.specs.Rules.{AreInOrder, IsGoodKey}
 use Rattle.bike_readings.specs.Demands.{IsGoodTruck}
 use Rattle.bike_judges.specs.declared.query.Query.TheVariants as query
-use Rattle.bike_judges.specs.declared.pass.Opening.TheVariants.{Head, Item}
-use Rattle.bike_judges.specs.Lines.{lines_of, head, nulls, truck_line, truck_bike_line}
+use Rattle.bike_judges.specs.Lines.{lines_of, nulls, truck_line, truck_bike_line}
 use Rattle.bike_judges.specs.Passes.{pass, is_good_with, Demands}
 use Rattle.bike_judges.specs.Verdicts.{IsTableVerdict}
 use Rattle.bike_judges.proofs.StretchLaw.{HasOneKey, AreAccounts, AreItems, merged_verdict}
+use Rattle.bike_judges.proofs.ApartLines.{numbered_owned}
 use Rattle.bike_fleet_rules.specs.Loads.{loads, truck_opened, truck_begins, truck_more, truck_good, truck_key}
 use Rattle.bike_fleet_rules.specs.declared.trucks.TruckAccount.{TruckAccount}
 use Rattle.bike_fleet_rules.proofs.Parts.{AreWide, begins_with_one, own_part}
@@ -106,6 +105,7 @@ module _ (t : Tables) (up : AreInOrder t) (wide : AreWide t) where
       (λ key demands. good_key t Trucks (λ n row. test n row ≡ true) says (λ k. tt) key (demanded t Trucks test key demands))
       (λ key good. demands_of t Trucks test key (of_good_key t Trucks (λ n row. test n row ≡ true) says (λ k. tt) key good)) verdict
       (merged_verdict truck_begins truck_more truck_good truck_key owner t Trucks up one 6 accounts truck_bike_line t.bikes items
+      (numbered_owned (λ row. column row 6) 1 0 t.bikes (up Bikes) (λ row has. begins_with_one row 7 (wide Bikes row has)))
       (lines_apart 0 0 (λ row. column row 6) 6 t.trucks t.bikes (up Trucks) (up Bikes) (λ row has. begins_with_one row 1 (wide Trucks row has)) (λ row has. begins_with_one row 7 (wide Bikes row has)))
       verdict is)
     where

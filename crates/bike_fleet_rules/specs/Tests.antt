@@ -49,13 +49,13 @@ order_names below line =
     (type_read (part (orders.COLUMNS + trucks.COLUMNS) types.COLUMNS line))
 
 -- the end is the depot, or a station that is there
-abbrev pub is_end_there : OrderEnd → Option (List ℕ × Station × ℤ × ℕ) → Bool
+abbrev pub is_end_there : OrderEnd → Option (List ℕ × Station × ℤ × ℕ × List ℕ) → Bool
 is_end_there end.Depot station = true
 is_end_there (end.Station id) station = is_some station
 
 -- the ends of the order
-abbrev pub are_ends_there : Option (ℕ × Order) → Option (List ℕ × Station × ℤ × ℕ) → Option (List ℕ × Station × ℤ × ℕ)
-    → Bool
+abbrev pub are_ends_there : Option (ℕ × Order) → Option (List ℕ × Station × ℤ × ℕ × List ℕ)
+    → Option (List ℕ × Station × ℤ × ℕ × List ℕ) → Bool
 are_ends_there None from to = false
 are_ends_there (Some x) from to =
     is_end_there x.1.from_end from && (is_end_there x.1.to_end to && not (is_same_end x.1.from_end x.1.to_end))
@@ -68,12 +68,12 @@ order_ends below line =
 -- ---- bicycles
 
 -- the station is there, and has the dock
-abbrev pub has_dock : ℕ → Option (List ℕ × Station × ℤ × ℕ) → Bool
+abbrev pub has_dock : ℕ → Option (List ℕ × Station × ℤ × ℕ × List ℕ) → Bool
 has_dock dock None = false
 has_dock dock (Some x) = nat_le dock x.1.row.docks
 
 -- a dock in which the bicycle is
-abbrev pub is_dock_there : Place → Option (List ℕ × Station × ℤ × ℕ) → Bool
+abbrev pub is_dock_there : Place → Option (List ℕ × Station × ℤ × ℕ × List ℕ) → Bool
 is_dock_there (place.Dock station dock) found = has_dock dock found
 is_dock_there (place.Rental rental) found = true
 is_dock_there (place.Truck truck order) found = true
@@ -84,7 +84,8 @@ abbrev pub is_where_retired : BikeState → Place → Bool
 is_where_retired state at = not (is_retired state) || is_depot at
 
 -- the bicycle before which so many stand: its type, its dock and its state
-abbrev pub is_bike_named : ℕ → Option (ℕ × Bike) → Option (List ℕ × TypeRow) → Option (List ℕ × Station × ℤ × ℕ) → Bool
+abbrev pub is_bike_named : ℕ → Option (ℕ × Bike) → Option (List ℕ × TypeRow)
+    → Option (List ℕ × Station × ℤ × ℕ × List ℕ) → Bool
 is_bike_named below None kind station = false
 is_bike_named below (Some x) kind station =
     nat_lt below MOST_BIKES && (is_some kind && (is_dock_there x.1.place station

@@ -18,6 +18,7 @@ use bike_judges::{Account, BadKey, LineJudge, Opening, Query, StretchJudge, judg
 use bike_readings::{Part, StoredPlace, read_order};
 use bike_schema::StatementFault;
 use sqlite::{Alter, Connection, Row};
+use std::alloc::Global;
 
 /// An order with the bicycles on trucks for it so far.
 #[derive(Debug, Drop)]
@@ -64,7 +65,7 @@ impl Account for OrderAccount {
 
     ghost key = { order_key };
 
-    fn begin(line: &Row) -> Result<Opening<OrderAccount>, StatementFault> {
+    fn begin(_alloc: Global, line: &Row) -> Result<Opening<OrderAccount>, StatementFault> {
         let place: Option<Within<0, 0>> = number_in(line, TABLE);
         if place.is_none() {
             return Ok(Opening::Item);
@@ -101,14 +102,17 @@ impl Account for OrderAccount {
 /// The first bad key of `orders`, where all tables before it are good: a row that spells no order, an order out of
 /// number or past the limit, one whose truck, ends or type aren't there, or one of which more is brought or on trucks
 /// than it asks for. `NoMemory` where memory is refused; every other fault is the database's.
-pub fn judge_orders<S: Alter>(conn: &mut Connection<S>) -> Result<Option<BadKey>, StatementFault>
+pub fn judge_orders<S: Alter>(
+    alloc: Global,
+    conn: &mut Connection<S>,
+) -> Result<Option<BadKey>, StatementFault>
     ensures { ReadsWhere S.Store IsOurs conn.old conn.new result (JudgesTable Orders) }
 {
     let names = LineJudge::new(OrderNames);
     let named = judge_lines(conn, Query::OrderNames, names)?;
     let ends = LineJudge::new(OrderEnds);
     let ended = judge_lines(conn, Query::OrderEnds, ends)?;
-    let loads: StretchJudge<OrderAccount> = StretchJudge::new();
+    let loads: StretchJudge<OrderAccount> = StretchJudge::new(alloc);
     let loaded = judge_lines(conn, Query::OrderBikes, loads)?;
     Ok(least(least(named, ended), loaded))
 }

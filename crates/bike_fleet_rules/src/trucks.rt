@@ -18,6 +18,7 @@ use bike_operator::MOST_TRUCKS;
 use bike_readings::{Part, StoredPlace, read_truck};
 use bike_schema::StatementFault;
 use sqlite::{Alter, Connection, Row};
+use std::alloc::Global;
 
 /// A truck with the bicycles on it so far.
 #[derive(Debug, Drop)]
@@ -63,7 +64,7 @@ impl Account for TruckAccount {
 
     ghost key = { truck_key };
 
-    fn begin(line: &Row) -> Result<Opening<TruckAccount>, StatementFault> {
+    fn begin(_alloc: Global, line: &Row) -> Result<Opening<TruckAccount>, StatementFault> {
         let place: Option<Within<0, 0>> = number_in(line, TABLE);
         if place.is_none() {
             return Ok(Opening::Item);
@@ -100,9 +101,12 @@ impl Account for TruckAccount {
 /// The first bad key of `trucks`, where all tables before it are good: a row that spells no truck, a truck past the
 /// limit, or one that holds more bicycles than it has room for. `NoMemory` where memory is refused; every other fault
 /// is the database's.
-pub fn judge_trucks<S: Alter>(conn: &mut Connection<S>) -> Result<Option<BadKey>, StatementFault>
+pub fn judge_trucks<S: Alter>(
+    alloc: Global,
+    conn: &mut Connection<S>,
+) -> Result<Option<BadKey>, StatementFault>
     ensures { ReadsWhere S.Store IsOurs conn.old conn.new result (JudgesTable Trucks) }
 {
-    let judge: StretchJudge<TruckAccount> = StretchJudge::new();
+    let judge: StretchJudge<TruckAccount> = StretchJudge::new(alloc);
     judge_lines(conn, Query::Trucks, judge)
 }

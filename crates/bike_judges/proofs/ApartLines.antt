@@ -1,20 +1,24 @@
 -- No two lines of the tables that mix tie: those of one table have keys apart, and those of two tables have two places.
-use Rattle.std.proofs.Common.{◌≡◌, inl, inr, ℕ, ◌-◌, ◌<◌, ◌≤◌, List, [], ◌∷◌, ◌++◌, length, map, pos, false, refl, sym, ap, ap₂, subst, ◌∙◌, arith}
+-- The lines of one owner are in the order in which their tables are named.
+use Rattle.std.proofs.Common.{◌≡◌, inl, inr, ℕ, ◌-◌, ◌<◌, ◌≤◌, List, [], ◌∷◌, ◌++◌, length, map, filter, pos, Bool, true, false, cond, refl, sym, ap, ap₂, subst, ◌∙◌, arith}
 use Rattle.std.specs.Prelude.{take}
-use Rattle.std.specs.Cmp.{ranked}
+use Rattle.std.specs.Cmp.{ranked, Equal-is}
 use Rattle.std.specs.List.{IsDistinct}
-use Rattle.std.specs.Ordering.{eq_by_cmp, is_eq, ordering_then}
+use Rattle.std.specs.Ordering.{eq_by_cmp, is_eq, ordering_then, ordering_reverse}
 use Rattle.std.specs.declared.cmp.Ordering.{Ordering}
 use Rattle.std.specs.declared.cmp.Ordering.TheVariants.{Less, Equal, Greater}
+use Rattle.std.proofs.lemmas.Cmp.{tied_itself}
+use Rattle.std.proofs.lemmas.List.Elements.{filter-append}
 use Rattle.sqlite_value.specs.declared.value.Value.{Value}
 use Rattle.sqlite_value.specs.declared.value.Value.TheVariants.{Int}
 use Rattle.sqlite_value.specs.Order.{Row, column, value_cmp, row_cmp}
 use Rattle.sqlite_value.proofs.KeyLemmas.{then_tied}
+use Rattle.sqlite_value.proofs.OrderLemmas.{value_cmp_total, then-Equal}
 use Rattle.sqlite_rules.specs.Lists.{Has}
 use Rattle.bike_sql.specs.View.{by_key}
 use Rattle.bike_sql.proofs.LineLemmas.{apart_append, has_append}
-use Rattle.bike_sql.proofs.RowListLemmas.{map_has}
-use Rattle.bike_sql.proofs.OrderLemmas.{Rises, all_has, all_from}
+use Rattle.bike_sql.proofs.RowListLemmas.{map_has, has_filter}
+use Rattle.bike_sql.proofs.OrderLemmas.{Rises, all_has, all_from, rises_append}
 use Rattle.bike_sql.proofs.SortLemmas.{AreApartAll}
 use Rattle.bike_sql.proofs.TreeLemmas.{by_key_total}
 use Rattle.bike_book.proofs.Keys.{value_cmp-number_value}
@@ -24,6 +28,8 @@ use Rattle.bike_book.specs.declared.columns.docks.TheConstants as docks
 use Rattle.bike_book.specs.declared.columns.bikes.TheConstants as bikes
 use Rattle.bike_book.specs.declared.columns.trucks.TheConstants as trucks
 use Rattle.bike_readings.specs.Rules.{AreInOrder}
+use Rattle.bike_judges.proofs.FoldOrder.{is_owned}
+use Rattle.bike_judges.proofs.StretchLaw.{AreOwnedInOrder}
 use Rattle.bike_judges.specs.Lines.{line, station_line, station_dock_line, station_bike_line, truck_line, truck_bike_line, order_line, order_bike_line}
 
 -- Each row has the columns of its key.
@@ -143,3 +149,72 @@ module _ (t : Tables) (up : AreInOrder t) (whole : AreWhole t) where
         | inl first ↦ at_two (at 0) (at 3) zero_value (at 0) 0 2 0 (stations.COLUMNS - bikes.COLUMNS) t.stations t.bikes (omega arith) x y first g
         | inr second ↦ at_two (at 0) (at 3) (at 1) (at 0) 1 2 (stations.COLUMNS - docks.COLUMNS) (stations.COLUMNS - bikes.COLUMNS) t.docks t.bikes (omega arith) x y second g
       ])
+
+-- ---- the lines of one owner, in their order
+
+both_owned : (a b v : Value) → is_eq (value_cmp a v) ≡ true → is_eq (value_cmp b v) ≡ true → value_cmp a b ≡ Equal
+both_owned a b v first second =
+    value_cmp_total.congr a v b ((Equal-is (value_cmp a v)).0 first) ∙ value_cmp_total.antisymm v b ∙ ap ordering_reverse ((Equal-is (value_cmp b v)).0 second)
+
+-- those of rows that rise, where two lines of one owner are in the order of their rows
+owned_rise : (show : Row → Row) (keys : ℕ) (v : Value) (rows : List Row) → Rises (by_key_total keys) rows
+    → ((r s : Row) → Has rows r → Has rows s → by_key keys r s ≡ Less → value_cmp (column (show r) 0) (column (show s) 0) ≡ Equal → by_key 3 (show r) (show s) ≡ Less)
+    → Rises (by_key_total 3) (filter (is_owned v) (map show rows))
+owned_rise show keys v [] up each = tt
+owned_rise show keys v (r ∷ rows) up each = go (is_owned v (show r)) refl (owned_rise show keys v rows up.1 (λ a b h k. each a b (inr h) (inr k))) where
+  go : (b : Bool) → is_owned v (show r) ≡ b → Rises (by_key_total 3) (filter (is_owned v) (map show rows))
+      → Rises (by_key_total 3) (cond b (show r ∷ filter (is_owned v) (map show rows)) (filter (is_owned v) (map show rows)))
+  go false e rest = rest
+  go true e rest = (
+    all_from (λ y. by_key 3 (show r) y ≡ Less) (filter (is_owned v) (map show rows)) (λ y h.
+        let it = has_filter (is_owned v) (map show rows) y h in
+        let s = map_has show rows y it.0 in
+        let low : by_key keys r s.0 ≡ Less = all_has (λ z. by_key keys r z ≡ Less) rows s.0 up.0 s.1 in
+        ap (by_key 3 (show r)) s.2 ∙ each r s.0 (inl refl) (inr s.1) low (both_owned (column (show r) 0) (column (show s.0) 0) v e (ap (is_owned v) (sym s.2) ∙ it.1))),
+    rest,
+  )
+
+owned_low : (o p k l : Value) (n : ℕ) → value_cmp o p ≡ Equal → value_cmp k l ≡ Less → row_cmp (o ∷ Int (pos n) ∷ k ∷ []) (p ∷ Int (pos n) ∷ l ∷ []) ≡ Less
+owned_low o p k l n tie low =
+    let same : value_cmp (Int (pos n)) (Int (pos n)) ≡ Equal = tied_itself value_cmp_total (Int (pos n)) in
+    λ i. ordering_then (tie i) (ordering_then (same i) (ordering_then (low i) Equal))
+
+-- the rows of a table with one key, by that
+pub numbered_owned : (owner : Row → Value) (place spare : ℕ) (rows : List Row) → Rises (by_key_total 1) rows → ((row : Row) → Has rows row → take 1 row ≡ column row 0 ∷ [])
+    → AreOwnedInOrder (map (λ row. line (owner row) (pos place) (column row 0) spare row) rows)
+numbered_owned owner place spare rows up first v =
+    owned_rise (λ row. line (owner row) (pos place) (column row 0) spare row) 1 v rows up (λ r s h k low tie.
+    let own : value_cmp (column r 0) (column s 0) ≡ Less = sym (then-Equal (value_cmp (column r 0) (column s 0))) ∙ sym (ap₂ row_cmp (first r h) (first s k)) ∙ low in
+    owned_low (owner r) (owner s) (column r 0) (column s 0) place tie own)
+
+module _ (t : Tables) (up : AreInOrder t) (whole : AreWhole t) where
+  docks_owned : AreOwnedInOrder (map station_dock_line t.docks)
+  docks_owned v = owned_rise station_dock_line 2 v t.docks (up Docks) (λ r s h k low tie.
+      let both : by_key 2 r s ≡ tied (value_cmp (column r 0) (column s 0)) (value_cmp (column r 1) (column s 1)) = ap₂ row_cmp (first_columns r (whole Docks r h)) (first_columns s (whole Docks s k)) in
+      let own : value_cmp (column r 1) (column s 1) ≡ Less =
+      sym (then-Equal (value_cmp (column r 1) (column s 1))) ∙ sym (ap (λ (c : Ordering). tied c (value_cmp (column r 1) (column s 1))) tie) ∙ sym both ∙ low in
+      owned_low (column r 0) (column s 0) (column r 1) (column s 1) 1 tie own)
+
+  one_first : (name : TableName) → keys_of name ≡ 1 → (row : Row) → Has (rows_in t name) row → take 1 row ≡ column row 0 ∷ []
+  one_first name one row h = first_column row (let it = whole name row h in omega (arith, it, one))
+
+  -- the docks of a station come before its bicycles
+  pub stations_owned : AreOwnedInOrder (map station_dock_line t.docks ++ map station_bike_line t.bikes)
+  stations_owned v =
+      subst (Rises (by_key_total 3)) (sym (filter-append (is_owned v) (map station_dock_line t.docks) (map station_bike_line t.bikes)))
+      (rises_append (by_key_total 3) (filter (is_owned v) (map station_dock_line t.docks)) (filter (is_owned v) (map station_bike_line t.bikes))
+      (docks_owned v) (numbered_owned (λ row. column row 3) 2 (stations.COLUMNS - bikes.COLUMNS) t.bikes (up Bikes) (one_first Bikes refl) v)
+      (λ x y h k.
+      let dock = has_filter (is_owned v) (map station_dock_line t.docks) x h in
+      let bike = has_filter (is_owned v) (map station_bike_line t.bikes) y k in
+      let r = map_has station_dock_line t.docks x dock.0 in
+      let s = map_has station_bike_line t.bikes y bike.0 in
+      let tie : value_cmp (column r.0 0) (column s.0 3) ≡ Equal = both_owned (column r.0 0) (column s.0 3) v (ap (is_owned v) (sym r.2) ∙ dock.1) (ap (is_owned v) (sym s.2) ∙ bike.1) in
+      let low : value_cmp (Int (pos 1)) (Int (pos 2)) ≡ Less = value_cmp-number_value 1 2 in
+      ap₂ (by_key 3) r.2 s.2 ∙ (λ i. ordering_then (tie i) (ordering_then (low i) (ordering_then (value_cmp (column r.0 1) (column s.0 0)) Equal)))))
+
+  pub trucks_owned : AreOwnedInOrder (map truck_bike_line t.bikes)
+  trucks_owned = numbered_owned (λ row. column row 6) 1 0 t.bikes (up Bikes) (one_first Bikes refl)
+
+  pub order_bikes_owned : AreOwnedInOrder (map order_bike_line t.bikes)
+  order_bikes_owned = numbered_owned (λ row. column row 7) 1 0 t.bikes (up Bikes) (one_first Bikes refl)

@@ -1,38 +1,29 @@
--- Lists in order: a fold that doesn't mind the order, tests that agree, and filters.
+-- Lists of lines: a fold over those of one owner, tests that agree, and filters.
 use Rattle.std.proofs.Common.{◌≡◌, inl, inr, ℕ, suc, List, [], ◌∷◌, filter, fold, Bool, true, false, cond, Option, Some, refl, sym, ap, ◌∙◌}
-use Rattle.std.specs.Cmp.{IsTotalOrder}
-use Rattle.std.specs.List.{AllByRecursion, IsDistinct}
-use Rattle.std.specs.Ordering.{eq_by_cmp, is_eq, match_ordering, ordering_reverse}
-use Rattle.std.specs.declared.cmp.Ordering.{Ordering}
-use Rattle.std.specs.declared.cmp.Ordering.TheVariants.{Less, Equal, Greater}
+use Rattle.std.specs.List.{AllByRecursion}
+use Rattle.std.specs.Ordering.{is_eq}
+use Rattle.std.specs.declared.cmp.Ordering.TheVariants.{Equal}
 use Rattle.std.proofs.lemmas.Bool.{true≢false}
-use Rattle.sqlite_value.specs.Order.{Row}
+use Rattle.sqlite_value.specs.declared.value.Value.{Value}
+use Rattle.sqlite_value.specs.Order.{Row, column, value_cmp}
 use Rattle.sqlite_rules.specs.Lists.{Has}
 use Rattle.sqlite_trees.specs.Tree.{IsAscending}
-use Rattle.bike_sql.specs.Keyed.{put_in, in_order}
-use Rattle.bike_sql.proofs.OrderLemmas.{all_has, order_has}
-use Rattle.bike_sql.proofs.SortLemmas.{AreApartAll}
 use Rattle.bike_judges.specs.Passes.{first_failing}
 
-module _ {X A : Type 0} {R : X → X → Ordering} (o : IsTotalOrder R) (f : A → X → A) (swaps : (a : A) (x y : X) → f (f a x) y ≡ f (f a y) x) where
-  fold_put : (x : X) (ys : List X) → ((y : X) → Has ys y → R y x ≡ Equal → ⊥) → (a : A) → fold f a (put_in R x ys) ≡ fold f (f a x) ys
-  fold_put x [] far a = refl
-  fold_put x (y ∷ ys) far a = by (R y x) refl (fold_put x ys (λ z h. far z (inr h)) (f a y)) where
-    by : (c : Ordering) → R y x ≡ c → fold f (f a y) (put_in R x ys) ≡ fold f (f (f a y) x) ys → fold f a (match_ordering c (y ∷ put_in R x ys) (x ∷ ys) (x ∷ y ∷ ys)) ≡ fold f (f (f a x) y) ys
-    by Less e rest = rest ∙ ap (λ (b : A). fold f b ys) (swaps a y x)
-    by Equal e rest = absurd (far y (inl refl) e)
-    by Greater e rest = refl
+-- a line of this owner
+abbrev pub is_owned : Value → Row → Bool
+is_owned owner x = is_eq (value_cmp (column x 0) owner)
 
-  -- a fold in which elements that are apart may change places
-  pub fold_order : (xs : List X) → AreApartAll o xs → (a : A) → fold f a (in_order R xs) ≡ fold f a xs
-  unfolding IsDistinct
-  fold_order [] apart a = refl
-  fold_order (x ∷ xs) apart a =
-      fold_put x (in_order R xs) (λ y h tie.
-      let back : R x y ≡ Equal = o.antisymm x y ∙ ap ordering_reverse tie in
-      let far : is_eq (R x y) ≡ false = all_has (λ z. eq_by_cmp R x z ≡ false) xs y apart.0 (order_has o xs y h) in
-      true≢false (sym (ap is_eq back) ∙ far)) a
-      ∙ fold_order xs apart.1 (f a x)
+-- accounts that lines of other owners leave as they are take their own lines alone
+module _ {A : Type 0} (more : A → Row → A) (owner : A → Value) (keeps : (a : A) (x : Row) → owner (more a x) ≡ owner a)
+    (others : (a : A) (x : Row) → (value_cmp (column x 0) (owner a) ≡ Equal → ⊥) → more a x ≡ a) where
+  pub fold_owned : (xs : List Row) (a : A) → fold more a xs ≡ fold more a (filter (is_owned (owner a)) xs)
+  fold_owned [] a = refl
+  fold_owned (x ∷ xs) a = go (is_owned (owner a) x) refl (fold_owned xs) where
+    go : (b : Bool) → is_owned (owner a) x ≡ b → ((c : A) → fold more c xs ≡ fold more c (filter (is_owned (owner c)) xs))
+        → fold more (more a x) xs ≡ fold more a (cond b (x ∷ filter (is_owned (owner a)) xs) (filter (is_owned (owner a)) xs))
+    go true e rest = rest (more a x) ∙ ap (λ (v : Value). fold more (more a x) (filter (is_owned v) xs)) (keeps a x)
+    go false e rest = ap (λ (c : A). fold more c xs) (others a x (λ tie. true≢false (sym (ap is_eq tie) ∙ e))) ∙ rest a
 
 -- tests that agree on lines
 pub first_failing_same : (p q : ℕ → Row → Bool) (key : Row → Row) (n : ℕ) (xs : List Row) → ((m : ℕ) (x : Row) → Has xs x → p m x ≡ q m x) → first_failing p key n xs ≡ first_failing q key n xs

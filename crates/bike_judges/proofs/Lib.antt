@@ -18,5 +18,4 @@ pub mod LeastLaw
 pub mod ApartLines
 pub mod QueryLaws
 pub mod ReadsLaw
-pub mod OwnAccounts
 pub mod Lookups

@@ -97,7 +97,7 @@ pub region_key : SpellsKeys texts region_read
 region_key r e is = (ap (take 1) (region_reading.sound r e is).0, tt)
 
 -- a station without its numbers
-abbrev pub station_part : List ℕ × Station × ℤ × ℕ → List ℕ × Station
+abbrev pub station_part : List ℕ × Station × ℤ × ℕ × List ℕ → List ℕ × Station
 station_part e = (e.0, e.1)
 
 pub station_key : SpellsKeys texts station_in

@@ -13,7 +13,7 @@ use Rattle.bike_sql.proofs.FrameLemmas.{rows_of_is}
 use Rattle.bike_sql.proofs.RowListLemmas.{map_has}
 use Rattle.bike_sql.proofs.OrderLemmas.{order_has}
 use Rattle.bike_sql.proofs.TreeLemmas.{by_key_total}
-use Rattle.bike_book.specs.Tables.{TableName, Tables, rows_in, keys_of, Meta, System, Plans, Segments, Types, Regions, Stations, Docks, Bikes, Trucks, Riders, Rentals, Orders, Entries, History, Counts}
+use Rattle.bike_book.specs.Tables.{TableName, Tables, rows_in, keys_of, Meta, System, Plans, Segments, Types, Regions, Stations, Docks, Bikes, Trucks, Riders, Rentals, Orders, Entries, History}
 use Rattle.bike_book.specs.Tables.{MoreNames}
 use Rattle.bike_schema.specs.Layouts.{layout_of}
 use Rattle.bike_schema.specs.Tables.{tables_of, HasTables}
@@ -25,7 +25,7 @@ use Rattle.bike_judges.specs.Lines.{lines_of, station_line, station_dock_line, s
 use Rattle.bike_judges.specs.Passes.{pass, is_good_with, Demands}
 use Rattle.bike_judges.specs.Verdicts.{IsFirstFailing}
 use Rattle.bike_judges.proofs.StretchLaw.{HasOneKey, AreAccounts, AreItems, merged_verdict, merged_of_three_verdict}
-use Rattle.bike_judges.proofs.ApartLines.{AreWhole, first_column, stations_apart, trucks_apart, order_bikes_apart}
+use Rattle.bike_judges.proofs.ApartLines.{AreWhole, first_column, stations_apart, trucks_apart, order_bikes_apart, stations_owned, trucks_owned, order_bikes_owned}
 
 -- ---- stored rows have all their columns
 
@@ -57,7 +57,6 @@ stored_whole db has name row there = let wide = stored_width db has name row the
     fits Orders = omega arith
     fits Entries = omega arith
     fits History = omega arith
-    fits Counts = omega arith
     fits MoreNames = omega arith
 
 -- a line that begins with a stored row begins with its key
@@ -86,13 +85,13 @@ module _ {A : Type 0} (begins : Row → Opening A) (more : A → Row → A) (goo
   pub stations_verdict : Accounts 0 → Items station_dock_line → Items station_bike_line → (verdict : Option Row) → run (lines_of query.Stations t) ≡ verdict
       → IsFirstFailing t Stations (Demands t Stations (λ n row. with_all (map station_dock_line t.docks ++ map station_bike_line t.bikes) n (begins (station_line row)))) verdict
   stations_verdict accounts docks bikes =
-      merged_of_three_verdict begins more good key owner t Stations up (one_key t whole Stations refl) 0 accounts station_dock_line t.docks station_bike_line t.bikes docks bikes
+      merged_of_three_verdict begins more good key owner t Stations up (one_key t whole Stations refl) 0 accounts station_dock_line t.docks station_bike_line t.bikes docks bikes (stations_owned t up whole)
       (stations_apart t up whole)
 
   pub trucks_verdict : Accounts 6 → Items truck_bike_line → (verdict : Option Row) → run (lines_of query.Trucks t) ≡ verdict
       → IsFirstFailing t Trucks (Demands t Trucks (λ n row. with_all (map truck_bike_line t.bikes) n (begins (truck_line row)))) verdict
-  trucks_verdict accounts bikes = merged_verdict begins more good key owner t Trucks up (one_key t whole Trucks refl) 6 accounts truck_bike_line t.bikes bikes (trucks_apart t up whole)
+  trucks_verdict accounts bikes = merged_verdict begins more good key owner t Trucks up (one_key t whole Trucks refl) 6 accounts truck_bike_line t.bikes bikes (trucks_owned t up whole) (trucks_apart t up whole)
 
   pub order_bikes_verdict : Accounts 0 → Items order_bike_line → (verdict : Option Row) → run (lines_of query.OrderBikes t) ≡ verdict
       → IsFirstFailing t Orders (Demands t Orders (λ n row. with_all (map order_bike_line t.bikes) n (begins (order_line row)))) verdict
-  order_bikes_verdict accounts bikes = merged_verdict begins more good key owner t Orders up (one_key t whole Orders refl) 0 accounts order_bike_line t.bikes bikes (order_bikes_apart t up whole)
+  order_bikes_verdict accounts bikes = merged_verdict begins more good key owner t Orders up (one_key t whole Orders refl) 0 accounts order_bike_line t.bikes bikes (order_bikes_owned t up whole) (order_bikes_apart t up whole)

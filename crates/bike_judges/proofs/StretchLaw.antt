@@ -28,7 +28,7 @@ use Rattle.bike_judges.specs.Lines.{head, merge_of_two, merge_of_three}
 use Rattle.bike_judges.specs.Passes.{first_failing, pass, pass_line, closed, is_good_with, Demands}
 use Rattle.bike_judges.specs.Verdicts.{IsFirstFailing}
 use Rattle.bike_judges.proofs.LineLaw.{lines_verdict}
-use Rattle.bike_judges.proofs.FoldOrder.{fold_order, first_failing_same, rises_filter}
+use Rattle.bike_judges.proofs.FoldOrder.{is_owned, fold_owned, first_failing_same, rises_filter}
 
 -- The table has a key of one column, which each row has.
 pub record HasOneKey (t : Tables) (name : TableName) : Type 0 where
@@ -59,6 +59,10 @@ ranks (x ∷ y ∷ us) (z ∷ w ∷ vs) p q first second low = go (value_cmp x z
   go Equal e rest = inr (e, not_past (value_cmp y w) refl rest)
   go Greater e rest = absurd cc
 
+-- the lines of each owner stand in their order
+abbrev pub AreOwnedInOrder : List Row → Type 0
+AreOwnedInOrder xs = (v : Value) → Rises (by_key_total 3) (filter (is_owned v) xs)
+
 -- heads are in the order of their owners
 heads_cmp : (spare : ℕ) (r s : Row) → by_key 3 (head spare r) (head spare s) ≡ value_cmp (column r 0) (column s 0)
 heads_cmp spare r s =
@@ -67,14 +71,13 @@ heads_cmp spare r s =
     ∙ then-Equal (value_cmp (column r 0) (column s 0))
 
 module _ {A : Type 0} (begins : Row → Opening A) (more : A → Row → A) (good : ℕ → A → Bool) (key : A → Row) (owner : A → Value) where
-  -- Each head line opens an account of its own, to which only the owner's lines are added, in whatever order.
+  -- Each head line opens an account of its own, to which only the owner's lines are added.
   pub record AreAccounts (spare : ℕ) : Type 0 where
     pub heads : (row : Row) → begins (head spare row) ≡ Item → ⊥
     pub owner_is : (row : Row) (a : A) → begins (head spare row) ≡ Head a → owner a ≡ column row 0
     pub key_is : (a : A) → key a ≡ owner a ∷ []
     pub keeps : (a : A) (x : Row) → owner (more a x) ≡ owner a
     pub others : (a : A) (x : Row) → (value_cmp (column x 0) (owner a) ≡ Equal → ⊥) → more a x ≡ a
-    pub commutes : (a : A) (x y : Row) → more (more a x) y ≡ more (more a y) x
 
   -- The lines of a table whose rows belong to heads: none is a head, and they stand behind their head.
   pub record AreItems (line : Row → Row) : Type 0 where
@@ -152,13 +155,16 @@ module _ {A : Type 0} (begins : Row → Opening A) (more : A → Row → A) (goo
       go true = accounts.keeps a x
       go false = refl
 
-    swaps : (a : A) (x y : Row) → added (added a x) y ≡ added (added a y) x
-    swaps a x y = go (is_item (begins x)) (is_item (begins y)) where
-      go : (b c : Bool) → cond c (more (cond b (more a x) a) y) (cond b (more a x) a) ≡ cond b (more (cond c (more a y) a) x) (cond c (more a y) a)
-      go true true = accounts.commutes a x y
-      go true false = refl
-      go false true = refl
-      go false false = refl
+    -- the items alone are added
+    abbrev items_among : List Row → List Row
+    items_among = filter (λ x. is_item (begins x))
+
+    fold_items : (xs : List Row) (a : A) → fold added a xs ≡ fold more a (items_among xs)
+    fold_items [] a = refl
+    fold_items (x ∷ xs) a = go (is_item (begins x)) (fold_items xs) where
+      go : (b : Bool) → ((c : A) → fold added c xs ≡ fold more c (items_among xs)) → fold added (cond b (more a x) a) xs ≡ fold more a (cond b (x ∷ items_among xs) (items_among xs))
+      go true rest = rest (more a x)
+      go false rest = rest a
 
     -- ---- one line of the pass
 
@@ -315,7 +321,8 @@ module _ {A : Type 0} (begins : Row → Opening A) (more : A → Row → A) (goo
     abbrev rows : List Row
     rows = rows_in t name
 
-    module _ (items : List Row) (all_items : (x : Row) → Has items x → IsItemLine spare accounts x) (apart : AreApartAll (by_key_total 3) (map (head spare) rows ++ items)) where
+    module _ (items : List Row) (all_items : (x : Row) → Has items x → IsItemLine spare accounts x) (owned : AreOwnedInOrder items)
+        (apart : AreApartAll (by_key_total 3) (map (head spare) rows ++ items)) where
       abbrev both : List Row
       both = map (head spare) rows ++ items
 
@@ -372,22 +379,44 @@ module _ {A : Type 0} (begins : Row → Opening A) (more : A → Row → A) (goo
             go Unread it = refl
             go Item it = absurd (it.no_item refl)
 
-      -- what is added among them are the items
-      over_heads : (rs : List Row) (a : A) → fold (added spare accounts) a (map (head spare) rs ++ items) ≡ fold (added spare accounts) a items
-      over_heads [] a = refl
-      over_heads (r ∷ rs) a =
-          ap (λ (c : A). fold (added spare accounts) c (map (head spare) rs ++ items)) (go (begins (head spare r)) (opens spare accounts (head spare r) (r, refl))) ∙ over_heads rs a where
-            go : (o : Opening A) → Opens spare accounts (head spare r) o → add spare accounts o a (head spare r) ≡ a
-            go (Head b) it = refl
-            go Unread it = refl
-            go Item it = absurd (it.no_item refl)
+      passes_item : (x : Row) → Has items x → is_item spare accounts (begins x) ≡ true
+      passes_item x h = ap (is_item spare accounts) (all_items x h).0
 
-      over_items : (xs : List Row) → ((x : Row) → Has xs x → begins x ≡ Item) → (a : A) → fold (added spare accounts) a xs ≡ fold more a xs
-      over_items [] each a = refl
-      over_items (x ∷ xs) each a = ap (λ (o : Opening A). fold (added spare accounts) (add spare accounts o a x) xs) (each x (inl refl)) ∙ over_items xs (λ y h. each y (inr h)) (more a x)
+      -- what is added for one owner among them are its items, in their order
+      owned_among : (v : Value) → filter (is_owned v) (items_among spare accounts sorted) ≡ filter (is_owned v) items
+      owned_among v =
+          same_list (by_key_total 3) (filter (is_owned v) (items_among spare accounts sorted)) (filter (is_owned v) items)
+          (rises_filter (λ a b. by_key 3 a b ≡ Less) (is_owned v) (items_among spare accounts sorted)
+          (rises_filter (λ a b. by_key 3 a b ≡ Less) (λ x. is_item spare accounts (begins x)) sorted (rises (by_key_total 3) both)))
+          (owned v)
+          (λ x h.
+          let outer = has_filter (is_owned v) (items_among spare accounts sorted) x h in
+          let inner = has_filter (λ y. is_item spare accounts (begins y)) sorted x outer.0 in
+          filter_has (is_owned v) items x (among x (order_has (by_key_total 3) both x inner.0) inner.1) outer.1)
+          (λ x h.
+          let it = has_filter (is_owned v) items x h in
+          filter_has (is_owned v) (items_among spare accounts sorted) x
+          (filter_has (λ y. is_item spare accounts (begins y)) sorted x (all_sorted x (has_second (map (head spare) rows) items x it.0)) (passes_item x it.0)) it.1)
+        where
+          among : (x : Row) → Has both x → is_item spare accounts (begins x) ≡ true → Has items x
+          among x h is = elim (has_append (map (head spare) rows) items x h) [
+            | inl first ↦ absurd (let head = map_has (head spare) rows x first in no_head (begins x) (opens spare accounts x (head.0, head.2)) is)
+            | inr second ↦ second
+          ]
+            where
+              no_head : (o : Opening A) → Opens spare accounts x o → is_item spare accounts o ≡ true → ⊥
+              no_head (Head b) it e = cc
+              no_head Unread it e = cc
+              no_head Item it e = it.no_item refl
+
+          has_second : (xs ys : List Row) (x : Row) → Has ys x → Has (xs ++ ys) x
+          has_second [] ys x h = h
+          has_second (z ∷ xs) ys x h = inr (has_second xs ys x h)
 
       sums : (a : A) → fold (added spare accounts) a sorted ≡ fold more a items
-      sums a = fold_order (by_key_total 3) (added spare accounts) (swaps spare accounts) both apart a ∙ over_heads rows a ∙ over_items items (λ x h. (all_items x h).0) a
+      sums a =
+          fold_items spare accounts sorted a ∙ fold_owned more owner accounts.keeps accounts.others (items_among spare accounts sorted) a
+          ∙ ap (fold more a) (owned_among (owner a)) ∙ sym (fold_owned more owner accounts.keeps accounts.others items a)
 
       same_test : (n : ℕ) (x : Row) → test spare accounts sorted n x ≡ is_good_with begins more good key (take 1) items n (begins x)
       same_test n x = go (begins x) where
@@ -408,20 +437,21 @@ module _ {A : Type 0} (begins : Row → Opening A) (more : A → Row → A) (goo
     items_of line ys items x h = let it = map_has line ys x h in subst (IsItemLine spare accounts) (sym it.2) (items.item it.0, items.place it.0)
 
     -- THE VERDICT of two tables
-    pub merged_verdict : (second : Row → Row) (ys : List Row) → AreItems second
+    pub merged_verdict : (second : Row → Row) (ys : List Row) → AreItems second → AreOwnedInOrder (map second ys)
         → AreApartAll (by_key_total 3) (map (head spare) (rows_in t name) ++ map second ys)
         → (verdict : Option Row) → pass begins more good key (take 1) None 0 (merge_of_two 3 (head spare) (rows_in t name) second ys) ≡ verdict
         → IsFirstFailing t name (Demands t name (with_items (map second ys))) verdict
-    merged_verdict second ys items apart = verdict_of (map second ys) (items_of second ys items) apart
+    merged_verdict second ys items owned apart = verdict_of (map second ys) (items_of second ys items) owned apart
 
     -- and of three
     pub merged_of_three_verdict : (second : Row → Row) (ys : List Row) (third : Row → Row) (zs : List Row) → AreItems second → AreItems third
+        → AreOwnedInOrder (map second ys ++ map third zs)
         → AreApartAll (by_key_total 3) ((map (head spare) (rows_in t name) ++ map second ys) ++ map third zs)
         → (verdict : Option Row) → pass begins more good key (take 1) None 0 (merge_of_three 3 (head spare) (rows_in t name) second ys third zs) ≡ verdict
         → IsFirstFailing t name (Demands t name (with_items (map second ys ++ map third zs))) verdict
-    merged_of_three_verdict second ys third zs items also apart verdict is =
+    merged_of_three_verdict second ys third zs items also owned apart verdict is =
         let joined : (map (head spare) rows ++ map second ys) ++ map third zs ≡ map (head spare) rows ++ (map second ys ++ map third zs) = append_assoc (map (head spare) rows) (map second ys) (map third zs) in
         verdict_of (map second ys ++ map third zs)
         (λ x h. elim (has_append (map second ys) (map third zs) x h) [ inl here ↦ items_of second ys items x here | inr there ↦ items_of third zs also x there ])
-        (subst (AreApartAll (by_key_total 3)) joined apart) verdict
+        owned (subst (AreApartAll (by_key_total 3)) joined apart) verdict
         (ap (λ (xs : List Row). pass begins more good key (take 1) None 0 (in_order (by_key 3) xs)) (sym joined) ∙ is)

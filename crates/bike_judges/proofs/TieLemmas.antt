@@ -1,5 +1,5 @@
 -- When two lines tie by the columns that they are in the order of.
-use Rattle.std.proofs.Common.{◌≡◌, ℤ, pos, [], ◌∷◌, Less, Equal, Greater, refl}
+use Rattle.std.proofs.Common.{◌≡◌, ℤ, pos, [], ◌∷◌, Less, Equal, refl}
 use Rattle.sqlite_value.specs.declared.value.Value.{Value}
 use Rattle.sqlite_value.specs.declared.value.Value.TheVariants.{Int}
 use Rattle.sqlite_value.specs.Order.{value_cmp, row_cmp}
@@ -47,27 +47,6 @@ third_apart o p c d k l m n below tie = absurd (let e = (then_tied (value_cmp (I
 pub third_ties : (o p c d k l : Value) → row_cmp (o ∷ c ∷ k ∷ []) (p ∷ d ∷ l ∷ []) ≡ Equal → row_cmp (k ∷ []) (l ∷ []) ≡ Equal
 third_ties o p c d k l tie = (then_tied (value_cmp c d) _ (then_tied (value_cmp o p) _ tie).1).1
 
--- ---- a station, a place, a dock or a type, another place, and a bicycle
-
-module _ (o a k b n p c l d m : Value) (tie : row_cmp (o ∷ a ∷ k ∷ b ∷ n ∷ []) (p ∷ c ∷ l ∷ d ∷ m ∷ []) ≡ Equal) where
-  stations_tie : value_cmp o p ≡ Equal
-  stations_tie = (then_tied (value_cmp o p) _ tie).0
-
-  pub second_ties : value_cmp a c ≡ Equal
-  second_ties = (then_tied (value_cmp a c) _ (then_tied (value_cmp o p) _ tie).1).0
-
-  thirds_tie : value_cmp k l ≡ Equal
-  thirds_tie = (then_tied (value_cmp k l) _ (then_tied (value_cmp a c) _ (then_tied (value_cmp o p) _ tie).1).1).0
-
-  pub fourth_ties : value_cmp b d ≡ Equal
-  fourth_ties = (then_tied (value_cmp b d) _ (then_tied (value_cmp k l) _ (then_tied (value_cmp a c) _ (then_tied (value_cmp o p) _ tie).1).1).1).0
-
-  pub first_and_third_tie : row_cmp (o ∷ k ∷ []) (p ∷ l ∷ []) ≡ Equal
-  first_and_third_tie = rw (stations_tie, thirds_tie) refl
-
-  pub fifth_ties : row_cmp (n ∷ []) (m ∷ []) ≡ Equal
-  fifth_ties = (then_tied (value_cmp b d) _ (then_tied (value_cmp k l) _ (then_tied (value_cmp a c) _ (then_tied (value_cmp o p) _ tie).1).1).1).1
-
 -- ---- the places
 
 pub zero_one : value_cmp (Int (pos 0)) (Int (pos 1)) ≡ Less
@@ -81,7 +60,3 @@ zero_two = refl
 pub one_two : value_cmp (Int (pos 1)) (Int (pos 2)) ≡ Less
 unfolding value_cmp lib.Ieee.is_nan lib.Ieee.lt
 one_two = refl
-
-pub one_zero : value_cmp (Int (pos 1)) (Int (pos 0)) ≡ Greater
-unfolding value_cmp lib.Ieee.is_nan lib.Ieee.lt
-one_zero = refl

@@ -1,7 +1,7 @@
 -- The queries that answer each row of a table with its partners in two others.
 use Rattle.std.proofs.Common.{ℕ, List, [], ◌∷◌, ◌++◌, refl}
 use Rattle.bike_sql.proofs.SelectLaws.{rows_joined_twice}
-use Rattle.bike_book.specs.Tables.{Plans, Types, Regions, Stations, Bikes, Trucks, Rentals, Orders, Counts, MoreNames}
+use Rattle.bike_book.specs.Tables.{Plans, Types, Regions, Stations, Bikes, Trucks, Rentals, Orders, MoreNames}
 use Rattle.bike_book.specs.declared.columns.plans.TheConstants as plans
 use Rattle.bike_book.specs.declared.columns.types.TheConstants as types
 use Rattle.bike_book.specs.declared.columns.regions.TheConstants as regions
@@ -32,12 +32,6 @@ pub order_names_lines : {text : List ℕ} → AreJoinsOf Orders Trucks (1 ∷ []
 order_names_lines is db has =
     rows_joined_twice (table_key Orders) (table_key Trucks) (table_key Types) (has Orders) (has Trucks) (has Types) (1 ∷ []) (4 ∷ []) (columns_in 1 Orders ++ columns_in 2 Trucks ++ columns_in 3 Types)
     (with_two trucks.COLUMNS types.COLUMNS)
-    is refl refl (λ r. refl) (λ r. refl) (λ r. refl) (λ r s. refl) (λ r t. refl) (λ r s t. refl)
-
-pub count_names_lines : {text : List ℕ} → AreJoinsOf Counts Stations (0 ∷ []) Types (1 ∷ []) text → AsksLines text query.CountNames
-count_names_lines is db has =
-    rows_joined_twice (table_key Counts) (table_key Stations) (table_key Types) (has Counts) (has Stations) (has Types) (0 ∷ []) (1 ∷ [])
-    (columns_in 1 Counts ++ columns_in 2 Stations ++ columns_in 3 Types) (with_two stations.COLUMNS types.COLUMNS)
     is refl refl (λ r. refl) (λ r. refl) (λ r. refl) (λ r s. refl) (λ r t. refl) (λ r s t. refl)
 
 -- what has a name in a further language: a station or a region of this identifier, a vehicle type or a plan

@@ -6,4 +6,3 @@ pub mod Showing
 pub mod Texts
 pub mod Closing
 pub mod Least
-pub mod Own

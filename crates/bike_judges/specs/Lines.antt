@@ -17,7 +17,6 @@ use Rattle.bike_book.specs.declared.columns.bikes.TheConstants as bikes
 use Rattle.bike_book.specs.declared.columns.trucks.TheConstants as trucks
 use Rattle.bike_book.specs.declared.columns.rentals.TheConstants as rentals
 use Rattle.bike_book.specs.declared.columns.orders.TheConstants as orders
-use Rattle.bike_book.specs.declared.columns.counts.TheConstants as counts
 use Rattle.bike_judges.specs.declared.query.Query.{Query}
 use Rattle.bike_judges.specs.declared.query.Query.TheVariants as query
 
@@ -85,20 +84,6 @@ order_line = head 0
 abbrev pub order_bike_line : Row → Row
 order_bike_line row = line (column row 7) (pos 1) (column row 0) 0 row
 
--- a station's docks, and then by types its counts and the bicycles there: the station, the place of the docks or of the
--- rest, the dock or the type, the place of the table there, and the bicycle
-abbrev pub count_dock_line : Row → Row
-count_dock_line row =
-    column row 0 ∷ Int (pos 0) ∷ column row 1 ∷ Int (pos 0) ∷ Int (pos 0) ∷ row ++ nulls (bikes.COLUMNS - docks.COLUMNS)
-
-abbrev pub count_line : Row → Row
-count_line row =
-    column row 0 ∷ Int (pos 1) ∷ column row 1 ∷ Int (pos 0) ∷ Int (pos 0) ∷ row
-    ++ nulls (bikes.COLUMNS - counts.COLUMNS)
-
-abbrev pub count_bike_line : Row → Row
-count_bike_line row = column row 3 ∷ Int (pos 1) ∷ column row 1 ∷ Int (pos 1) ∷ column row 0 ∷ row
-
 -- the caller and the key of a request, with its number behind them
 abbrev pub history_key_line : Row → Row
 history_key_line row = column row 2 ∷ column row 3 ∷ column row 0 ∷ []
@@ -141,9 +126,6 @@ lines_of query.Entries t = t.entries
 lines_of query.EntryRentals t = left_joined (with_one rentals.COLUMNS) (3 ∷ []) 1 t.rentals t.entries
 lines_of query.History t = t.history
 lines_of query.HistoryKeys t = in_order (by_key 3) (map history_key_line t.history)
-lines_of query.CountNames t =
-    twice_joined (with_two stations.COLUMNS types.COLUMNS) (0 ∷ []) 1 t.stations (1 ∷ []) 1 t.types t.counts
-lines_of query.Counts t = merge_of_three 5 count_dock_line t.docks count_bike_line t.bikes count_line t.counts
 lines_of query.Names t = t.more_names
 lines_of query.NamePlaces t =
     twice_joined (with_two stations.COLUMNS regions.COLUMNS) (1 ∷ []) 1 t.stations (1 ∷ []) 1 t.regions t.more_names

@@ -8,6 +8,7 @@ ghost use Rattle.bike_judges.specs.declared.pass.Opening.{Opening};
 use crate::key::BadKey;
 use bike_schema::StatementFault;
 use sqlite::Row;
+use std::alloc::Global;
 
 /// A test of each line by itself.
 pub trait LineTest: Drop {
@@ -52,10 +53,10 @@ pub trait Account: Drop {
     ghost key: { Self → Row };
 
     /// Reads the first line of a stretch. It is an error where memory is refused.
-    fn begin(line: &Row) -> Result<Opening<Self>, StatementFault>
+    fn begin(alloc: Global, line: &Row) -> Result<Opening<Self>, StatementFault>
         ensures { IfOk result (λ opening. opening ≡ begins line.now) };
 
-    /// Adds a line. It is an error where memory is refused or a sum passes 64 bits, which no stored city's does.
+    /// Adds a line. It is an error where memory is refused or a sum passes its bounds, which no stored city's does.
     fn add(&mut self, line: &Row) -> Result<(), StatementFault>
         ensures { OnOk result (self.new ≡ more self.old line.now) };
 

@@ -49,10 +49,6 @@ pub enum Query {
     History,
     /// The caller, the key and the number of each row of `history`, in their order.
     HistoryKeys,
-    /// Counts, each with its station and its type.
-    CountNames,
-    /// The docks of stations, and by types the stations' counts with the bicycles there.
-    Counts,
     /// The rows of `more_names`.
     Names,
     /// Names in further languages, each with the station and the region of its identifier.

@@ -11,10 +11,12 @@ use crate::key::BadKey;
 use crate::pass::{Account, Opening};
 use bike_schema::StatementFault;
 use sqlite::Row;
+use std::alloc::Global;
 
 /// A judge of lines in stretches: a head opens an account, and the lines after it are added to that.
 #[derive(Drop)]
 pub struct StretchJudge<A> {
+    alloc: Global,
     /// The open account, if there is one.
     pub account: Option<A>,
     /// How many accounts were closed so far: they were good.
@@ -23,7 +25,7 @@ pub struct StretchJudge<A> {
 
 impl<A: Account> StretchJudge<A> {
     /// Before the first line.
-    pub fn new() -> StretchJudge<A>
+    pub fn new(alloc: Global) -> StretchJudge<A>
         ensures account { result.account ≡ None }
         ensures closed { result.closed ≡ 0 }
         ensures says { (lines : List Row) (verdict : Option Row)
@@ -31,6 +33,7 @@ impl<A: Account> StretchJudge<A> {
             → pass A.begins A.more A.good A.key (take 1) result.account result.closed lines ≡ verdict }
     {
         StretchJudge {
+            alloc,
             account: None,
             closed: 0,
         }
@@ -70,7 +73,7 @@ impl<A: Account> Judge for StretchJudge<A> {
     ghost says = { λ j lines verdict. pass A.begins A.more A.good A.key (take 1) j.account j.closed lines ≡ verdict };
 
     fn take(&mut self, line: &Row) -> Result<Option<BadKey>, StatementFault> {
-        match A::begin(line)? {
+        match A::begin(self.alloc, line)? {
             Opening::Head(account) => {
                 let found = self.close()?;
                 self.account = Some(account);
@@ -88,7 +91,11 @@ impl<A: Account> Judge for StretchJudge<A> {
     }
 
     fn end(self) -> Option<BadKey> {
-        let StretchJudge { account, closed } = self;
+        let StretchJudge {
+            alloc: _,
+            account,
+            closed,
+        } = self;
         match account {
             None => None,
             Some(account) => {

@@ -19,20 +19,20 @@ pub(crate) fn text(query: Query) -> &'static str
              LEFT JOIN plans ON plans.plan_id = types.plan_id \
              ORDER BY types.type_id",
         Query::Regions => "SELECT * FROM regions ORDER BY region_id",
-        Query::StationRows => "SELECT stations_3.*, regions.* FROM stations_3 \
-             LEFT JOIN regions ON regions.region_id = stations_3.region_id \
-             ORDER BY stations_3.station_id",
-        Query::Stations => "SELECT station_id, 0, 0, stations_3.* FROM stations_3 \
+        Query::StationRows => "SELECT stations_4.*, regions.* FROM stations_4 \
+             LEFT JOIN regions ON regions.region_id = stations_4.region_id \
+             ORDER BY stations_4.station_id",
+        Query::Stations => "SELECT station_id, 0, 0, stations_4.* FROM stations_4 \
              UNION ALL SELECT station_id, 1, dock, docks.*, \
-             NULL, NULL, NULL, NULL, NULL, NULL, NULL, NULL, NULL FROM docks \
-             UNION ALL SELECT station_id, 2, bike, bikes.*, NULL, NULL, NULL, NULL FROM bikes \
+             NULL, NULL, NULL, NULL, NULL, NULL, NULL, NULL, NULL, NULL FROM docks \
+             UNION ALL SELECT station_id, 2, bike, bikes.*, NULL, NULL, NULL, NULL, NULL FROM bikes \
              ORDER BY 1, 2, 3",
-        Query::Docks => "SELECT docks.*, stations_3.* FROM docks \
-             LEFT JOIN stations_3 ON stations_3.station_id = docks.station_id \
+        Query::Docks => "SELECT docks.*, stations_4.* FROM docks \
+             LEFT JOIN stations_4 ON stations_4.station_id = docks.station_id \
              ORDER BY docks.station_id, docks.dock",
-        Query::BikeNames => "SELECT bikes.*, types.*, stations_3.* FROM bikes \
+        Query::BikeNames => "SELECT bikes.*, types.*, stations_4.* FROM bikes \
              LEFT JOIN types ON types.type_id = bikes.type_id \
-             LEFT JOIN stations_3 ON stations_3.station_id = bikes.station_id \
+             LEFT JOIN stations_4 ON stations_4.station_id = bikes.station_id \
              ORDER BY bikes.bike",
         Query::BikeUses => "SELECT bikes.*, rentals.*, orders.* FROM bikes \
              LEFT JOIN rentals ON rentals.rental = bikes.rental \
@@ -56,8 +56,8 @@ pub(crate) fn text(query: Query) -> &'static str
              LEFT JOIN types ON types.type_id = orders.type_id \
              ORDER BY orders.ord",
         Query::OrderEnds => "SELECT orders.*, origins.*, targets.* FROM orders \
-             LEFT JOIN stations_3 AS origins ON origins.station_id = orders.from_end \
-             LEFT JOIN stations_3 AS targets ON targets.station_id = orders.to_end \
+             LEFT JOIN stations_4 AS origins ON origins.station_id = orders.from_end \
+             LEFT JOIN stations_4 AS targets ON targets.station_id = orders.to_end \
              ORDER BY orders.ord",
         Query::OrderBikes => "SELECT ord, 0, 0, orders.* FROM orders \
              UNION ALL SELECT ord, 1, bike, bikes.* FROM bikes \
@@ -69,18 +69,9 @@ pub(crate) fn text(query: Query) -> &'static str
         Query::History => "SELECT * FROM history ORDER BY number",
         Query::HistoryKeys => "SELECT caller, req_key, number FROM history \
              ORDER BY caller, req_key, number",
-        Query::CountNames => "SELECT counts.*, stations_3.*, types.* FROM counts \
-             LEFT JOIN stations_3 ON stations_3.station_id = counts.station_id \
-             LEFT JOIN types ON types.type_id = counts.type_id \
-             ORDER BY counts.station_id, counts.type_id",
-        Query::Counts =>
-            "SELECT station_id, 0, dock, 0, 0, docks.*, NULL, NULL, NULL, NULL, NULL FROM docks \
-             UNION ALL SELECT station_id, 1, type_id, 1, bike, bikes.* FROM bikes \
-             UNION ALL SELECT station_id, 1, type_id, 0, 0, counts.*, NULL, NULL, NULL, NULL FROM counts \
-             ORDER BY 1, 2, 3, 4, 5",
         Query::Names => "SELECT * FROM more_names ORDER BY kind, id, language",
-        Query::NamePlaces => "SELECT more_names.*, stations_3.*, regions.* FROM more_names \
-             LEFT JOIN stations_3 ON stations_3.station_id = more_names.id \
+        Query::NamePlaces => "SELECT more_names.*, stations_4.*, regions.* FROM more_names \
+             LEFT JOIN stations_4 ON stations_4.station_id = more_names.id \
              LEFT JOIN regions ON regions.region_id = more_names.id \
              ORDER BY more_names.kind, more_names.id, more_names.language",
         Query::NameOffers => "SELECT more_names.*, types.*, plans.* FROM more_names \

@@ -115,7 +115,7 @@ module _ (t : Tables) (up : AreInOrder t) where
     stored_stations : (r : Row) → Has t.stations r → IsStored station_in (stored_station s) r
     stored_stations r has =
         stored_part station_reading (λ e. (e.0, e.1)) (stored_station s) (IsGoodStation s (below_of Stations r)) r (good r has)
-        (λ a is fact. let free = fact.free_is in let broken = fact.broken_is in λ i. station_row a.0 a.1 (free i) (broken i))
+        (λ a is fact. let free = fact.free_is in let broken = fact.broken_is in let by_type = fact.by_type_is in λ i. station_row a.0 a.1 (free i) (broken i) (by_type i))
 
     stations_are : AreRowsOf texts (stored_station s) (λ e. refl) station_in t.stations s.stations
     stations_are = read_map texts (stored_station s) (λ e. refl) station_in t.stations (up Stations) stored_stations (λ r e has is. tt)

@@ -77,7 +77,7 @@ as_ident id (Some e) = refl
 abbrev plan_id : {X : Type 0} → List ℕ × X → List ℕ
 plan_id e = e.0
 
-abbrev station_id : List ℕ × Station × ℤ × ℕ → List ℕ
+abbrev station_id : List ℕ × Station × ℤ × ℕ × List ℕ → List ℕ
 station_id e = e.0
 
 -- a key is in a set where its row spells something

@@ -39,7 +39,7 @@ module _ (t : Tables) (name : TableName) where
     pub from : (key r : Row) → row_under t name key ≡ Some r → Has (rows_in t name) r → IsGoodRow t (operator_of t) (rows_below t name key) name r → P key
     pub none : (key : Row) → row_under t name key ≡ None → P key
 
-  pub verdict_of : ((key : Row) → MayLack (operator_of t) name key) → (P : Row → Type 0) → AsRows P → (v : Option Row) → IsFirstFailing t name P v → IsTableVerdict t name v
+  pub verdict_of : ((key : Row) → MayLack name key) → (P : Row → Type 0) → AsRows P → (v : Option Row) → IsFirstFailing t name P v → IsTableVerdict t name v
   verdict_of lacks P it = failing_same P (IsGoodKey t name) (λ key. to key (row_under t name key) refl) (λ key. back key (row_under t name key) refl) where
     to : (key : Row) (o : Option Row) → row_under t name key ≡ o → P key → IsGoodAt t (operator_of t) name key (rows_below t name key) o
     to key None is p = lacks key

@@ -1,5 +1,5 @@
 -- The newest tables as they are made, and as they are filled.
-use Rattle.std.proofs.Common.{◌≡◌, ℕ, true, false, not, List, [], ◌∷◌, map, is_none, refl, sym, ap, ◌∙◌}
+use Rattle.std.proofs.Common.{◌≡◌, ℕ, Bool, true, false, not, List, [], ◌∷◌, if◌then◌else◌, IsTrue, is_none, refl, ap, ◌∙◌}
 use Rattle.std.proofs.Math.Path.{fun_ext}
 use Rattle.std.proofs.lemmas.Bool.{and_parts, not-true, both_ways}
 use Rattle.sqlite_value.specs.Order.{Row}
@@ -8,17 +8,17 @@ use Rattle.sqlite_schema.specs.Names.{table_named}
 use Rattle.sqlite.specs.Effect.{Database, IsDatabase}
 use Rattle.bike_sql.specs.Stands.{rows_of, Stands, Indexes}
 use Rattle.bike_book.specs.Tables.{TableName, keys_of, rows_in, tables_by, Meta, System, Plans, Segments, Types, Regions, Stations, Docks, Bikes, Trucks, Riders, Rentals, Orders, Entries}
-use Rattle.bike_book.specs.Tables.{History, Counts, MoreNames}
+use Rattle.bike_book.specs.Tables.{History, MoreNames}
 use Rattle.bike_schema.specs.Layouts.{layout_of, name_of}
 use Rattle.bike_schema.specs.Makes.{OthersStay}
 use Rattle.std.specs.List.{list_all, list_any}
 use Rattle.bike_schema.specs.Tables.{names_parent, is_parent, is_unused}
 use Rattle.bike_recognition.specs.declared.earlier_versions.earlier.Earlier.{Earlier}
 use Rattle.bike_recognition.specs.declared.earlier_versions.earlier.Earlier.TheVariants.{First, Second, Third}
-use Rattle.bike_recognition.specs.EarlierVersions.Earlier.{IsAt, HasTablesAt, newer_names, completed, tables_at}
+use Rattle.bike_recognition.specs.EarlierVersions.Earlier.{IsAt, HasTablesAt, has_regions, has_names, newer_names, tables_at}
 use Rattle.bike_recognition.specs.Recognition.{TableStands}
 use Rattle.bike_schema.specs.Indexes.{HasIndex, more_names_by_language, more_names_by_thing, history_by_key}
-use Rattle.bike_migrate.specs.Raised.{AllStay, KeptStays, StayUnnamed, AreUnnamed, HasNameIndexes, HasNewIndexes, MakesTable, MakesIndex, MakesIndexes, MakesHistory, MakesNewer, emptied, MakesTables}
+use Rattle.bike_migrate.specs.Raised.{AllStay, KeptStays, StayUnnamed, AreUnnamed, HasNameIndexes, HasNewIndexes, MakesTable, MakesIndex, MakesIndexes, MakesNames, MakesHistory, MakesLater, MakesMore, emptied, MakesTables}
 use Rattle.bike_migrate.specs.Spared.{Spares}
 use Rattle.bike_migrate.proofs.SpareLemmas.{spares_then, index_spared}
 
@@ -53,28 +53,25 @@ empty_stays old new t stay it = let s = stay (keys_of t) (layout_of t) it.stands
 made_empty : (t : TableName) (old new : Database) → MakesTable t old new → IsEmpty new t
 made_empty t old new it = record { stands = it.stands; no_rows = it.no_rows }
 
-pub makes_newer : (a b c d : Database) → MakesTable Stations a b → MakesTable MoreNames b c → MakesIndexes c d → MakesNewer a d
-makes_newer a b c d stations names index =
-    let last = stay_both b c d names.stays index.indexes.stays in
-    let s = empty_stays b d Stations last (made_empty Stations a b stations) in
-    let n = empty_stays c d MoreNames index.indexes.stays (made_empty MoreNames b c names) in
-    record {
-      sound = index.indexes.sound;
-      stations = s.stands;
-      no_stations = s.no_rows;
-      names = n.stands;
-      no_names = n.no_rows;
-      indexes = index.has;
-      stays = stay_both a b d stations.stays last;
-      spares = spares_then [] a c d (spares_then [] a b c stations.spares names.spares) index.spares;
-      kept = λ was. index.kept (names.kept (stations.kept was));
-    }
-
 unnamed_indexed : (a b : Database) → Indexes a b → StayUnnamed a b
 unnamed_indexed a b made name none = ap (list_any (names_parent name)) made.tables ∙ none
 
 pub history_stands : (a b : Database) → MakesTable History a b → TableStands History b
 history_stands a b made = made.stands
+
+pub makes_names : (a b c : Database) → MakesTable MoreNames a b → MakesIndexes b c → MakesNames a c
+makes_names a b c names index =
+    let n = empty_stays b c MoreNames index.indexes.stays (made_empty MoreNames a b names) in
+    record {
+      sound = index.indexes.sound;
+      names = n.stands;
+      no_names = n.no_rows;
+      indexes = index.has;
+      unnamed = λ name none. unnamed_indexed b c index.indexes name (names.unnamed name none);
+      stays = stay_both a b c names.stays index.indexes.stays;
+      spares = spares_then [] a b c names.spares index.spares;
+      kept = λ was. index.kept (names.kept was);
+    }
 
 pub makes_history : (a b c : Database) → MakesTable History a b → MakesIndex history_by_key b c → MakesHistory a c
 makes_history a b c history index =
@@ -117,7 +114,7 @@ module _ (old new : Database) where
   made t it = record { stands = it.stands; rows_are = it.no_rows }
 
   abbrev rows_none : Earlier → TableName → List Row
-  rows_none e t = rows_in (emptied e (tables_at e old)) t
+  rows_none e t = rows_in (emptied (tables_at e old)) t
 
   others_stay : AllStay old new → OthersStay old new
   others_stay stay keys layout other was = stay keys layout was
@@ -133,110 +130,93 @@ module _ (old new : Database) where
     kept = kept;
   }
 
-  -- the stations as they are at version 3, whose table is the newest
-  same_rows : (rows : List Row) → map (completed Third) rows ≡ rows
-  same_rows [] = refl
-  same_rows (row ∷ rows) = ap (λ rs. row ∷ rs) (same_rows rows)
+  module _ (e : Earlier) (has : HasTablesAt e old) (stay : AllStay old new) where
+    -- a table that only some versions have
+    at_some : (t : TableName) (there : Bool) → (IsTrue there → Stands old (keys_of t) (layout_of t)) → (there ≡ false → IsEmpty new t)
+        → Becomes t (if there then rows_of (keys_of t) (name_of t) old else [])
+    at_some t true was lacks = still t stay (was refl)
+    at_some t false was lacks = made t (lacks refl)
 
-  third_stations : AllStay old new → Stands old 1 (layout_of Stations) → Becomes Stations (rows_none Third Stations)
-  third_stations stay was =
-      let s = stay 1 (layout_of Stations) was in record { stands = s.stands; rows_are = s.rows ∙ sym (same_rows (rows_of 1 (name_of Stations) old)) }
+    each : IsEmpty new History → IsEmpty new Stations → (has_regions e ≡ false → IsEmpty new Regions) → (has_names e ≡ false → IsEmpty new MoreNames) → (t : TableName) → Becomes t (rows_none e t)
+    each history stations regions names Meta = still Meta stay ((has Meta).stands refl)
+    each history stations regions names System = still System stay ((has System).stands refl)
+    each history stations regions names Plans = still Plans stay ((has Plans).stands refl)
+    each history stations regions names Segments = still Segments stay ((has Segments).stands refl)
+    each history stations regions names Types = still Types stay ((has Types).stands refl)
+    each history stations regions names Regions = at_some Regions (has_regions e) (has Regions).stands regions
+    each history stations regions names Stations = made Stations stations
+    each history stations regions names Docks = still Docks stay ((has Docks).stands refl)
+    each history stations regions names Bikes = still Bikes stay ((has Bikes).stands refl)
+    each history stations regions names Trucks = still Trucks stay ((has Trucks).stands refl)
+    each history stations regions names Riders = still Riders stay ((has Riders).stands refl)
+    each history stations regions names Rentals = still Rentals stay ((has Rentals).stands refl)
+    each history stations regions names Orders = still Orders stay ((has Orders).stands refl)
+    each history stations regions names Entries = still Entries stay ((has Entries).stands refl)
+    each history stations regions names History = made History history
+    each history stations regions names MoreNames = at_some MoreNames (has_names e) (has MoreNames).stands names
 
-  third_each : HasTablesAt Third old → AllStay old new → IsEmpty new History → (t : TableName) → Becomes t (rows_none Third t)
-  third_each has stay history Meta = still Meta stay ((has Meta).stands refl)
-  third_each has stay history System = still System stay ((has System).stands refl)
-  third_each has stay history Plans = still Plans stay ((has Plans).stands refl)
-  third_each has stay history Segments = still Segments stay ((has Segments).stands refl)
-  third_each has stay history Types = still Types stay ((has Types).stands refl)
-  third_each has stay history Regions = still Regions stay ((has Regions).stands refl)
-  third_each has stay history Stations = third_stations stay ((has Stations).stands refl)
-  third_each has stay history Docks = still Docks stay ((has Docks).stands refl)
-  third_each has stay history Bikes = still Bikes stay ((has Bikes).stands refl)
-  third_each has stay history Trucks = still Trucks stay ((has Trucks).stands refl)
-  third_each has stay history Riders = still Riders stay ((has Riders).stands refl)
-  third_each has stay history Rentals = still Rentals stay ((has Rentals).stands refl)
-  third_each has stay history Orders = still Orders stay ((has Orders).stands refl)
-  third_each has stay history Entries = still Entries stay ((has Entries).stands refl)
-  third_each has stay history History = made History history
-  third_each has stay history Counts = still Counts stay ((has Counts).stands refl)
-  third_each has stay history MoreNames = still MoreNames stay ((has MoreNames).stands refl)
-
-  pub makes_third : HasTablesAt Third old → MakesHistory old new → MakesTables Third old new
-  makes_third has it =
-      whole Third it.sound it.stays (record { names = λ bounds. absurd (both_ways false refl bounds); requests = it.index }) it.spares it.kept
-      (third_each has it.stays (record { stands = it.history; no_rows = it.no_history }))
-
-  second_each : HasTablesAt Second old → AllStay old new → IsEmpty new History → IsEmpty new Stations → IsEmpty new MoreNames → (t : TableName) → Becomes t (rows_none Second t)
-  second_each has stay history stations names Meta = still Meta stay ((has Meta).stands refl)
-  second_each has stay history stations names System = still System stay ((has System).stands refl)
-  second_each has stay history stations names Plans = still Plans stay ((has Plans).stands refl)
-  second_each has stay history stations names Segments = still Segments stay ((has Segments).stands refl)
-  second_each has stay history stations names Types = still Types stay ((has Types).stands refl)
-  second_each has stay history stations names Regions = still Regions stay ((has Regions).stands refl)
-  second_each has stay history stations names Stations = made Stations stations
-  second_each has stay history stations names Docks = still Docks stay ((has Docks).stands refl)
-  second_each has stay history stations names Bikes = still Bikes stay ((has Bikes).stands refl)
-  second_each has stay history stations names Trucks = still Trucks stay ((has Trucks).stands refl)
-  second_each has stay history stations names Riders = still Riders stay ((has Riders).stands refl)
-  second_each has stay history stations names Rentals = still Rentals stay ((has Rentals).stands refl)
-  second_each has stay history stations names Orders = still Orders stay ((has Orders).stands refl)
-  second_each has stay history stations names Entries = still Entries stay ((has Entries).stands refl)
-  second_each has stay history stations names History = made History history
-  second_each has stay history stations names Counts = still Counts stay ((has Counts).stands refl)
-  second_each has stay history stations names MoreNames = made MoreNames names
-
-  first_each : HasTablesAt First old → AllStay old new → IsEmpty new History → IsEmpty new Stations → IsEmpty new MoreNames → IsEmpty new Regions → (t : TableName) → Becomes t (rows_none First t)
-  first_each has stay history stations names regions Meta = still Meta stay ((has Meta).stands refl)
-  first_each has stay history stations names regions System = still System stay ((has System).stands refl)
-  first_each has stay history stations names regions Plans = still Plans stay ((has Plans).stands refl)
-  first_each has stay history stations names regions Segments = still Segments stay ((has Segments).stands refl)
-  first_each has stay history stations names regions Types = still Types stay ((has Types).stands refl)
-  first_each has stay history stations names regions Regions = made Regions regions
-  first_each has stay history stations names regions Stations = made Stations stations
-  first_each has stay history stations names regions Docks = still Docks stay ((has Docks).stands refl)
-  first_each has stay history stations names regions Bikes = still Bikes stay ((has Bikes).stands refl)
-  first_each has stay history stations names regions Trucks = still Trucks stay ((has Trucks).stands refl)
-  first_each has stay history stations names regions Riders = still Riders stay ((has Riders).stands refl)
-  first_each has stay history stations names regions Rentals = still Rentals stay ((has Rentals).stands refl)
-  first_each has stay history stations names regions Orders = still Orders stay ((has Orders).stands refl)
-  first_each has stay history stations names regions Entries = still Entries stay ((has Entries).stands refl)
-  first_each has stay history stations names regions History = made History history
-  first_each has stay history stations names regions Counts = still Counts stay ((has Counts).stands refl)
-  first_each has stay history stations names regions MoreNames = made MoreNames names
-
-  -- what is known of the tables that the first two versions lack, once they are made
+  -- what is known of the tables that every version lacks, once they are made
   record AreLater (mid : Database) : Type 0 where
-    stays : AllStay mid new
-    indexes : HasNameIndexes new.schema
-    by_key : HasIndex new.schema history_by_key
+    sound : IsDatabase new
     history : IsEmpty new History
     stations : IsEmpty new Stations
-    names : IsEmpty new MoreNames
-    sound : IsDatabase new
+    by_key : HasIndex new.schema history_by_key
+    stays : AllStay mid new
     spares : Spares [] mid new
     kept : KeptStays mid new
 
-  are_later : (mid between : Database) → MakesHistory mid between → MakesNewer between new → AreLater mid
-  are_later mid between first second = record {
-    stays = stay_both mid between new first.stays second.stays;
-    indexes = second.indexes;
-    by_key = index_spared [] between new history_by_key second.spares refl first.index;
-    history = empty_stays between new History second.stays (record { stands = first.history; no_rows = first.no_history });
-    stations = record { stands = second.stations; no_rows = second.no_stations };
-    names = record { stands = second.names; no_rows = second.no_names };
+  are_later : (mid : Database) → MakesLater mid new → AreLater mid
+  are_later mid (between, first, second) = record {
     sound = second.sound;
+    history = empty_stays between new History second.stays (record { stands = first.history; no_rows = first.no_history });
+    stations = made_empty Stations between new second;
+    by_key = index_spared [] between new history_by_key second.spares refl first.index;
+    stays = stay_both mid between new first.stays second.stays;
     spares = spares_then [] mid between new first.spares second.spares;
     kept = λ was. second.kept (first.kept was);
   }
 
-  pub makes_second : (between : Database) → HasTablesAt Second old → MakesHistory old between → MakesNewer between new → MakesTables Second old new
-  makes_second between has first second =
-      let it = are_later old between first second in
-      whole Second it.sound it.stays (record { names = λ bounds. it.indexes; requests = it.by_key }) it.spares it.kept (second_each has it.stays it.history it.stations it.names)
+  pub makes_third : HasTablesAt Third old → MakesLater old new → MakesTables Third old new
+  makes_third has later =
+      let it = are_later old later in
+      whole Third it.sound it.stays (record { names = λ bounds. absurd (both_ways false refl bounds); requests = it.by_key }) it.spares it.kept
+      (each Third has it.stays it.history it.stations (λ never. absurd (both_ways true never refl)) (λ never. absurd (both_ways true never refl)))
 
-  pub makes_first : (mid between : Database) → HasTablesAt First old → MakesTable Regions old mid → MakesHistory mid between → MakesNewer between new → MakesTables First old new
-  makes_first mid between has regions first second =
-      let it = are_later mid between first second in
+  -- .. and of those that the first two lack
+  record AreMore (mid : Database) : Type 0 where
+    later : (between : Database) × AreLater between
+    names : IsEmpty new MoreNames
+    indexes : HasNameIndexes new.schema
+    stays : AllStay mid new
+    spares : Spares [] mid new
+    kept : KeptStays mid new
+
+  are_more : (mid : Database) → MakesMore mid new → AreMore mid
+  are_more mid (between, first, second) =
+      let it = are_later between second in
+      record {
+        later = (between, it);
+        names = empty_stays between new MoreNames it.stays (record { stands = first.names; no_rows = first.no_names });
+        indexes = record {
+          by_language = index_spared [] between new more_names_by_language it.spares refl first.indexes.by_language;
+          by_thing = index_spared [] between new more_names_by_thing it.spares refl first.indexes.by_thing;
+        };
+        stays = stay_both mid between new first.stays it.stays;
+        spares = spares_then [] mid between new first.spares it.spares;
+        kept = λ was. it.kept (first.kept was);
+      }
+
+  pub makes_second : HasTablesAt Second old → MakesMore old new → MakesTables Second old new
+  makes_second has more =
+      let it = are_more old more in
+      let later = it.later.1 in
+      whole Second later.sound it.stays (record { names = λ bounds. it.indexes; requests = later.by_key }) it.spares it.kept
+      (each Second has it.stays later.history later.stations (λ never. absurd (both_ways true never refl)) (λ lacks. it.names))
+
+  pub makes_first : (mid : Database) → HasTablesAt First old → MakesTable Regions old mid → MakesMore mid new → MakesTables First old new
+  makes_first mid has regions more =
+      let it = are_more mid more in
+      let later = it.later.1 in
       let stay = stay_both old mid new regions.stays it.stays in
-      whole First it.sound stay (record { names = λ bounds. it.indexes; requests = it.by_key }) (spares_then [] old mid new regions.spares it.spares) (λ was. it.kept (regions.kept was))
-      (first_each has stay it.history it.stations it.names (empty_stays mid new Regions it.stays (made_empty Regions old mid regions)))
+      whole First later.sound stay (record { names = λ bounds. it.indexes; requests = later.by_key }) (spares_then [] old mid new regions.spares it.spares) (λ was. it.kept (regions.kept was))
+      (each First has stay later.history later.stations (λ lacks. empty_stays mid new Regions it.stays (made_empty Regions old mid regions)) (λ lacks. it.names))

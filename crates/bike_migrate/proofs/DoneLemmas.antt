@@ -1,42 +1,36 @@
 -- The raised tables are judged, and stand once the old tables are gone.
-use Rattle.std.proofs.Common.{◌≡◌, ◌||◌, ℕ, Bool, true, false, List, [], ◌∷◌, ◌++◌, map, codes, Option, Some, None, IsTrue, refl, sym, ap, subst, ◌∙◌}
-use Rattle.std.specs.List.{AllByRecursion, list_any}
+use Rattle.std.proofs.Common.{◌≡◌, ℕ, true, false, List, ◌++◌, Option, Some, None, refl, sym, ap, subst, ◌∙◌}
 use Rattle.std.proofs.Math.Path.{fun_ext}
-use Rattle.std.proofs.lemmas.Bool.{or_parts, or_from, both_ways}
+use Rattle.std.proofs.lemmas.Bool.{or_parts, both_ways}
 use Rattle.std.proofs.lemmas.List.Folds.{list_any-append}
 use Rattle.sqlite_value.specs.Order.{Row}
 use Rattle.sqlite.specs.Effect.{Database}
-use Rattle.bike_sql.specs.Makes.{IsFree}
-use Rattle.bike_sql.specs.Layout.{Layout}
-use Rattle.bike_sql.specs.Stands.{is_same_text, Stands, Stays}
-use Rattle.bike_book.specs.Tables.{TableName, Tables, Stations, keys_of, tables_by}
-use Rattle.bike_schema.specs.Layouts.{layout_of, name_of, every_table}
+use Rattle.bike_sql.specs.Stands.{is_same_text, Stays}
+use Rattle.bike_book.specs.Tables.{TableName, Tables, keys_of, tables_by}
+use Rattle.bike_schema.specs.Layouts.{layout_of, name_of}
 use Rattle.bike_schema.specs.Indexes.{TableIndex, HasIndex, more_names_by_language, more_names_by_thing, history_by_key}
-use Rattle.bike_schema.specs.Makes.{is_our_name}
-use Rattle.bike_schema.specs.Tables.{tables_of, other_names}
+use Rattle.bike_schema.specs.Tables.{tables_of}
 use Rattle.bike_schema.proofs.TableLemmas.{every_false}
 use Rattle.bike_readings.specs.Rules.{IsVerdict}
 use Rattle.bike_recognition.specs.declared.earlier_versions.earlier.Earlier.{Earlier}
 use Rattle.bike_recognition.specs.declared.earlier_versions.earlier.Earlier.TheVariants.{First, Second, Third}
-use Rattle.bike_recognition.specs.EarlierVersions.Earlier.{bounds_docks, stations_name, stations_layout}
-use Rattle.bike_recognition.specs.EarlierVersions.Kept.{kept_name}
-use Rattle.bike_migrate.specs.Raised.{IsEarlier, old_stations, tables_raised, filled_names, changed_names, old_names, HasOld, Fills, DropsTable, DropsOld, is_product_name, OthersKept, Raises}
-use Rattle.bike_migrate.specs.Spared.{is_among, Spares}
+use Rattle.bike_recognition.specs.EarlierVersions.Earlier.{bounds_docks}
+use Rattle.bike_migrate.specs.Raised.{IsEarlier, old_stations, tables_raised, filled_names, changed_names, old_names, Fills, DropsOld, OthersKept, Raises}
+use Rattle.bike_migrate.specs.Spared.{is_among}
 use Rattle.bike_migrate.specs.Stations.{AreCopies}
 use Rattle.bike_migrate.specs.Verdicts.{IsVerdictBefore, IsVerdictAt}
-use Rattle.bike_migrate.proofs.FillLemmas.{stations_raised, old_table}
-use Rattle.bike_migrate.proofs.SpareLemmas.{spares_then, spares_less, among_first, among_rest, index_spared}
+use Rattle.bike_migrate.proofs.DropLemmas.{apart_here, not_ours, not_old}
+use Rattle.bike_migrate.proofs.FillLemmas.{stations_raised}
+use Rattle.bike_migrate.proofs.SpareLemmas.{spares_then, spares_less, index_spared}
 
 -- ---- the verdict
 
 pub verdict_raised : (e : Earlier) (a b : Database) (rows : List Row) (bad : Option (TableName × Row)) → IsEarlier e a → rows ≡ old_stations e a → Fills e a b
-    → ((IsTrue (bounds_docks e) → AreCopies rows (tables_of b).stations) → IsVerdictAt e (tables_of b) bad)
-    → IsVerdictAt e (tables_raised e a) bad
+    → (AreCopies rows (tables_of b).stations → IsVerdictAt e (tables_of b) bad) → IsVerdictAt e (tables_raised e a) bad
 verdict_raised e a b rows bad was are filled verdict = subst (λ t. IsVerdictAt e t bad) filled.raised.tables (verdict copies)
   where
-    copies : IsTrue (bounds_docks e) → AreCopies rows (tables_of b).stations
-    copies bounds =
-        subst (λ rs. AreCopies rs (tables_of b).stations) (sym are) (subst (λ (t : Tables). AreCopies (old_stations e a) t.stations) (sym filled.raised.tables) (stations_raised e a was.is_at bounds))
+    copies : AreCopies rows (tables_of b).stations
+    copies = subst (λ rs. AreCopies rs (tables_of b).stations) (sym are) (subst (λ (t : Tables). AreCopies (old_stations e a) t.stations) (sym filled.raised.tables) (stations_raised e a was.is_at))
 
 pub verdict_bounded : (e : Earlier) (t : Tables) (bad : Option (TableName × Row)) → bounds_docks e ≡ true → IsVerdictBefore t bad → IsVerdictAt e t bad
 verdict_bounded First t None bounds verdict = verdict
@@ -50,98 +44,6 @@ verdict_unbounded First t bad bounds verdict = absurd (both_ways true bounds ref
 verdict_unbounded Second t bad bounds verdict = absurd (both_ways true bounds refl)
 verdict_unbounded Third t None bounds verdict = verdict
 verdict_unbounded Third t (Some bad) bounds verdict = verdict
-
--- ---- names
-
--- the old tables have other names than the newest
-apart_here : (e : Earlier) → list_any (λ t. is_among (old_names e) (name_of t)) every_table ≡ false
-apart_here First = refl
-apart_here Second = refl
-apart_here Third = refl
-
-stations_other : (e : Earlier) → is_same_text (stations_layout e).name kept_name ≡ false
-stations_other First = refl
-stations_other Second = refl
-stations_other Third = refl
-
--- a name that is none of the product's
-none_mapped : (p : List ℕ → Bool) (ts : List TableName) → list_any p (map name_of ts) ≡ list_any (λ t. p (name_of t)) ts
-none_mapped p [] = refl
-none_mapped p (t ∷ ts) = ap (λ b. p (name_of t) || b) (none_mapped p ts)
-
-module _ (name : List ℕ) (other : is_product_name name ≡ false) where
-  parts : (list_any (is_same_text name) (map name_of every_table) ≡ false) × (list_any (is_same_text name) other_names ≡ false)
-  parts =
-      or_parts (list_any (is_same_text name) (map name_of every_table)) (list_any (is_same_text name) other_names)
-      (sym (list_any-append (is_same_text name) (map name_of every_table) other_names) ∙ other)
-
-  not_ours : is_our_name name ≡ false
-  not_ours = sym (none_mapped (is_same_text name) every_table) ∙ parts.0
-
-  abbrev same : List ℕ → Bool
-  same = is_same_text name
-
-  not_first : same (codes "stations") ≡ false
-  not_first = (or_parts (same (codes "stations")) (same (codes "stations_2") || (same (codes "kept") || false)) parts.1).0
-
-  after_first : (same (codes "stations_2") || (same (codes "kept") || false)) ≡ false
-  after_first = (or_parts (same (codes "stations")) (same (codes "stations_2") || (same (codes "kept") || false)) parts.1).1
-
-  not_second : same (codes "stations_2") ≡ false
-  not_second = (or_parts (same (codes "stations_2")) (same (codes "kept") || false) after_first).0
-
-  not_kept : same (codes "kept") ≡ false
-  not_kept = (or_parts (same (codes "kept")) false (or_parts (same (codes "stations_2")) (same (codes "kept") || false) after_first).1).0
-
-  not_old : (e : Earlier) → is_among (old_names e) name ≡ false
-  not_old First = or_from (same (codes "kept")) (same (codes "stations") || false) not_kept (or_from (same (codes "stations")) false not_first refl)
-  not_old Second = or_from (same (codes "kept")) (same (codes "stations_2") || false) not_kept (or_from (same (codes "stations_2")) false not_second refl)
-  not_old Third = or_from (same (codes "kept")) false not_kept refl
-
--- ---- the old tables
-
--- that of stations stands as they are filled, where it goes
-pub old_stays : (e : Earlier) (a b : Database) → IsEarlier e a → Fills e a b → HasOld e b
-old_stays First a b was filled = (filled.others 1 (stations_layout First) refl (old_table First a was.is_at)).stands
-old_stays Second a b was filled = (filled.others 1 (stations_layout Second) refl (old_table Second a was.is_at)).stands
-old_stays Third a b was filled = filled.raised.has Stations
-
--- and as `kept` goes
-pub old_left : (e : Earlier) (a b : Database) → HasOld e a → DropsTable kept_name a b → HasOld e b
-old_left e a b was dropped = (dropped.others 1 (stations_layout e) (stations_other e) was).stands
-
-names_one : (e : Earlier) → bounds_docks e ≡ false → old_names e ≡ kept_name ∷ []
-names_one e bounds = rw bounds refl
-
-names_two : (e : Earlier) → bounds_docks e ≡ true → old_names e ≡ kept_name ∷ stations_name e ∷ []
-names_two e bounds = rw bounds refl
-
--- .. which alone goes
-abbrev DropsNames : List (List ℕ) → Database → Database → Type 0
-DropsNames names a b = (AllByRecursion (λ name. IsFree b.schema name) names) × ((keys : ℕ) (layout : Layout) → is_among names layout.name ≡ false → Stands a keys layout → Stays a b keys layout)
-    × Spares names a b
-
-pub drops_one : (e : Earlier) (a b : Database) → bounds_docks e ≡ false → DropsTable kept_name a b → DropsOld e a b
-drops_one e a b bounds dropped =
-    let all : DropsNames (old_names e) a b = subst (λ names. DropsNames names a b) (sym (names_one e bounds))
-    ((dropped.gone, tt), (λ keys layout other was. dropped.others keys layout (or_parts (is_same_text layout.name kept_name) false other).0 was), dropped.spares) in
-    record { sound = dropped.sound; gone = all.0; others = all.1; spares = all.2 }
-
--- .. and that of stations after it
-pub drops_two : (e : Earlier) (a b c : Database) → bounds_docks e ≡ true → DropsTable kept_name a b → DropsTable (stations_name e) b c → DropsOld e a c
-drops_two e a b c bounds first second =
-    let two = kept_name ∷ stations_name e ∷ [] in
-    let all : DropsNames (old_names e) a c = subst (λ names. DropsNames names a c) (sym (names_two e bounds)) (
-      (second.frees kept_name first.gone, (second.gone, tt)),
-      (λ keys layout other was.
-          let parts = or_parts (is_same_text layout.name kept_name) (is_same_text layout.name (stations_name e) || false) other in
-          let one = first.others keys layout parts.0 was in
-          let next = second.others keys layout (or_parts (is_same_text layout.name (stations_name e)) false parts.1).0 one.stands in
-          record { stands = next.stands; rows = next.rows ∙ one.rows }),
-      spares_then two a b c (spares_less two (kept_name ∷ []) a b (among_first kept_name (stations_name e ∷ [])) first.spares)
-          (spares_less two (stations_name e ∷ []) b c (among_rest kept_name (stations_name e ∷ [])) second.spares),
-    ) in
-    record { sound = second.sound; gone = all.0; others = all.1; spares = all.2 }
 
 -- ---- at the end
 
@@ -180,6 +82,6 @@ module _ (e : Earlier) (a b c : Database) (filled : Fills e a b) (dropped : Drop
     };
     others = kept;
     spares = spares_then (changed_names e) a b c
-        (spares_less (changed_names e) (filled_names e) a b (λ name other. (among_both (old_names e) (filled_names e) name other).1) filled.spares)
-        (spares_less (changed_names e) (old_names e) b c (λ name other. (among_both (old_names e) (filled_names e) name other).0) dropped.spares);
+        (spares_less (changed_names e) filled_names a b (λ name other. (among_both (old_names e) filled_names name other).1) filled.spares)
+        (spares_less (changed_names e) (old_names e) b c (λ name other. (among_both (old_names e) filled_names name other).0) dropped.spares);
   }

@@ -1,13 +1,13 @@
 -- The tables once they are filled.
-use Rattle.std.proofs.Common.{◌≡◌, ◌⊎◌, inl, inr, ℕ, suc, ◌+◌, ◌<◌, true, false, IsTrue, arith, List, [], ◌∷◌, ◌++◌, map, take, length, get_or, append_assoc, append-nil, Less, refl, sym, ap, ap₂, subst, ◌∙◌}
-use Rattle.std.proofs.lemmas.Bool.{both_ways}
+use Rattle.std.proofs.Common.{◌≡◌, ◌⊎◌, inl, inr, ℕ, suc, ◌+◌, ◌<◌, arith, List, [], ◌∷◌, ◌++◌, map, take, length, get_or, append_assoc, append-nil, Less, refl, sym, ap, ap₂, subst, ◌∙◌}
 use Rattle.std.proofs.lemmas.List.{take_more, map-append, length-take-le}
-use Rattle.sqlite_value.specs.Order.{Row, row_cmp}
+use Rattle.sqlite_value.specs.declared.value.Value.TheVariants.{Text}
+use Rattle.sqlite_value.specs.Order.{Row, column, row_cmp}
 use Rattle.sqlite_rules.specs.Lists.{Has}
 use Rattle.sqlite.specs.Effect.{Database}
 use Rattle.bike_sql.specs.Layout.{Layout, table_of}
-use Rattle.bike_sql.specs.Stands.{rows_of, Stands}
-use Rattle.bike_sql.specs.View.{columns_of, by_key, put_row_by}
+use Rattle.bike_sql.specs.Stands.{rows_of, Stands, Stays}
+use Rattle.bike_sql.specs.View.{columns_of, by_key, put_row_by, rows_where}
 use Rattle.bike_sql.proofs.FrameLemmas.{rows_of_is}
 use Rattle.bike_sql.proofs.RowListLemmas.{map_has}
 use Rattle.bike_sql.proofs.OrderLemmas.{Rises, rises, order_has, all_has, all_from}
@@ -18,41 +18,59 @@ use Rattle.bike_book.proofs.NumberRows.{put_number}
 use Rattle.bike_book.specs.Writes.{RowWrite, Add, tables_after, tables_after_all}
 use Rattle.bike_schema.specs.Layouts.{name_of}
 use Rattle.bike_schema.specs.Makes.{Makes}
-use Rattle.bike_schema.proofs.MakesLemmas.{makes_none, makes_then, stay_then}
+use Rattle.bike_schema.proofs.MakesLemmas.{makes_none, makes_then, makes_ours, stay_then}
 use Rattle.bike_schema.specs.Tables.{IsOurs}
 use Rattle.bike_recognition.specs.declared.earlier_versions.earlier.Earlier.{Earlier}
 use Rattle.bike_recognition.specs.declared.earlier_versions.earlier.Earlier.TheVariants.{First, Second, Third}
-use Rattle.bike_recognition.specs.EarlierVersions.Earlier.{bounds_docks, stations_name, stations_layout, completed, tables_at, HasTablesAt, IsAt}
-use Rattle.bike_recognition.specs.EarlierVersions.Kept.{kept_row, kept_rows, past_row, history_rows, KeptLies}
-use Rattle.bike_migrate.specs.Raised.{old_stations, AreOldRows, version_write, station_writes, request_row, request_writes, first_writes, fill_writes, tables_raised, HasNewIndexes, version_names, station_names, first_names}
-use Rattle.bike_migrate.specs.Raised.{request_names, filled_names, emptied, MakesTables, WritesOnly, Fills}
-use Rattle.bike_migrate.specs.Spared.{Spares}
+use Rattle.bike_recognition.specs.EarlierVersions.Counts.{counts_layout, HasCounts, old_counts, old_types, types_text, old_text}
+use Rattle.bike_recognition.specs.EarlierVersions.Earlier.{stations_layout, with_text, completed, tables_at, IsAt}
+use Rattle.bike_recognition.specs.EarlierVersions.Kept.{kept_rows, past_row, history_rows, KeptLies}
+use Rattle.bike_migrate.specs.Raised.{old_stations, AreOldRows, version_write, station_write, station_writes, request_row, request_writes, first_writes, fill_writes, tables_raised}
+use Rattle.bike_migrate.specs.Raised.{HasNewIndexes, version_names, station_names}
+use Rattle.bike_migrate.specs.Raised.{request_names, filled_names, emptied, MakesTables, WritesOnly, WritesBeside, IsOursBeside, Fills}
 use Rattle.bike_migrate.proofs.SpareLemmas.{spares_same, spares_then, spares_less, spares_all, among_first, among_rest}
 use Rattle.bike_migrate.proofs.KeptTexts.{kept_shown}
-use Rattle.bike_migrate.specs.Stations.{station_row, AreCopies}
+use Rattle.bike_migrate.specs.Stations.{AreCopies}
+
+-- ---- beside the writes, `counts` stays
+
+pub counts_stay : (names : List (List ℕ)) (writes : List RowWrite) (a b : Database) → HasCounts a → WritesOnly names writes a b → Stays a b 2 counts_layout
+counts_stay names writes a b has only = only.makes.others 2 counts_layout refl has
+
+pub still_beside : (names : List (List ℕ)) (writes : List RowWrite) (a b : Database) → IsOursBeside a → WritesOnly names writes a b → IsOursBeside b
+still_beside names writes a b has only = (makes_ours only.makes, (counts_stay names writes a b has.1 only).stands)
+
+-- ---- one more
+
+-- the station was added with the text of its rows in `counts`
+pub copied_station : (row : Row) (station text : List ℕ) (rows : List Row) (a b c : Database) → column row 0 ≡ Text station → text ≡ types_text (old_types rows)
+    → (b ≡ a) × (rows ≡ rows_where (0 ∷ []) (Text station ∷ []) (old_counts a)) → WritesOnly station_names (Add Stations (with_text text row) ∷ []) b c
+    → WritesBeside station_names (λ counts. station_writes counts (row ∷ [])) a c
+copied_station row station text rows a b c key told read only =
+    let is : text ≡ old_text (old_counts a) row =
+    told ∙ ap (λ rs. types_text (old_types rs)) (read.1 ∙ ap (λ v. rows_where (0 ∷ []) (v ∷ []) (old_counts a)) (sym key)) in
+    subst (λ db. WritesOnly station_names (station_write (old_counts a) row ∷ []) db c) read.0 (subst (λ t. WritesOnly station_names (Add Stations (with_text t row) ∷ []) b c) is only)
 
 -- one station more
-writes_more : (rows : List Row) (i : ℕ) (row : Row) → i < length rows → row ≡ get_or rows i row
-    → station_writes (take (i + 1) rows) ≡ station_writes (take i rows) ++ Add Stations (station_row row) ∷ []
-writes_more rows i row within is =
-    ap station_writes (take_more rows i row within) ∙ map-append (λ r. Add Stations (station_row r)) (take i rows) (get_or rows i row ∷ [])
-    ∙ ap (λ r. station_writes (take i rows) ++ Add Stations (station_row r) ∷ []) (sym is)
+writes_more : (counts rows : List Row) (i : ℕ) (row : Row) → i < length rows → row ≡ get_or rows i row
+    → station_writes counts (take (i + 1) rows) ≡ station_writes counts (take i rows) ++ station_write counts row ∷ []
+writes_more counts rows i row within is =
+    ap (station_writes counts) (take_more rows i row within) ∙ map-append (station_write counts) (take i rows) (get_or rows i row ∷ [])
+    ∙ ap (λ r. station_writes counts (take i rows) ++ station_write counts r ∷ []) (sym is)
 
-makes_more : (rows : List Row) (i : ℕ) (row : Row) → i < length rows → row ≡ get_or rows i row → (a b c : Database) → Makes (version_write ∷ station_writes (take i rows)) a b
-    → Makes (Add Stations (station_row row) ∷ []) b c
-    → Makes (version_write ∷ station_writes (take (i + 1) rows)) a c
-makes_more rows i row within is a b c first second =
-    subst (λ ws. Makes (version_write ∷ ws) a c) (sym (writes_more rows i row within is))
-    (makes_then (version_write ∷ station_writes (take i rows)) (Add Stations (station_row row) ∷ []) a b c first second)
-
-pub more_only : (rows : List Row) (i : ℕ) (row : Row) → i < length rows → row ≡ get_or rows i row → (a b c : Database) → WritesOnly station_names (version_write ∷ station_writes (take i rows)) a b
-    → WritesOnly station_names (Add Stations (station_row row) ∷ []) b c
-    → WritesOnly station_names (version_write ∷ station_writes (take (i + 1) rows)) a c
-more_only rows i row within is a b c first second = record {
-  makes = makes_more rows i row within is a b c first.makes second.makes;
-  spares = spares_then station_names a b c first.spares second.spares;
-  kept = λ was. second.kept (first.kept was);
-}
+pub more_only : (rows : List Row) (i : ℕ) (row : Row) → i < length rows → row ≡ get_or rows i row → (a b c : Database) → IsOursBeside a
+    → WritesBeside station_names (λ counts. first_writes counts (take i rows)) a b
+    → WritesBeside station_names (λ counts. station_writes counts (row ∷ [])) b c
+    → WritesBeside station_names (λ counts. first_writes counts (take (i + 1) rows)) a c
+more_only rows i row within is a b c has first second =
+    let counts = old_counts a in
+    let next = subst (λ cs. WritesOnly station_names (station_writes cs (row ∷ [])) b c) (counts_stay station_names (first_writes counts (take i rows)) a b has.1 first).rows second in
+    record {
+      makes = subst (λ ws. Makes (version_write ∷ ws) a c) (sym (writes_more counts rows i row within is))
+          (makes_then (first_writes counts (take i rows)) (station_write counts row ∷ []) a b c first.makes next.makes);
+      spares = spares_then station_names a b c first.spares next.spares;
+      kept = λ was. next.kept (first.kept was);
+    }
 
 -- the version alone
 pub version_first : (a b : Database) → WritesOnly version_names (version_write ∷ []) a b → WritesOnly station_names (version_write ∷ []) a b
@@ -88,21 +106,13 @@ more_requests rows i row number counted within is a b c first second = record {
 pub no_writes : (names : List (List ℕ)) (a b : Database) → b ≡ a → IsOurs a → WritesOnly names [] a b
 no_writes names a b same ours = subst (WritesOnly names [] a) (sym same) (record { makes = makes_none a ours.sound ours.has; spares = spares_same names a; kept = λ was. was })
 
--- the first writes are those of the version
-pub first_filled : (e : Earlier) (stations : List Row) (a b : Database) → bounds_docks e ≡ true → WritesOnly station_names (version_write ∷ station_writes stations) a b
-    → WritesOnly (first_names e) (first_writes e stations) a b
-first_filled e stations a b bounds it = rw bounds it
-
-pub version_filled : (e : Earlier) (stations : List Row) (a b : Database) → bounds_docks e ≡ false → WritesOnly version_names (version_write ∷ []) a b → WritesOnly (first_names e) (first_writes e stations) a b
-version_filled e stations a b bounds it = rw bounds it
-
 -- the requests after the first writes
-pub both_filled : (e : Earlier) (stations kept : List Row) (a b c : Database) → WritesOnly (first_names e) (first_writes e stations) a b → WritesOnly request_names (request_writes kept) b c
-    → WritesOnly (filled_names e) (fill_writes e stations kept) a c
-both_filled e stations kept a b c first second = record {
-  makes = makes_then (first_writes e stations) (request_writes kept) a b c first.makes second.makes;
-  spares = spares_then (filled_names e) a b c (spares_less (filled_names e) (first_names e) a b (among_rest _ (first_names e)) first.spares)
-      (spares_less (filled_names e) request_names b c (among_first _ (first_names e)) second.spares);
+pub both_filled : (stations kept : List Row) (a b c : Database) → WritesBeside station_names (λ counts. first_writes counts stations) a b → WritesOnly request_names (request_writes kept) b c
+    → WritesBeside filled_names (λ counts. fill_writes counts stations kept) a c
+both_filled stations kept a b c first second = record {
+  makes = makes_then (first_writes (old_counts a) stations) (request_writes kept) a b c first.makes second.makes;
+  spares = spares_then filled_names a b c (spares_less filled_names station_names a b (among_rest _ station_names) first.spares)
+      (spares_less filled_names request_names b c (among_first _ station_names) second.spares);
   kept = λ was. second.kept (first.kept was);
 }
 
@@ -150,10 +160,6 @@ put_rising (r ∷ rows) xs below up =
 
 -- ---- the old stations as they are copied
 
-map_same_in : {A B : Type 0} (f g : A → B) (xs : List A) → ((x : A) → Has xs x → f x ≡ g x) → map f xs ≡ map g xs
-map_same_in f g [] same = refl
-map_same_in f g (x ∷ xs) same = ap₂ ◌∷◌ (same x (inl refl)) (map_same_in f g xs (λ y h. same y (inr h)))
-
 rising_map : (f : Row → Row) (xs : List Row) → ((a b : Row) → Has xs a → Has xs b → by_key 1 (f a) (f b) ≡ by_key 1 a b) → Rises (by_key_total 1) xs → Rises (by_key_total 1) (map f xs)
 rising_map f [] same up = tt
 rising_map f (x ∷ xs) same up = (
@@ -162,19 +168,14 @@ rising_map f (x ∷ xs) same up = (
   rising_map f xs (λ a b p q. same a b (inr p) (inr q)) up.1,
 )
 
--- a row as the table shows it
-record IsCopied (e : Earlier) (row : Row) : Type 0 where
-  whole : station_row row ≡ completed e row
-  key : take 1 (station_row row) ≡ take 1 row
+-- a row as the table shows it is copied under its key
+abbrev IsUnderIts : List Row → Row → Type 0
+IsUnderIts counts row = take 1 (completed counts row) ≡ take 1 row
 
-first_copied : (tree : ℕ) (r : Row) → IsCopied First (columns_of (table_of (stations_layout First) tree) r)
-first_copied tree r = record { whole = refl; key = refl }
-
-second_copied : (tree : ℕ) (r : Row) → IsCopied Second (columns_of (table_of (stations_layout Second) tree) r)
-second_copied tree r = record { whole = refl; key = refl }
-
-third_copied : (tree : ℕ) (r : Row) → IsCopied Third (columns_of (table_of (stations_layout Third) tree) r)
-third_copied tree r = record { whole = refl; key = refl }
+key_shown : (e : Earlier) (counts : List Row) (tree : ℕ) (r : Row) → IsUnderIts counts (columns_of (table_of (stations_layout e) tree) r)
+key_shown First counts tree r = refl
+key_shown Second counts tree r = refl
+key_shown Third counts tree r = refl
 
 shown : (keys : ℕ) (layout : Layout) (db : Database) (was : Stands db keys layout) (P : Row → Type 0) → ((r : Row) → P (columns_of (table_of layout was.tree) r)) → (row : Row)
     → Has (rows_of keys layout.name db) row → P row
@@ -184,36 +185,25 @@ shown keys layout db was P each row has =
     let it = map_has f (db.trees was.tree) row (order_has (by_key_total keys) (map f (db.trees was.tree)) row there) in
     subst P (sym it.2) (each it.0)
 
--- all rows of its table of stations
-abbrev pub all_stations : Earlier → Database → List Row
-all_stations e db = rows_of 1 (stations_name e) db
-
-copied : (e : Earlier) (db : Database) → Stands db 1 (stations_layout e) → (row : Row) → Has (all_stations e db) row → IsCopied e row
-copied First db was = shown 1 (stations_layout First) db was (IsCopied First) (first_copied was.tree)
-copied Second db was = shown 1 (stations_layout Second) db was (IsCopied Second) (second_copied was.tree)
-copied Third db was = shown 1 (stations_layout Third) db was (IsCopied Third) (third_copied was.tree)
-
 in_order_there : (keys : ℕ) (layout : Layout) (db : Database) → Stands db keys layout → Rises (by_key_total keys) (rows_of keys layout.name db)
 in_order_there keys layout db was =
     subst (Rises (by_key_total keys)) (sym (rows_of_is db keys layout was)) (rises (by_key_total keys) (map (columns_of (table_of layout was.tree)) (db.trees was.tree)))
 
-old_rise : (e : Earlier) (db : Database) → Stands db 1 (stations_layout e) → Rises (by_key_total 1) (all_stations e db)
-old_rise First db was = in_order_there 1 (stations_layout First) db was
-old_rise Second db was = in_order_there 1 (stations_layout Second) db was
-old_rise Third db was = in_order_there 1 (stations_layout Third) db was
-
 module _ (e : Earlier) (db : Database) (was : Stands db 1 (stations_layout e)) where
   abbrev rows : List Row
-  rows = all_stations e db
+  rows = old_stations e db
 
-  pub completed_are : map station_row rows ≡ map (completed e) rows
-  completed_are = map_same_in station_row (completed e) rows (λ row h. (copied e db was row h).whole)
+  abbrev copy : Row → Row
+  copy = completed (old_counts db)
 
-  copies_rise : Rises (by_key_total 1) (map station_row rows)
-  copies_rise = rising_map station_row rows (λ a b p q. ap₂ row_cmp (copied e db was a p).key (copied e db was b q).key) (old_rise e db was)
+  keyed : (row : Row) → Has rows row → IsUnderIts (old_counts db) row
+  keyed = shown 1 (stations_layout e) db was (IsUnderIts (old_counts db)) (key_shown e (old_counts db) was.tree)
 
-  put_copies : put_all (map station_row rows) [] ≡ map (completed e) rows
-  put_copies = put_rising (map station_row rows) [] (λ x r none h. absurd none) copies_rise ∙ completed_are
+  copies_rise : Rises (by_key_total 1) (map copy rows)
+  copies_rise = rising_map copy rows (λ a b p q. ap₂ row_cmp (keyed a p) (keyed b q)) (in_order_there 1 (stations_layout e) db was)
+
+  put_copies : put_all (map copy rows) [] ≡ map copy rows
+  put_copies = put_rising (map copy rows) [] (λ x r none h. absurd none) copies_rise
 
 -- ---- the requests as they are copied
 
@@ -246,47 +236,28 @@ module _ (db : Database) (it : KeptLies db) where
 
 -- ---- all tables
 
-old_stand : (e : Earlier) (db : Database) → HasTablesAt e db → Stands db 1 (stations_layout e)
-old_stand First db has = (has Stations).stands refl
-old_stand Second db has = (has Stations).stands refl
-old_stand Third db has = (has Stations).stands refl
-
-stations_at : (e : Earlier) (db : Database) → (tables_at e db).stations ≡ map (completed e) (all_stations e db)
-stations_at First db = refl
-stations_at Second db = refl
-stations_at Third db = refl
-
 pub old_table : (e : Earlier) (db : Database) → IsAt e db → Stands db 1 (stations_layout e)
-old_table e db at = old_stand e db at.has
-
--- those that are copied are all
-pub old_are : (e : Earlier) (db : Database) → bounds_docks e ≡ true → all_stations e db ≡ old_stations e db
-old_are e db bounds = rw bounds refl
-
--- .. or none
-pub none_are : (e : Earlier) (db : Database) → bounds_docks e ≡ false → [] ≡ old_stations e db
-none_are e db bounds = rw bounds refl
+old_table e db at = (at.has Stations).stands refl
 
 -- the stations of the tables raised are those that were copied
-pub stations_raised : (e : Earlier) (db : Database) → IsAt e db → IsTrue (bounds_docks e) → AreCopies (old_stations e db) (tables_raised e db).stations
-stations_raised e db at bounds = subst (λ rs. AreCopies rs (tables_raised e db).stations) (old_are e db bounds) (record {
-  are = completed_are e db (old_table e db at) ∙ sym (stations_at e db);
-  keyed = λ row has. (copied e db (old_table e db at) row has).key;
-})
+pub stations_raised : (e : Earlier) (db : Database) → IsAt e db → AreCopies (old_stations e db) (tables_raised e db).stations
+stations_raised e db at = record { counts = old_counts db; are = refl; keyed = keyed e db (old_table e db at) }
 
-writes_map : (rows : List Row) → station_writes rows ≡ map (Add Stations) (map station_row rows)
-writes_map [] = refl
-writes_map (r ∷ rows) = ap (λ l. Add Stations (station_row r) ∷ l) (writes_map rows)
+writes_map : (counts rows : List Row) → station_writes counts rows ≡ map (Add Stations) (map (completed counts) rows)
+writes_map counts [] = refl
+writes_map counts (r ∷ rows) = ap (λ l. station_write counts r ∷ l) (writes_map counts rows)
 
 requests_map : (es : List (ℕ × Row)) → map (λ e. Add History (request_row e)) es ≡ map (Add History) (map request_row es)
 requests_map [] = refl
 requests_map (e ∷ es) = ap (λ l. Add History (request_row e) ∷ l) (requests_map es)
 
-stations_added : (e : Earlier) (db : Database) → IsAt e db → (t : Tables) → t.stations ≡ [] → tables_after_all (station_writes (all_stations e db)) t ≡ with_rows Stations (tables_at e db).stations t
+stations_added : (e : Earlier) (db : Database) → IsAt e db → (t : Tables) → t.stations ≡ []
+    → tables_after_all (station_writes (old_counts db) (old_stations e db)) t ≡ with_rows Stations (map (completed (old_counts db)) (old_stations e db)) t
 stations_added e db at t none =
-    ap (λ ws. tables_after_all ws t) (writes_map (all_stations e db))
-    ∙ adds_all (map station_row (all_stations e db)) t
-    ∙ ap (λ rows. with_rows Stations rows t) (ap (put_all (map station_row (all_stations e db))) none ∙ put_copies e db (old_table e db at) ∙ sym (stations_at e db))
+    let copies = map (completed (old_counts db)) (old_stations e db) in
+    ap (λ ws. tables_after_all ws t) (writes_map (old_counts db) (old_stations e db))
+    ∙ adds_all copies t
+    ∙ ap (λ rows. with_rows Stations rows t) (ap (put_all copies) none ∙ put_copies e db (old_table e db at))
 
 requests_added : (db : Database) → KeptLies db → (t : Tables) → t.history ≡ [] → tables_after_all (request_writes (kept_rows db)) t ≡ with_rows History (history_rows (kept_rows db)) t
 requests_added db it t none =
@@ -295,36 +266,30 @@ requests_added db it t none =
     ∙ ap (λ rows. with_rows History rows t) (ap (put_all (map request_row (with_numbers (kept_rows db)))) none ∙ put_history db it)
 
 -- the version set, and the stations and requests added
-filled_are : (e : Earlier) (db : Database) → IsAt e db → tables_after_all (fill_writes e (old_stations e db) (kept_rows db)) (emptied e (tables_at e db)) ≡ tables_raised e db
-filled_are First db at =
-    let t = emptied First (tables_at First db) in
+filled_are : (e : Earlier) (db : Database) → IsAt e db → tables_after_all (fill_writes (old_counts db) (old_stations e db) (kept_rows db)) (emptied (tables_at e db)) ≡ tables_raised e db
+filled_are e db at =
+    let t = emptied (tables_at e db) in
     let v = tables_after version_write t in
-    after_both (first_writes First (old_stations First db)) (request_writes (kept_rows db)) t
-    ∙ ap (tables_after_all (request_writes (kept_rows db))) (stations_added First db at v refl)
-    ∙ requests_added db at.kept (with_rows Stations (tables_at First db).stations v) refl
-filled_are Second db at =
-    let t = emptied Second (tables_at Second db) in
-    let v = tables_after version_write t in
-    after_both (first_writes Second (old_stations Second db)) (request_writes (kept_rows db)) t
-    ∙ ap (tables_after_all (request_writes (kept_rows db))) (stations_added Second db at v refl)
-    ∙ requests_added db at.kept (with_rows Stations (tables_at Second db).stations v) refl
-filled_are Third db at =
-    let t = emptied Third (tables_at Third db) in
-    after_both (first_writes Third []) (request_writes (kept_rows db)) t
-    ∙ requests_added db at.kept (tables_after version_write t) refl
+    after_both (first_writes (old_counts db) (old_stations e db)) (request_writes (kept_rows db)) t
+    ∙ ap (tables_after_all (request_writes (kept_rows db))) (stations_added e db at v refl)
+    ∙ requests_added db at.kept (with_rows Stations (map (completed (old_counts db)) (old_stations e db)) v) refl
 
-pub fills : (e : Earlier) (a b c : Database) (stations kept : List Row) → IsAt e a → AreOldRows e stations kept a → MakesTables e a b → WritesOnly (filled_names e) (fill_writes e stations kept) b c
-    → Fills e a c
+pub made_beside : (e : Earlier) (a b : Database) → IsAt e a → MakesTables e a b → IsOursBeside b
+made_beside e a b at made = (record { sound = made.sound; has = made.has }, (made.others 2 counts_layout refl at.counts).stands)
+
+pub fills : (e : Earlier) (a b c : Database) (stations kept : List Row) → IsAt e a → AreOldRows e stations kept a → MakesTables e a b
+    → WritesBeside filled_names (λ counts. fill_writes counts stations kept) b c → Fills e a c
 fills e a b c stations kept at are made only = record {
   raised = record {
     sound = only.makes.sound;
     has = only.makes.has;
     tables =
-        only.makes.tables ∙ ap (tables_after_all (fill_writes e stations kept)) made.tables
-        ∙ ap₂ (λ rs ks. tables_after_all (fill_writes e rs ks) (emptied e (tables_at e a))) are.0 are.1 ∙ filled_are e a at;
+        only.makes.tables ∙ ap (tables_after_all (fill_writes (old_counts b) stations kept)) made.tables
+        ∙ ap (λ cs. tables_after_all (fill_writes cs stations kept) (emptied (tables_at e a))) (made.others 2 counts_layout refl at.counts).rows
+        ∙ ap₂ (λ rs ks. tables_after_all (fill_writes (old_counts a) rs ks) (emptied (tables_at e a))) are.0 are.1 ∙ filled_are e a at;
   };
   indexes = subst (HasNewIndexes e) (sym only.makes.schema) made.indexes;
   others = stay_then a b c made.others only.makes.others;
-  spares = spares_then (filled_names e) a b c (spares_all (filled_names e) a b made.spares) only.spares;
+  spares = spares_then filled_names a b c (spares_all filled_names a b made.spares) only.spares;
   kept = only.kept (made.kept at.kept);
 }

@@ -12,7 +12,7 @@ use Rattle.sqlite.proofs.StateLemmas.{survives_then}
 use Rattle.bike_sql.proofs.ChainLaws.{quiet_survives}
 use Rattle.bike_book.specs.declared.version.TheConstants.{NEWEST}
 use Rattle.bike_schema.specs.declared.fault.StatementFault.{StatementFault}
-use Rattle.bike_schema.specs.Tables.{HasTables, HasNone}
+use Rattle.bike_schema.specs.Tables.{HasNone}
 use Rattle.bike_recognition.specs.Recognition.{ReadsAny, meta_version}
 use Rattle.bike_recognition.specs.declared.version.MetaVersion.{MetaVersion}
 use Rattle.bike_recognition.specs.declared.version.MetaVersion.TheVariants.{Missing, Version, NotOurs}

@@ -25,7 +25,7 @@ module _ {S : Type 0} (g : Ghosts S) (e : Earlier) where
   -- ---- the attempt
 
   has_old : (db : Database) → IsEarlier e db → HasOldTables e db
-  has_old db was = (old_table e db was.is_at, was.is_at.kept)
+  has_old db was = (old_table e db was.is_at, was.is_at.counts, was.is_at.kept)
 
   -- it failed before anything was done
   pub attempt_failed : {X E : Type 0} {old new : Held S} {result : Result X E} {told : Result (Option BadRow) StatementFault} {says : Database → X → Type 0} → ReadsWhere g (HasOldTables e) old new result says

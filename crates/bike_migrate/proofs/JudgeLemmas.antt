@@ -1,5 +1,5 @@
 -- The tables are made, filled and judged.
-use Rattle.std.proofs.Common.{◌≡◌, List, Option, Result, Ok, IsTrue, sym, subst}
+use Rattle.std.proofs.Common.{List, Option, Result, Ok, sym, subst}
 use Rattle.std.specs.Prelude.{option_map}
 use Rattle.sqlite_value.specs.Order.{Row}
 use Rattle.sqlite_trees.specs.declared.store.Store.{Ghosts}
@@ -10,9 +10,8 @@ use Rattle.bike_schema.specs.Tables.{IsOurs, tables_of}
 use Rattle.bike_audit.specs.Audit.{row_name}
 use Rattle.bike_audit.specs.declared.tables.BadRow.{BadRow}
 use Rattle.bike_recognition.specs.declared.earlier_versions.earlier.Earlier.{Earlier}
-use Rattle.bike_recognition.specs.EarlierVersions.Earlier.{bounds_docks, IsAt}
 use Rattle.bike_migrate.specs.Calls.{DoesInside}
-use Rattle.bike_migrate.specs.Raised.{AreOldRows, HasOldRows, WasRead, tables_raised, Fills}
+use Rattle.bike_migrate.specs.Raised.{HasOldRows, WasRead, tables_raised, Fills}
 use Rattle.bike_migrate.specs.Stations.{AreCopies}
 use Rattle.bike_migrate.specs.Verdicts.{IsVerdictAt}
 use Rattle.bike_migrate.proofs.StepLemmas.{does_under, does_then, reads_does}
@@ -30,7 +29,7 @@ module _ (e : Earlier) (stations kept : List Row) where
 
   pub judged_does : {S E F : Type 0} {g : Ghosts S} {old mid new : Held S} {result : Result (Option BadRow) F}
       → DoesInside g (HasOldRows e stations kept) old mid {X = Unit {0}} {E = E} (Ok tt) (λ a b _. Fills e a b)
-      → ReadsWhere g IsOurs mid new result (λ db bad. (IsTrue (bounds_docks e) → AreCopies stations (tables_of db).stations) → IsVerdictAt e (tables_of db) (option_map row_name bad))
+      → ReadsWhere g IsOurs mid new result (λ db bad. AreCopies stations (tables_of db).stations → IsVerdictAt e (tables_of db) (option_map row_name bad))
       → DoesInside g (WasRead e stations kept) old new result Judged
   judged_does built read = does_then (does_under is_at built) filled_ours (reads_does read)
       (λ a b c bad has filled it. (subst (Fills e a) (sym it.0) filled, verdict_raised e a b stations (option_map row_name bad) has.0 has.1.0 filled it.1))

@@ -18,7 +18,7 @@ use Rattle.bike_schema.proofs.MakeLemmas.{Adds, Unreferring, all_weaker, get_has
 use Rattle.bike_book.specs.Writes.{RowWrite}
 use Rattle.bike_recognition.specs.Rowids.{AreApart}
 use Rattle.bike_recognition.specs.Wanted.{Lies}
-use Rattle.bike_recognition.specs.EarlierVersions.Kept.{kept_name, kept_layout, KeptLies}
+use Rattle.bike_recognition.specs.EarlierVersions.Kept.{kept_name, kept_layout}
 use Rattle.bike_migrate.specs.Raised.{KeptStays}
 use Rattle.bike_migrate.specs.Spared.{is_among, Spares}
 

@@ -1,5 +1,5 @@
 -- The texts that name `kept`.
-use Rattle.std.proofs.Common.{◌≡◌, ◌^◌, ℕ, List, [], ◌∷◌, map, filter, Bool, true, false, Ok, Err, nat_lt, nat_le, codes, Ordering, Less, Equal, Greater, refl, subst, sym, ap, ◌∙◌}
+use Rattle.std.proofs.Common.{◌≡◌, ◌^◌, ℕ, List, [], ◌∷◌, map, Bool, true, false, Ok, Err, nat_lt, nat_le, codes, Ordering, Less, Equal, Greater, refl, subst, sym, ap, ◌∙◌}
 use Rattle.std.specs.List.{IsDistinct}
 use Rattle.std.specs.List.Sorted.{IsPermutation}
 use Rattle.std.specs.Ordering.{on, eq_by_cmp, is_eq}

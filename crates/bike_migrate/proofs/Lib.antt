@@ -8,6 +8,8 @@ mod TextLemmas
 mod BuildLemmas
 mod FillLemmas
 mod ReadLemmas
+mod TypeLemmas
+mod DropLemmas
 mod VersionLemmas
 mod OperatorLemmas
 mod VerdictLemmas

@@ -1,5 +1,5 @@
 -- The tables at an earlier version are an operator's where, raised, they are its own and no station has too many docks.
-use Rattle.std.proofs.Common.{◌≡◌, ◌≤◌, ℕ, pos, true, false, IsTrue, List, [], ◌∷◌, map, Option, Some, None, refl, sym, ap, subst, ◌∙◌}
+use Rattle.std.proofs.Common.{◌≡◌, ◌≤◌, ℕ, true, false, IsTrue, List, [], ◌∷◌, map, Option, Some, None, refl, sym, ap, subst, ◌∙◌}
 use Rattle.std.specs.Prelude.{option_map, IfSome}
 use Rattle.std.specs.FinMap as fin
 use Rattle.std.proofs.lemmas.Bool.{leb-true, le-leb, both_ways}
@@ -10,9 +10,8 @@ use Rattle.bike_sql.specs.View.{row_with}
 use Rattle.bike_sql.proofs.RowListLemmas.{map_has}
 use Rattle.bike_ledger.specs.Ledger.{cash_of, revenue_of}
 use Rattle.bike_operator.specs.Operator.{Operator, Station}
-use Rattle.bike_operator.specs.Counts.{docks_available, docks_broken}
 use Rattle.bike_book.specs.Tables.{TableName, Tables, Meta, Stations, with_rows}
-use Rattle.bike_book.specs.Rows.{meta_row, station_row}
+use Rattle.bike_book.specs.Rows.{meta_row}
 use Rattle.bike_book.specs.Stored.{Listed, tables_for, stored_station}
 use Rattle.bike_book.specs.Writes.{tables_after}
 use Rattle.bike_book.proofs.FoundKeys.{found_by_key}
@@ -54,12 +53,10 @@ module _ (s : Operator) (m : Listed) where
   bound_kept few name key = tt
 
   -- and where they do, it has few docks
-  module _ (found : (id : List ℕ) → row_with 1 (Text id ∷ []) (tables_for s m).stations
-      ≡ option_map (λ x. station_row id x (pos (docks_available s id x.row.docks)) (docks_broken s id x.row.docks)) (fin.get s.stations id)) where
+  module _ (found : (id : List ℕ) → row_with 1 (Text id ∷ []) (tables_for s m).stations ≡ option_map (λ x. stored_station s (id, x)) (fin.get s.stations id)) where
     pub few_of : ((key : Row) → KeepsBound (tables_for s m) Stations key) → HasFewDocks s
     few_of bound id x there =
-        let row = station_row id x (pos (docks_available s id x.row.docks)) (docks_broken s id x.row.docks) in
-        let is : row_with 1 (Text id ∷ []) (tables_for s m).stations ≡ Some row = found id ∙ ap (option_map (λ y. station_row id y (pos (docks_available s id y.row.docks)) (docks_broken s id y.row.docks))) there in
+        let is : row_with 1 (Text id ∷ []) (tables_for s m).stations ≡ Some (stored_station s (id, x)) = found id ∙ ap (option_map (λ y. stored_station s (id, y))) there in
         let few = subst (λ o. IfSome o (λ r. has_few r ≡ true)) is (bound (Text id ∷ [])) in
         leb-true x.row.docks MOST_DOCKS_BEFORE few
 
@@ -74,9 +71,7 @@ raised_for e db s m are =
 -- and back
 lowered_meta : (e : Earlier) (db : Database) (s : Operator) (m : Listed) → IsEarlier e db → tables_raised e db ≡ tables_for s m
     → (tables_at e db).meta ≡ meta_row (number_of e) s.now (cash_of s.entries) (revenue_of s.entries) ∷ []
-lowered_meta First db s m it are = meta_lowered 1 s.now (cash_of s.entries) (revenue_of s.entries) (tables_at First db).meta it.version (ap (λ (t : Tables). t.meta) are)
-lowered_meta Second db s m it are = meta_lowered 2 s.now (cash_of s.entries) (revenue_of s.entries) (tables_at Second db).meta it.version (ap (λ (t : Tables). t.meta) are)
-lowered_meta Third db s m it are = meta_lowered 3 s.now (cash_of s.entries) (revenue_of s.entries) (tables_at Third db).meta it.version (ap (λ (t : Tables). t.meta) are)
+lowered_meta e db s m it are = meta_lowered (number_of e) s.now (cash_of s.entries) (revenue_of s.entries) (tables_at e db).meta it.version (ap (λ (t : Tables). t.meta) are)
 
 pub lowered_for : (e : Earlier) (db : Database) (s : Operator) (m : Listed) → IsEarlier e db → tables_raised e db ≡ tables_for s m → tables_at e db ≡ tables_for_at e s m
 lowered_for e db s m it are = ap (with_rows Meta (tables_at e db).meta) are ∙ ap (λ rows. with_rows Meta rows (tables_for s m)) (lowered_meta e db s m it are)

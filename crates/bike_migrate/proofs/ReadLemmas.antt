@@ -1,5 +1,5 @@
 -- All rows of an answer at once.
-use Rattle.std.proofs.Common.{◌≡◌, ℕ, false, List, [], Result, Ok, Err, IsErr}
+use Rattle.std.proofs.Common.{◌≡◌, ℕ, false, List, Result, Ok, Err, IsErr}
 use Rattle.sqlite_value.specs.Order.{Row}
 use Rattle.sqlite_trees.specs.declared.store.Store.{Ghosts}
 use Rattle.sqlite.specs.declared.error.Error.{Error}
@@ -12,12 +12,6 @@ use Rattle.bike_sql.specs.Answer.{HasOneAnswer}
 use Rattle.bike_sql.specs.Calls.{IsQuiet, ReadsWhere}
 use Rattle.bike_sql.proofs.ReadLemmas.{query_stopped}
 use Rattle.bike_sql.proofs.WalkLaw.{answers_all}
-use Rattle.bike_sql.specs.Stands.{Stands}
-use Rattle.bike_recognition.specs.declared.earlier_versions.earlier.Earlier.{Earlier}
-use Rattle.bike_recognition.specs.declared.earlier_versions.earlier.Earlier.TheVariants.{First, Second, Third}
-use Rattle.bike_recognition.specs.EarlierVersions.Earlier.{stations_layout}
-use Rattle.bike_migrate.proofs.FillLemmas.{all_stations}
-use Rattle.bike_migrate.specs.Stations.{AsksRows}
 
 module _ {S : Type 0} (g : Ghosts S) (P : Database → Type 0) (all : Database → List Row) (text : List ℕ) (params : Row) (one : (db : Database) → P db → HasOneAnswer db text params (all db))
     (old new : Held S) where
@@ -50,12 +44,6 @@ module _ {S : Type 0} (g : Ghosts S) (P : Database → Type 0) (all : Database �
     failed = λ clean has. query_stopped text params (state g old) (state g new) (one (state g old).now has).means.1 e (fails clean);
     quiet = quiet mode s;
   }
-
--- all rows of a table of stations
-pub asks_old : (e : Earlier) (text : List ℕ) → AsksRows (stations_layout e) text → (db : Database) → Stands db 1 (stations_layout e) → HasOneAnswer db text [] (all_stations e db)
-asks_old First text asks db was = asks db was
-asks_old Second text asks db was = asks db was
-asks_old Third text asks db was = asks db was
 
 -- a read where more was known
 pub reads_under : {S X E : Type 0} {g : Ghosts S} {P Q : Database → Type 0} {old new : Held S} {result : Result X E} {says : Database → X → Type 0} → ((db : Database) → Q db → P db)

@@ -1,5 +1,5 @@
 -- What each statement leaves as it was.
-use Rattle.std.proofs.Common.{◌≡◌, ◌≢◌, ◌==◌, ◌⊎◌, inl, inr, not, zero, suc, ℕ, ◌+◌, Bool, true, false, List, [], ◌∷◌, ◌++◌, filter, find, slice_get, Option, Some, None, option_map, unwrap_or, Ok}
+use Rattle.std.proofs.Common.{◌≡◌, ◌≢◌, ◌==◌, ◌⊎◌, inl, inr, not, ℕ, ◌+◌, Bool, true, false, List, [], ◌∷◌, ◌++◌, filter, find, slice_get, Some, None, option_map, unwrap_or, Ok}
 use Rattle.std.proofs.Common.{Err, Result, refl, sym, ap, subst, ◌∙◌, arith}
 use Rattle.std.specs.List.{AllByRecursion, position_from}
 use Rattle.std.proofs.lemmas.Bool.{cases_Bool, or_parts, or_from, ne_eqb}
@@ -16,12 +16,12 @@ use Rattle.sqlite_rules.specs.Lists.{Has}
 use Rattle.sqlite_catalog.specs.Calls.{CreatesTable}
 use Rattle.sqlite_catalog.proofs.StepLemmas.{same_itself}
 use Rattle.sqlite.specs.Effect.{Database}
-use Rattle.sqlite.specs.Does.{Tally, MakesSequence, lacks_sequence, sequence_text}
+use Rattle.sqlite.specs.Does.{Tally, lacks_sequence, sequence_text}
 use Rattle.sqlite.specs.State.{State, Writes, Executes}
 use Rattle.sqlite.proofs.Callers.{runs_as}
 use Rattle.bike_sql.specs.Has.{HasTable}
 use Rattle.bike_sql.specs.Laws.{Means}
-use Rattle.bike_sql.proofs.GrowLemmas.{created_keeps, indexed_keeps, same_has}
+use Rattle.bike_sql.proofs.GrowLemmas.{created_keeps, indexed_keeps}
 use Rattle.bike_sql.specs.Drops.{Drops}
 use Rattle.bike_sql.specs.Layout.{Layout, table_of}
 use Rattle.bike_sql.specs.Stands.{is_same_text, Stands}

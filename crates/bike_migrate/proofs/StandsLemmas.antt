@@ -12,7 +12,7 @@ use Rattle.bike_sql.specs.View.{row_with}
 use Rattle.bike_ledger.specs.Ledger.{cash_of, revenue_of}
 use Rattle.bike_operator.specs.Operator.{Operator, no_operator}
 use Rattle.bike_book.specs.declared.version.TheConstants.{NEWEST}
-use Rattle.bike_book.specs.Tables.{TableName, Tables, Meta, keys_of}
+use Rattle.bike_book.specs.Tables.{Tables, Meta, keys_of}
 use Rattle.bike_book.proofs.LedgerRows.{meta_found}
 use Rattle.bike_schema.specs.Layouts.{layout_of, name_of}
 use Rattle.bike_schema.specs.Stands.{Stores, IsOf}
@@ -27,6 +27,7 @@ use Rattle.bike_recognition.specs.declared.earlier_versions.found.Found.{Found}
 use Rattle.bike_recognition.specs.declared.earlier_versions.found.Found.TheVariants as found
 use Rattle.bike_recognition.specs.Wanted.{Lies}
 use Rattle.bike_recognition.specs.EarlierVersions.Kept.{kept_layout, KeptLies}
+use Rattle.bike_recognition.specs.EarlierVersions.Counts.{counts_layout}
 use Rattle.bike_recognition.specs.EarlierVersions.Earlier.{layout_at, tables_at, AreNewerFree, IsAt}
 use Rattle.bike_recognition.specs.EarlierVersions.Found.{IsNewest, IsOfEarlier, IsByVersion, IsFoundAs}
 use Rattle.bike_recognition.specs.EarlierVersions.Stores.{StoresAt, StandsForAt, TreesStandForAt}
@@ -84,19 +85,16 @@ module _ (a b : Schema) (trees : Trees) (same : a.tables ≡ b.tables) where
   of_across s (inr it) = inr (stores_across s it)
 
   free_across : (e : Earlier) → AreNewerFree e a → AreNewerFree e b
-  free_across First free = subst (λ ts. AreNewerFree First (record { tables = ts; indexes = []; views = [] })) same free
-  free_across Second free = subst (λ ts. AreNewerFree Second (record { tables = ts; indexes = []; views = [] })) same free
-  free_across Third free = subst (λ ts. AreNewerFree Third (record { tables = ts; indexes = []; views = [] })) same free
+  free_across e free = subst (λ ts. AreNewerFree e (record { tables = ts; indexes = []; views = [] })) same free
 
   tables_across : (e : Earlier) → tables_at e (with_schema b trees) ≡ tables_at e (with_schema a trees)
-  tables_across First = ap (λ ts. tables_at First (bare ts trees)) (sym same)
-  tables_across Second = ap (λ ts. tables_at Second (bare ts trees)) (sym same)
-  tables_across Third = ap (λ ts. tables_at Third (bare ts trees)) (sym same)
+  tables_across e = ap (λ ts. tables_at e (bare ts trees)) (sym same)
 
   stores_at_across : (e : Earlier) (s : Operator) → StoresAt e (with_schema a trees) s → StoresAt e (with_schema b trees) s
   stores_at_across e s it = record {
     is_at = record {
       has = λ t. record { stands = λ has. across (keys_of t) (layout_at e t) ((it.is_at.has t).stands has) };
+      counts = across 2 counts_layout it.is_at.counts;
       kept = kept_across it.is_at.kept;
       free = free_across e it.is_at.free;
     };

@@ -1,5 +1,6 @@
 -- What the statements do to a database.
-use Rattle.std.proofs.Common.{◌≡◌, ℕ, Bool, true, false, List, [], ◌∷◌, map, length, drop, get_or, zero, suc, ◌+◌, ◌<◌, ◌≤◌, arith, codes, ℤ, pos, None, Some, Ok, refl, sym, ap, ap₂, subst, ◌∙◌, inl, inr}
+use Rattle.std.proofs.Common.{◌≡◌, ℕ, Bool, true, false, List, [], ◌∷◌, ◌++◌, map, length, take, drop, get_or, zero, suc, ◌+◌, ◌<◌, ◌≤◌, arith, codes, ℤ, pos, None, Ok}
+use Rattle.std.proofs.Common.{refl, sym, ap, ap₂, subst, ◌∙◌, inl, inr}
 use Rattle.std.specs.List.{list_all, range_with_len, zip}
 use Rattle.std.proofs.lemmas.List.{length-map, get_or-map}
 use Rattle.std.proofs.lemmas.Simd.{map-map}
@@ -21,7 +22,6 @@ use Rattle.sqlite_schema.specs.declared.schema.Column.{Column}
 use Rattle.sqlite_schema.specs.declared.schema.Kind.{Kind}
 use Rattle.sqlite_schema.specs.declared.schema.Kind.TheVariants.{Integer, Text as Words}
 use Rattle.sqlite_schema.specs.declared.schema.Schema.{Schema}
-use Rattle.sqlite_schema.specs.Names.{table_named}
 use Rattle.sqlite_schema.specs.declared.command.Command.{Command}
 use Rattle.sqlite_schema.specs.declared.command.Command.TheVariants.{CreateTable}
 use Rattle.sqlite_schema.specs.declared.command.Source.TheVariants.{Values}
@@ -38,8 +38,7 @@ use Rattle.bike_sql.proofs.InsertLaws.{insert_is}
 use Rattle.bike_sql.specs.Inside.{IsWriteIn}
 use Rattle.bike_sql.specs.Drops.{IsDrop}
 use Rattle.bike_sql.proofs.DropTextLemmas.{drop_means}
-use Rattle.bike_sql.proofs.DropLaw.{table_dropped}
-use Rattle.bike_sql.specs.Layout.{table_of}
+use Rattle.bike_sql.specs.Layout.{Layout, table_of}
 use Rattle.bike_sql.specs.Queries.{table_query, key_tests, by_columns}
 use Rattle.bike_sql.specs.Stands.{Stands}
 use Rattle.bike_sql.proofs.CallLaws.{Does}
@@ -47,7 +46,7 @@ use Rattle.bike_sql.proofs.CastLemmas.{suits, suit_all}
 use Rattle.bike_sql.proofs.IndexLaw.{IsOnlyIndex}
 use Rattle.bike_sql.proofs.SetLaw.{some_terms}
 use Rattle.bike_sql.proofs.TextLemmas.{IsUpdate, update_means, IsSelect}
-use Rattle.bike_sql.proofs.SelectLaws.{every_column, ordered_rows}
+use Rattle.bike_sql.proofs.SelectLaws.{every_column, ordered_rows, rows_with}
 use Rattle.bike_sql.proofs.KeyLemmas.{IsKeyAt}
 use Rattle.bike_sql.proofs.WriteLaws.{row_put, row_updated, row_terms, width}
 use Rattle.bike_book.specs.declared.columns.stations.TheConstants as stations
@@ -65,18 +64,20 @@ use Rattle.bike_schema.proofs.MakeFacts.{text_of, declared, index_only, each_tol
 use Rattle.bike_schema.proofs.MakeTexts.{IsOnlyCreate, understood_as}
 use Rattle.bike_schema.proofs.MakesLemmas.{adds_row, sets_columns}
 use Rattle.bike_recognition.specs.Recognition.{TableStands}
-use Rattle.bike_recognition.specs.declared.earlier_versions.earlier.Earlier.{Earlier}
 use Rattle.bike_recognition.specs.declared.earlier_versions.earlier.Earlier.TheVariants.{First, Second, Third}
-use Rattle.bike_recognition.specs.EarlierVersions.Earlier.{stations_name, stations_layout}
+use Rattle.bike_sql.specs.Answer.{HasOneAnswer}
+use Rattle.bike_sql.specs.View.{rows_where}
+use Rattle.bike_recognition.specs.EarlierVersions.Counts.{counts_name, counts_layout, HasCounts, old_counts}
+use Rattle.bike_recognition.specs.EarlierVersions.Earlier.{stations_layout, with_text}
 use Rattle.bike_migrate.specs.Raised.{MakesTable, MakesIndex, station_names, version_names, request_names, request_row, WritesOnly, DropsTable, version_write}
-use Rattle.bike_migrate.specs.Stations.{station_row, may_hold, IsStationRow, IsRequestRow, AsksRows}
+use Rattle.bike_migrate.specs.Stations.{may_hold, IsStationRow, IsRequestRow, AsksRows}
 use Rattle.bike_schema.proofs.MakeLemmas.{adds}
 use Rattle.bike_schema.proofs.GrowthLemmas.{still_unnamed, made_stands, made_empty, all_stay}
 use Rattle.bike_sql.proofs.IndexLaw as index
 use Rattle.bike_schema.specs.declared.indexes.TheConstants.{MORE_NAMES_BY_LANGUAGE, MORE_NAMES_BY_THING, HISTORY_BY_KEY}
 use Rattle.bike_schema.specs.Indexes.{TableIndex, more_names_by_language, more_names_by_thing, history_by_key}
 use Rattle.bike_schema.proofs.IndexLemmas.{Tells, index_added, index_there}
-use Rattle.bike_migrate.proofs.SpareLemmas.{spares_less, among_first, among_rest, spares_making, spares_indexing, spares_inserting, spares_updating, spares_dropping}
+use Rattle.bike_migrate.proofs.SpareLemmas.{spares_less, among_rest, spares_making, spares_indexing, spares_inserting, spares_updating, spares_dropping}
 use Rattle.bike_migrate.proofs.KeptStaysLemmas.{kept_beside, kept_indexed, kept_written}
 use Rattle.bike_migrate.proofs.KeptTexts.{kept_drops}
 use Rattle.bike_migrate.proofs.LyingDropLaw.{lying_dropped}
@@ -215,29 +216,34 @@ kind_suits Words Null h = refl
 kind_suits Words (Text t) h = refl
 kind_suits k v h = absurd (let e = h in cc)
 
-all_suit : (cs : List Column) (row : Row) (n : ℕ) → list_all (λ (x : ℕ × Kind). may_hold x.1 (column row x.0)) (zip (range_with_len n (length (map (λ c. c.kind) cs))) (map (λ c. c.kind) cs)) ≡ true
-    → suit_all cs (map (column row) (range_with_len n (length cs))) ≡ true
-all_suit [] row n h = refl
-all_suit (c ∷ cs) row n h = let both = and_parts (may_hold c.kind (column row n)) _ h in rw (kind_suits c.kind (column row n) both.0) (all_suit cs row (n + 1) both.1)
+-- the first columns of a row as they are, and behind them what suits the other columns
+all_suit : (cs rest : List Column) (row tail : Row) (n : ℕ)
+    → list_all (λ (x : ℕ × Kind). may_hold x.1 (column row x.0)) (zip (range_with_len n (length (map (λ c. c.kind) (cs ++ rest)))) (map (λ c. c.kind) (cs ++ rest))) ≡ true
+    → suit_all rest tail ≡ true → suit_all (cs ++ rest) (map (column row) (range_with_len n (length cs)) ++ tail) ≡ true
+all_suit [] rest row tail n h suit = suit
+all_suit (c ∷ cs) rest row tail n h suit = let both = and_parts (may_hold c.kind (column row n)) _ h in rw (kind_suits c.kind (column row n) both.0) (all_suit cs rest row tail (n + 1) both.1 suit)
 
-station_suits : (row : Row) → IsStationRow row → suit_all (layout_of Stations).columns (station_row row) ≡ true
-station_suits row it = all_suit (layout_of Stations).columns row 0 it
+abbrev columns : List Column
+columns = (layout_of Stations).columns
 
--- .. reads that leave the reader as it is give its values in order ..
-module _ {F : Type 0} {g : Mut F (ℕ × Unit {0}) ValueRef} (row : Row) (f : F) (reads : (i : ℕ) (y : ValueRef) (q : F) → Called g f (i, tt) y q → (q ≡ f) × (owned y ≡ column row i))
+station_suits : (text : List ℕ) (row : Row) → IsStationRow row → suit_all columns (with_text text row) ≡ true
+station_suits text row it = all_suit (take stations.BY_TYPE columns) (drop stations.BY_TYPE columns) row (Text text ∷ []) 0 it refl
+
+-- .. reads that leave the reader as it is give these values in order ..
+module _ {F : Type 0} {g : Mut F (ℕ × Unit {0}) ValueRef} (value : ℕ → Value) (f : F) (reads : (i : ℕ) (y : ValueRef) (q : F) → Called g f (i, tt) y q → (q ≡ f) × (owned y ≡ value i))
     (values : List ValueRef) where
-  value_is : (n i : ℕ) → IsFromFnResultFrom g f values i n → (k : ℕ) (d : ValueRef) → i ≤ k → k < i + n → owned (get_or values k d) ≡ column row k
+  value_is : (n i : ℕ) → IsFromFnResultFrom g f values i n → (k : ℕ) (d : ValueRef) → i ≤ k → k < i + n → owned (get_or values k d) ≡ value k
   value_is zero i each k d from to = absurd (omega (arith, from, to))
   value_is (suc n) i (q, y, at, called, rest) k d from to = elim (cases_eq k i) [
     | inl same ↦ rw same (ap owned (at.1 d) ∙ (reads i y q called).1)
     | inr other ↦ value_is n (i + 1) (subst (λ h. IsFromFnResultFrom g h values (i + 1) n) (reads i y q called).0 rest) k d (omega (arith, from, other)) (omega (arith, to))
   ]
 
-  pub values_are : length values ≡ stations.COLUMNS → IsFromFnResultFrom g f values 0 stations.COLUMNS → bound values ≡ map bound_value (station_row row)
+  pub values_are : length values ≡ stations.COLUMNS → IsFromFnResultFrom g f values 0 stations.COLUMNS → bound values ≡ map bound_value (map value (range_with_len 0 stations.COLUMNS))
   values_are long each =
-      fill_by_all (λ at. bound_value (column row at)) (bound values) stations.COLUMNS Null (length-map values _ ∙ long)
+      fill_by_all (λ at. bound_value (value at)) (bound values) stations.COLUMNS Null (length-map values _ ∙ long)
       (λ k within. get_or-map _ values k lent.Null _ (omega (arith, long, within)) ∙ ap bound_value (value_is stations.COLUMNS 0 each k lent.Null (omega arith) (omega (arith, within))))
-      ∙ sym (map-map bound_value (column row) (range_with_len 0 stations.COLUMNS))
+      ∙ sym (map-map bound_value value (range_with_len 0 stations.COLUMNS))
 
 -- .. and a call binds it as it is
 bound_same : (k : Kind) (v : Value) → suits k v ≡ true → bound_value v ≡ v
@@ -252,25 +258,25 @@ bound_all [] [] h = refl
 bound_all (c ∷ cs) (v ∷ vs) h = let both = and_parts (suits c.kind v) (suit_all cs vs) h in ap₂ ◌∷◌ (bound_same c.kind v both.0) (bound_all cs vs both.1)
 bound_all cs vs h = absurd (let e = h in cc)
 
-pub station_bound : (row : Row) → IsStationRow row → map bound_value (station_row row) ≡ station_row row
-station_bound row it = bound_all (layout_of Stations).columns (station_row row) (station_suits row it)
+pub station_bound : (text : List ℕ) (row : Row) → IsStationRow row → map bound_value (with_text text row) ≡ with_text text row
+station_bound text row it = bound_all columns (with_text text row) (station_suits text row it)
 
-pub adds_station : (row : Row) → IsStationRow row → Does IsOurs (λ db. WasFree (Add Stations (station_row row)) (tables_of db))
-    (Puts (Add Stations (station_row row) ∷ [])) station_text (station_row row)
+pub adds_station : (text : List ℕ) (row : Row) → IsStationRow row → Does IsOurs (λ db. WasFree (Add Stations (with_text text row)) (tables_of db))
+    (Puts (Add Stations (with_text text row) ∷ [])) station_text (with_text text row)
 unfolding everything
-adds_station row it = let suit = station_suits row it in adds_row Stations (row_put (unique_key Stations) inserts_station refl suit (λ rows. refl))
+adds_station text row it = let suit = station_suits text row it in adds_row Stations (row_put (unique_key Stations) inserts_station refl suit (λ rows. refl))
 
 -- the station is added, and nothing else
-pub station_added : (row : Row) → IsStationRow row → (old new : State) → IsOurs old.now → (count : ℕ) → ExecutesInside 0 station_text (station_row row) old new (Ok count)
-    → WritesOnly station_names (Add Stations (station_row row) ∷ []) old.now new.now
-station_added row suits old new ours count ran =
+pub station_added : (text : List ℕ) (row : Row) → IsStationRow row → (old new : State) → IsOurs old.now → (count : ℕ) → ExecutesInside 0 station_text (with_text text row) old new (Ok count)
+    → WritesOnly station_names (Add Stations (with_text text row) ∷ []) old.now new.now
+station_added text row suits old new ours count ran =
     let it = ours.has Stations in
     let values = Values (row_terms (layout_of Stations)) (width (layout_of Stations)) in
-    let made = ((adds_station row suits).does old new ours (Ok count) ran).0.makes in
+    let made = ((adds_station text row suits).does old new ours (Ok count) ran).0.makes in
     let spared = spares_less station_names (name_of Stations ∷ []) old.now new.now (among_rest (name_of Meta) (name_of Stations ∷ []))
-    (spares_inserting (layout_of Stations) (keys_of Stations) old new it station_text (station_row row) count (width (layout_of Stations)) (row_terms (layout_of Stations))
+    (spares_inserting (layout_of Stations) (keys_of Stations) old new it station_text (with_text text row) count (width (layout_of Stations)) (row_terms (layout_of Stations))
     (insert_is old.now.schema it.at (table_of (layout_of Stations) it.tree) it.has station_text values (inserts_station old.now.schema it.tree)) ran.0) in
-    record { makes = made; spares = spared; kept = kept_written station_names (Add Stations (station_row row) ∷ []) old.now new.now made spared refl }
+    record { makes = made; spares = spared; kept = kept_written station_names (Add Stations (with_text text row) ∷ []) old.now new.now made spared refl }
 
 -- ---- INSERT of a request
 
@@ -292,7 +298,7 @@ abbrev text_columns : List Column
 text_columns = drop 2 (layout_of History).columns
 
 texts_suit : (row : Row) → IsRequestRow row → suit_all text_columns (map (column row) (range_with_len 0 4)) ≡ true
-texts_suit row it = all_suit text_columns row 0 it
+texts_suit row it = all_suit text_columns [] row [] 0 it refl
 
 request_suits : (number : ℕ) (row : Row) → IsRequestRow row → suit_all (layout_of History).columns (request_row (number, row)) ≡ true
 request_suits number row it = texts_suit row it
@@ -323,82 +329,51 @@ request_added number row suits old new ours count ran =
 
 -- ---- DROP
 
-pub drop_writes : (e : Earlier) (text : List ℕ) → IsDrop (first text) (stations_name e) → (db : Database) → Stands db 1 (stations_layout e) → IsWriteIn db.schema text
-drop_writes e text is db was c understood_is = elim (drop_means db.schema was.at (stations_name e) (found e was) text is) [
+-- a table that stands lies there
+pub lies : {keys : ℕ} {layout : Layout} {db : Database} → Stands db keys layout → Lies db layout
+lies was = record { at = was.at; tree = was.tree; has = was.has; unreferred = was.unreferred; apart = (was.keyed.spread, was.keyed.numbered) }
+
+pub drop_writes : (text : List ℕ) (layout : Layout) → IsDrop (first text) layout.name → (db : Database) → Lies db layout → IsWriteIn db.schema text
+drop_writes text layout is db was c understood_is = elim (drop_means db.schema was.at layout.name was.has.found text is) [
   | inl means ↦ means_writes db.schema text _ means.0.0 tt c understood_is
   | inr refused ↦ absurd (let both = sym refused ∙ understood_is in cc)
 ]
-  where
-    found : (e : Earlier) (was : Stands db 1 (stations_layout e)) → table_named db.schema (stations_name e) ≡ Some was.at
-    found First was = was.has.found
-    found Second was = was.has.found
-    found Third was = was.has.found
 
-pub drops : (e : Earlier) (text : List ℕ) → IsDrop (first text) (stations_name e) → (old new : State) → IsDatabase old.now → Stands old.now 1 (stations_layout e) → (count : ℕ)
-    → Executes text [] old new (Ok count) → DropsTable (stations_name e) old.now new.now
-drops First text is old new sound was count ran =
-    let it = table_dropped text 1 (stations_layout First) is old new sound was count ran in
+pub drops : (text : List ℕ) (layout : Layout) → IsDrop (first text) layout.name → (old new : State) → IsDatabase old.now → Lies old.now layout → (count : ℕ) → Executes text [] old new (Ok count)
+    → DropsTable layout.name old.now new.now
+drops text layout is old new sound was count ran =
+    let it = lying_dropped text layout is old new sound was count ran in
     record {
       sound = it.sound;
       gone = it.free;
-      frees = still_free (stations_name First) was.tree old.now new.now it;
+      frees = still_free layout.name was.tree old.now new.now it;
       others = it.others;
-      spares = spares_dropping (stations_layout First) old.now new.now was.at was.tree was.has it;
+      spares = spares_dropping layout old.now new.now was.at was.tree was.has it;
     }
-drops Second text is old new sound was count ran =
-    let it = table_dropped text 1 (stations_layout Second) is old new sound was count ran in
-    record {
-      sound = it.sound;
-      gone = it.free;
-      frees = still_free (stations_name Second) was.tree old.now new.now it;
-      others = it.others;
-      spares = spares_dropping (stations_layout Second) old.now new.now was.at was.tree was.has it;
-    }
-drops Third text is old new sound was count ran =
-    let it = table_dropped text 1 (stations_layout Third) is old new sound was count ran in
-    record {
-      sound = it.sound;
-      gone = it.free;
-      frees = still_free (stations_name Third) was.tree old.now new.now it;
-      others = it.others;
-      spares = spares_dropping (stations_layout Third) old.now new.now was.at was.tree was.has it;
-    }
-
-kept_found : (db : Database) (keyed : Bool) (it : Lies db (kept_layout keyed)) → table_named db.schema kept_name ≡ Some it.at
-kept_found db true it = it.has.found
-kept_found db false it = it.has.found
 
 abbrev pub drop_kept_text : List ℕ
 drop_kept_text = codes "DROP TABLE kept"
 
 pub drop_kept_writes : (db : Database) → KeptLies db → IsWriteIn db.schema drop_kept_text
-drop_kept_writes db it c understood_is = elim (drop_means db.schema it.lies.at kept_name (kept_found db it.keyed it.lies) drop_kept_text kept_drops) [
-  | inl means ↦ means_writes db.schema drop_kept_text _ means.0.0 tt c understood_is
-  | inr refused ↦ absurd (let both = sym refused ∙ understood_is in cc)
-]
-
-drops_lying : (keyed : Bool) (old new : State) → IsDatabase old.now → Lies old.now (kept_layout keyed) → (count : ℕ) → Executes drop_kept_text [] old new (Ok count) → DropsTable kept_name old.now new.now
-drops_lying true old new sound was count ran =
-    let it = lying_dropped drop_kept_text (kept_layout true) kept_drops old new sound was count ran in
-    record {
-      sound = it.sound;
-      gone = it.free;
-      frees = still_free kept_name was.tree old.now new.now it;
-      others = it.others;
-      spares = spares_dropping (kept_layout true) old.now new.now was.at was.tree was.has it;
-    }
-drops_lying false old new sound was count ran =
-    let it = lying_dropped drop_kept_text (kept_layout false) kept_drops old new sound was count ran in
-    record {
-      sound = it.sound;
-      gone = it.free;
-      frees = still_free kept_name was.tree old.now new.now it;
-      others = it.others;
-      spares = spares_dropping (kept_layout false) old.now new.now was.at was.tree was.has it;
-    }
+drop_kept_writes db it = by it.keyed it.lies
+  where
+    by : (keyed : Bool) → Lies db (kept_layout keyed) → IsWriteIn db.schema drop_kept_text
+    by true was = drop_writes drop_kept_text (kept_layout true) kept_drops db was
+    by false was = drop_writes drop_kept_text (kept_layout false) kept_drops db was
 
 pub drops_kept : (old new : State) → IsDatabase old.now → KeptLies old.now → (count : ℕ) → Executes drop_kept_text [] old new (Ok count) → DropsTable kept_name old.now new.now
-drops_kept old new sound it count ran = drops_lying it.keyed old new sound it.lies count ran
+drops_kept old new sound it count ran = by it.keyed it.lies
+  where
+    by : (keyed : Bool) → Lies old.now (kept_layout keyed) → DropsTable kept_name old.now new.now
+    by true was = drops drop_kept_text (kept_layout true) kept_drops old new sound was count ran
+    by false was = drops drop_kept_text (kept_layout false) kept_drops old new sound was count ran
+
+abbrev pub drop_counts_text : List ℕ
+drop_counts_text = codes "DROP TABLE counts"
+
+pub counts_drops : IsDrop (first drop_counts_text) counts_name
+unfolding everything
+counts_drops = (refl, refl)
 
 pub first_drops : IsDrop (first (codes "DROP TABLE stations")) (codes "stations")
 unfolding everything
@@ -411,6 +386,21 @@ second_drops = (refl, refl)
 pub third_drops : IsDrop (first (codes "DROP TABLE stations_3")) (codes "stations_3")
 unfolding everything
 third_drops = (refl, refl)
+
+-- ---- SELECT of a station's counts
+
+counts_key : IsKeyAt 2 counts_layout (1 ∷ 2 ∷ [])
+counts_key = record { first = λ row. refl }
+
+abbrev pub counts_text : List ℕ
+counts_text = codes "SELECT * FROM counts WHERE station_id = ?1 ORDER BY station_id, type_id"
+
+counts_selects : IsSelect (table_query 0 (key_tests 0 (1 ∷ [])) (by_columns (1 ∷ 2 ∷ [])) (every_column counts_layout)) counts_layout counts_text
+unfolding everything
+counts_selects = (λ tree. refl, refl)
+
+pub asks_counts : (station : List ℕ) (db : Database) → HasCounts db → HasOneAnswer db counts_text (Text station ∷ []) (rows_where (0 ∷ []) (Text station ∷ []) (old_counts db))
+asks_counts station db was = rows_with counts_key was 0 (0 ∷ []) counts_selects refl (λ r. refl)
 
 -- ---- SELECT of all old stations
 

@@ -18,7 +18,8 @@ use Rattle.bike_schema.proofs.TableLemmas.{same_table}
 use Rattle.bike_readings.specs.Rules.{AreInOrder, row_under, IsGoodKey, IsFirstBad, IsVerdict}
 use Rattle.bike_readings.proofs.Places.{has_under, under_has}
 use Rattle.bike_judges.specs.Least.{least_key}
-use Rattle.bike_migrate.specs.Stations.{station_row, has_few, AreCopies, IsFirstOver, IsOver}
+use Rattle.bike_recognition.specs.EarlierVersions.Earlier.{completed}
+use Rattle.bike_migrate.specs.Stations.{has_few, AreCopies, IsFirstOver, IsOver}
 use Rattle.bike_migrate.specs.Verdicts.{KeepsBound, IsFirstBadBefore, IsVerdictBefore, lesser_of, against_stations, first_of}
 
 -- ---- lists
@@ -75,6 +76,9 @@ apart : (name : TableName) → (table_place name ≡ table_place Stations → �
 apart name other same = other (ap table_place same)
 
 module _ (t : Tables) (up : AreInOrder t) (rows : List Row) (copies : AreCopies rows t.stations) where
+  abbrev station_row : Row → Row
+  station_row = completed copies.counts
+
   -- the copy that stands under a key
   abbrev Under : Row → Row → Type 0
   Under key y = (r : Row) × Has rows r × (y ≡ station_row r) × (row_cmp (take 1 y) key ≡ Equal)

@@ -1,5 +1,5 @@
 -- What raising makes of a database of an earlier version.
-use Rattle.std.specs.Prelude.{◌≡◌, ℕ, Bool, false, if◌then◌else◌, List, [], ◌∷◌, ◌++◌, map, IsTrue}
+use Rattle.std.specs.Prelude.{◌≡◌, ℕ, Bool, false, List, [], ◌∷◌, ◌++◌, map, IsTrue}
 use Rattle.std.specs.List.{list_any, AllByRecursion}
 use Rattle.sqlite_value.specs.Order.{Row, column}
 use Rattle.sqlite_schema.specs.declared.schema.Schema.{Schema}
@@ -15,14 +15,14 @@ use Rattle.bike_book.specs.Writes.{RowWrite, Add, Set, tables_after}
 use Rattle.bike_schema.specs.Layouts.{layout_of, name_of}
 use Rattle.bike_schema.specs.Indexes.{TableIndex, HasIndex, more_names_by_language, more_names_by_thing, history_by_key}
 use Rattle.bike_schema.specs.Makes.{Makes, OthersStay}
-use Rattle.bike_schema.specs.Tables.{tables_of, HasTables, is_parent, product_names}
+use Rattle.bike_schema.specs.Tables.{tables_of, HasTables, IsOurs, is_parent, product_names}
 use Rattle.bike_sql.specs.Drops as drops
 use Rattle.bike_recognition.specs.Recognition.{meta_version}
 use Rattle.bike_recognition.specs.declared.version.MetaVersion.TheVariants.{Version}
 use Rattle.bike_recognition.specs.declared.earlier_versions.earlier.Earlier.{Earlier}
-use Rattle.bike_migrate.specs.Stations.{station_row}
 use Rattle.bike_recognition.specs.EarlierVersions.Earlier.{IsAt, number_of, bounds_docks, stations_name}
-use Rattle.bike_recognition.specs.EarlierVersions.Earlier.{stations_layout, tables_at}
+use Rattle.bike_recognition.specs.EarlierVersions.Earlier.{stations_layout, completed, tables_at}
+use Rattle.bike_recognition.specs.EarlierVersions.Counts.{counts_name, HasCounts, old_counts}
 use Rattle.bike_recognition.specs.EarlierVersions.Kept.{KeptLies, kept_name, kept_rows}
 use Rattle.bike_migrate.specs.Spared.{is_among, Spares}
 
@@ -33,11 +33,11 @@ pub record IsEarlier (e : Earlier) (db : Database) : Type 0 where
 
 -- ---- the old tables
 
--- the rows of its old table of stations, as they stand there; none where that table is the newest
+-- the rows of its table of stations, as they stand there
 abbrev pub old_stations : Earlier → Database → List Row
-old_stations e db = if bounds_docks e then rows_of 1 (stations_name e) db else []
+old_stations e = rows_of 1 (stations_name e)
 
--- these are the rows of its old tables: of stations, and of `kept` in the order of their rowids
+-- these are the rows of its old tables that are read at first: of stations, and of `kept` in the order of their rowids
 abbrev pub AreOldRows : Earlier → List Row → List Row → Database → Type 0
 AreOldRows e stations kept db = (stations ≡ old_stations e db) × (kept ≡ kept_rows db)
 
@@ -45,9 +45,9 @@ AreOldRows e stations kept db = (stations ≡ old_stations e db) × (kept ≡ ke
 abbrev pub HasOld : Earlier → Database → Type 0
 HasOld e db = Stands db 1 (stations_layout e)
 
--- .. and `kept` lies there
+-- .. and so does `counts`, and `kept` lies there
 abbrev pub HasOldTables : Earlier → Database → Type 0
-HasOldTables e db = HasOld e db × KeptLies db
+HasOldTables e db = HasOld e db × HasCounts db × KeptLies db
 
 -- it is of this version, and these are the rows of its old tables
 abbrev pub HasOldRows : Earlier → List Row → List Row → Database → Type 0
@@ -58,7 +58,7 @@ WasRead e stations kept db = IsEarlier e db × AreOldRows e stations kept db
 
 -- the names of the tables that go
 abbrev pub old_names : Earlier → List (List ℕ)
-old_names e = kept_name ∷ (if bounds_docks e then stations_name e ∷ [] else [])
+old_names e = kept_name ∷ counts_name ∷ stations_name e ∷ []
 
 -- ---- the tables
 
@@ -66,9 +66,12 @@ old_names e = kept_name ∷ (if bounds_docks e then stations_name e ∷ [] else 
 abbrev pub version_write : RowWrite
 version_write = Set Meta (number_value 1 ∷ []) ((2, number_value NEWEST) ∷ [])
 
--- each of these rows added to the newest table of stations
-abbrev pub station_writes : List Row → List RowWrite
-station_writes = map (λ row. Add Stations (station_row row))
+-- a station added to the newest table, where these are the rows of `counts`
+abbrev pub station_write : List Row → Row → RowWrite
+station_write counts row = Add Stations (completed counts row)
+
+abbrev pub station_writes : List Row → List Row → List RowWrite
+station_writes counts = map (station_write counts)
 
 -- a row of `kept` as one of `history`, with its number and of moment 0
 abbrev pub request_row : ℕ × Row → Row
@@ -78,13 +81,13 @@ request_row e = number_value e.0 ∷ number_value 0 ∷ map (column e.1) (0 ∷ 
 abbrev pub request_writes : List Row → List RowWrite
 request_writes rows = map (λ e. Add History (request_row e)) (with_numbers rows)
 
--- the version, and the stations where the version has an old table of them
-abbrev pub first_writes : Earlier → List Row → List RowWrite
-first_writes e stations = version_write ∷ (if bounds_docks e then station_writes stations else [])
+-- the version and the stations
+abbrev pub first_writes : List Row → List Row → List RowWrite
+first_writes counts stations = version_write ∷ station_writes counts stations
 
 -- all of it
-abbrev pub fill_writes : Earlier → List Row → List Row → List RowWrite
-fill_writes e stations kept = first_writes e stations ++ request_writes kept
+abbrev pub fill_writes : List Row → List Row → List Row → List RowWrite
+fill_writes counts stations kept = first_writes counts stations ++ request_writes kept
 
 -- THE TABLES RAISED: what they are at the version, with that change
 abbrev pub tables_raised : Earlier → Database → Tables
@@ -153,7 +156,18 @@ pub record MakesIndexes (old new : Database) : Type 0 where
   pub spares : Spares [] old new
   pub kept : KeptStays old new
 
--- the table of the history was made, with its index and no rows
+-- the table of further names was made, with its indexes and no rows
+pub record MakesNames (old new : Database) : Type 0 where
+  pub sound : IsDatabase new
+  pub names : Stands new (keys_of MoreNames) (layout_of MoreNames)
+  pub no_names : rows_of (keys_of MoreNames) (name_of MoreNames) new ≡ []
+  pub indexes : HasNameIndexes new.schema
+  pub unnamed : StayUnnamed old new
+  pub stays : AllStay old new
+  pub spares : Spares [] old new
+  pub kept : KeptStays old new
+
+-- .. and that of the history, with its index and no rows
 pub record MakesHistory (old new : Database) : Type 0 where
   pub sound : IsDatabase new
   pub history : Stands new (keys_of History) (layout_of History)
@@ -164,54 +178,41 @@ pub record MakesHistory (old new : Database) : Type 0 where
   pub spares : Spares [] old new
   pub kept : KeptStays old new
 
--- .. and so were the tables that the first two versions lack, beside it
-pub record MakesNewer (old new : Database) : Type 0 where
-  pub sound : IsDatabase new
-  pub stations : Stands new (keys_of Stations) (layout_of Stations)
-  pub no_stations : rows_of (keys_of Stations) (name_of Stations) new ≡ []
-  pub names : Stands new (keys_of MoreNames) (layout_of MoreNames)
-  pub no_names : rows_of (keys_of MoreNames) (name_of MoreNames) new ≡ []
-  pub indexes : HasNameIndexes new.schema
-  pub stays : AllStay old new
-  pub spares : Spares [] old new
-  pub kept : KeptStays old new
-
--- .. the one after the other
+-- the tables that every earlier version lacks, the one after the other
 abbrev pub MakesLater : Database → Database → Type 0
-MakesLater old new = (mid : Database) × MakesHistory old mid × MakesNewer mid new
+MakesLater old new = (mid : Database) × MakesHistory old mid × MakesTable Stations mid new
+
+-- .. and those that the first two versions lack
+abbrev pub MakesMore : Database → Database → Type 0
+MakesMore old new = (mid : Database) × MakesNames old mid × MakesLater mid new
 
 -- the tables without the rows that are added as they are filled
-abbrev pub emptied : Earlier → Tables → Tables
-emptied e t = with_rows History [] (if bounds_docks e then with_rows Stations [] t else t)
+abbrev pub emptied : Tables → Tables
+emptied t = with_rows History [] (with_rows Stations [] t)
 
 -- the newest tables were made, and those are empty that get their rows from the old ones
 pub record MakesTables (e : Earlier) (old new : Database) : Type 0 where
   pub sound : IsDatabase new
   pub has : HasTables new
-  pub tables : tables_of new ≡ emptied e (tables_at e old)
+  pub tables : tables_of new ≡ emptied (tables_at e old)
   pub indexes : HasNewIndexes e new.schema
   pub others : OthersStay old new
   pub spares : Spares [] old new
   pub kept : KeptStays old new
 
--- the tables whose rows change as the version is set, and as the stations are added
+-- the tables whose rows change as the version is set, as the stations are added, and as the requests are
 abbrev pub version_names : List (List ℕ)
 version_names = name_of Meta ∷ []
 
 abbrev pub station_names : List (List ℕ)
 station_names = name_of Meta ∷ name_of Stations ∷ []
 
--- both, where the version has an old table of stations
-abbrev pub first_names : Earlier → List (List ℕ)
-first_names e = if bounds_docks e then station_names else version_names
-
--- the table whose rows change as the requests are added
 abbrev pub request_names : List (List ℕ)
 request_names = name_of History ∷ []
 
--- the tables whose rows change as all are filled
-abbrev pub filled_names : Earlier → List (List ℕ)
-filled_names e = name_of History ∷ first_names e
+-- as all are filled
+abbrev pub filled_names : List (List ℕ)
+filled_names = name_of History ∷ station_names
 
 -- these writes were made, and nothing else, to tables of these names
 pub record WritesOnly (names : List (List ℕ)) (writes : List RowWrite) (old new : Database) : Type 0 where
@@ -219,12 +220,20 @@ pub record WritesOnly (names : List (List ℕ)) (writes : List RowWrite) (old ne
   pub spares : Spares names old new
   pub kept : KeptStays old new
 
+-- .. which rest on the rows of `counts` that were there
+abbrev pub WritesBeside : List (List ℕ) → (List Row → List RowWrite) → Database → Database → Type 0
+WritesBeside names writes old new = WritesOnly names (writes (old_counts old)) old new
+
+-- the newest tables stand, and `counts` beside them
+abbrev pub IsOursBeside : Database → Type 0
+IsOursBeside db = IsOurs db × HasCounts db
+
 -- they are filled
 pub record Fills (e : Earlier) (old new : Database) : Type 0 where
   pub raised : IsRaised e old new
   pub indexes : HasNewIndexes e new.schema
   pub others : OthersStay old new
-  pub spares : Spares (filled_names e) old new
+  pub spares : Spares filled_names old new
   pub kept : KeptLies new
 
 -- ---- at the end
@@ -261,7 +270,7 @@ OthersKept old new =
 
 -- the tables that a raise changes or drops
 abbrev pub changed_names : Earlier → List (List ℕ)
-changed_names e = old_names e ++ filled_names e
+changed_names e = old_names e ++ filled_names
 
 -- THE DATABASE IS RAISED, and nothing else is changed.
 pub record Raises (e : Earlier) (old new : Database) : Type 0 where

@@ -1,5 +1,6 @@
 -- The rows of an old table of stations.
-use Rattle.std.specs.Prelude.{◌≡◌, ℕ, ◌<◌, pos, int_le, Bool, true, false, List, [], ◌∷◌, map, length, take, slice_get}
+use Rattle.std.specs.Prelude.{◌≡◌, ◌==◌, if◌then◌else◌, ℕ, ◌<◌, pos, int_le, Bool, true, false, List, [], ◌∷◌, map}
+use Rattle.std.specs.Prelude.{length, take, slice_get}
 use Rattle.std.specs.Prelude.{Option, Some, None}
 use Rattle.std.specs.List.{range_with_len, list_all, zip}
 use Rattle.sqlite_value.specs.declared.value.Value.{Value}
@@ -16,10 +17,11 @@ use Rattle.bike_book.specs.declared.columns.stations.TheConstants as stations
 use Rattle.bike_schema.specs.Layouts.{layout_of}
 use Rattle.sqlite.specs.Effect.{Database}
 use Rattle.bike_recognition.specs.declared.earlier_versions.earlier.TheConstants.{MOST_DOCKS_BEFORE}
+use Rattle.bike_recognition.specs.EarlierVersions.Earlier.{completed}
 
--- the row as one of today: a column that it hasn't is NULL
-abbrev pub station_row : Row → Row
-station_row row = map (column row) (range_with_len 0 stations.COLUMNS)
+-- what stands in a column of the row with this text
+abbrev pub value_with_text : List ℕ → Row → ℕ → Value
+value_with_text text row at = if at == stations.BY_TYPE then Text text else column row at
 
 -- what a column of the kind may hold
 abbrev pub may_hold : Kind → Value → Bool
@@ -42,10 +44,11 @@ IsStationRow row = has_kinds row (map (λ c. c.kind) (layout_of Stations).column
 abbrev pub IsRequestRow : Row → Type 0
 IsRequestRow row = has_kinds row (Words ∷ Words ∷ Words ∷ Words ∷ []) ≡ true
 
--- These are the rows as they are copied, each under the key that it had.
+-- These are the rows as they are copied beside some rows of `counts`, each under the key that it had.
 pub record AreCopies (rows copies : List Row) : Type 0 where
-  pub are : map station_row rows ≡ copies
-  pub keyed : (row : Row) → Has rows row → take 1 (station_row row) ≡ take 1 row
+  pub counts : List Row
+  pub are : map (completed counts) rows ≡ copies
+  pub keyed : (row : Row) → Has rows row → take 1 (completed counts row) ≡ take 1 row
 
 -- wherever a table of the layout stands, the text asks for all its rows
 abbrev pub AsksRows : Layout → List ℕ → Type 0

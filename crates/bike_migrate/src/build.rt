@@ -3,16 +3,17 @@
 ghost use Rattle.bike_book.specs.Tables.{Regions, Stations, History, MoreNames};
 ghost use Rattle.sqlite_resolve.specs.Compile.{first};
 ghost use Rattle.bike_sql.specs.Drops.{IsDrop};
-ghost use Rattle.bike_recognition.specs.EarlierVersions.Earlier.{newer_names, stations_name, IsAt};
+ghost use Rattle.bike_recognition.specs.EarlierVersions.Earlier.{newest_names, newer_names, stations_name, IsAt};
 ghost use Rattle.bike_recognition.specs.declared.earlier_versions.earlier.Earlier.TheVariants.{Second};
 ghost use Rattle.bike_recognition.specs.Recognition.{TableStands};
 ghost use Rattle.sqlite.specs.Effect.{IsDatabase};
 ghost use Rattle.bike_migrate.specs.Calls.{ChangesInside};
 ghost use Rattle.bike_schema.specs.Indexes.{more_names_by_language, more_names_by_thing, history_by_key};
+ghost use Rattle.bike_recognition.specs.EarlierVersions.Counts.{HasCounts, counts_name};
 ghost use Rattle.bike_recognition.specs.EarlierVersions.Kept.{KeptLies, kept_name};
 ghost use Rattle.bike_migrate.specs.Raised.{IsUnnamed, AreUnnamed, HasOldRows, HasOld, HasOldTables};
-ghost use Rattle.bike_migrate.specs.Raised.{MakesTable, MakesIndex, MakesIndexes, MakesHistory, MakesNewer};
-ghost use Rattle.bike_migrate.specs.Raised.{MakesLater, MakesTables, Fills, DropsTable, DropsOld};
+ghost use Rattle.bike_migrate.specs.Raised.{MakesTable, MakesIndex, MakesIndexes, MakesNames, MakesHistory, MakesLater};
+ghost use Rattle.bike_migrate.specs.Raised.{MakesMore, MakesTables, Fills, DropsTable, DropsOld};
 
 use crate::copy::fill;
 use crate::inside::run;
@@ -20,6 +21,7 @@ use bike_book::table;
 use bike_recognition::Earlier;
 use bike_schema::{StatementFault, indexes};
 use sqlite::{Alter, Connection, Row};
+use std::alloc::Global;
 
 /// Makes the table of regions.
 fn create_regions<S: Alter>(conn: &mut Connection<S>) -> Result<(), StatementFault>
@@ -80,7 +82,7 @@ fn index_by_key<S: Alter>(conn: &mut Connection<S>) -> Result<(), StatementFault
     run(conn, indexes::HISTORY_BY_KEY, &[])
 }
 
-/// Makes what every earlier version lacks.
+/// Makes the table of the history, with its index.
 fn make_history<S: Alter>(conn: &mut Connection<S>) -> Result<(), StatementFault>
     ensures { ChangesInside S.Store (IsUnnamed History) conn.old conn.new result MakesHistory }
 {
@@ -88,22 +90,28 @@ fn make_history<S: Alter>(conn: &mut Connection<S>) -> Result<(), StatementFault
     index_by_key(conn)
 }
 
-/// Makes what the first two versions lack beside that.
-fn make_newer<S: Alter>(conn: &mut Connection<S>) -> Result<(), StatementFault>
-    ensures { ChangesInside S.Store (λ db. IsUnnamed Stations db × IsUnnamed MoreNames db) conn.old conn.new result
-        MakesNewer }
+/// Makes the table of further names, with its indexes.
+fn make_names<S: Alter>(conn: &mut Connection<S>) -> Result<(), StatementFault>
+    ensures { ChangesInside S.Store (IsUnnamed MoreNames) conn.old conn.new result MakesNames }
 {
-    create_stations(conn)?;
     create_names(conn)?;
     create_indexes(conn)
 }
 
-/// Makes what the first two versions lack.
+/// Makes what every earlier version lacks.
 fn make_later<S: Alter>(conn: &mut Connection<S>) -> Result<(), StatementFault>
-    ensures { ChangesInside S.Store (AreUnnamed (newer_names Second)) conn.old conn.new result MakesLater }
+    ensures { ChangesInside S.Store (AreUnnamed newest_names) conn.old conn.new result MakesLater }
 {
     make_history(conn)?;
-    make_newer(conn)
+    create_stations(conn)
+}
+
+/// Makes what the first two versions lack.
+fn make_more<S: Alter>(conn: &mut Connection<S>) -> Result<(), StatementFault>
+    ensures { ChangesInside S.Store (AreUnnamed (newer_names Second)) conn.old conn.new result MakesMore }
+{
+    make_names(conn)?;
+    make_later(conn)
 }
 
 /// Makes the tables that the version lacks.
@@ -113,15 +121,16 @@ fn make_tables<S: Alter>(conn: &mut Connection<S>, earlier: Earlier) -> Result<(
     match earlier {
         Earlier::First => {
             create_regions(conn)?;
-            make_later(conn)
+            make_more(conn)
         }
-        Earlier::Second => make_later(conn),
-        Earlier::Third => make_history(conn),
+        Earlier::Second => make_more(conn),
+        Earlier::Third => make_later(conn),
     }
 }
 
 /// Makes the newest tables and fills them: these are the rows of the old tables, which stay.
 pub(crate) fn build<S: Alter>(
+    alloc: Global,
     conn: &mut Connection<S>,
     earlier: Earlier,
     stations: &[Row],
@@ -131,7 +140,7 @@ pub(crate) fn build<S: Alter>(
         (Fills earlier) }
 {
     make_tables(conn, earlier)?;
-    fill(conn, earlier, stations, kept)
+    fill(alloc, conn, stations, kept)
 }
 
 /// The statement that drops its table of stations.
@@ -153,6 +162,14 @@ fn drop_stations<S: Alter>(conn: &mut Connection<S>, earlier: Earlier) -> Result
     run(conn, drop_text(earlier), &[])
 }
 
+/// Drops `counts`.
+fn drop_counts<S: Alter>(conn: &mut Connection<S>) -> Result<(), StatementFault>
+    ensures { ChangesInside S.Store (λ db. IsDatabase db × HasCounts db) conn.old conn.new result
+        (DropsTable counts_name) }
+{
+    run(conn, "DROP TABLE counts", &[])
+}
+
 /// Drops `kept`.
 fn drop_kept<S: Alter>(conn: &mut Connection<S>) -> Result<(), StatementFault>
     ensures { ChangesInside S.Store (λ db. IsDatabase db × KeptLies db) conn.old conn.new result
@@ -161,7 +178,7 @@ fn drop_kept<S: Alter>(conn: &mut Connection<S>) -> Result<(), StatementFault>
     run(conn, "DROP TABLE kept", &[])
 }
 
-/// Drops the old tables: `kept`, and that of stations where it isn't the newest.
+/// Drops the old tables.
 pub(crate) fn drop_old<S: Alter>(
     conn: &mut Connection<S>,
     earlier: Earlier,
@@ -170,9 +187,6 @@ pub(crate) fn drop_old<S: Alter>(
         (DropsOld earlier) }
 {
     drop_kept(conn)?;
-    if earlier.bounds_docks() {
-        drop_stations(conn, earlier)
-    } else {
-        Ok(())
-    }
+    drop_counts(conn)?;
+    drop_stations(conn, earlier)
 }

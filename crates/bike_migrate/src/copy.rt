@@ -1,27 +1,31 @@
 //! The rows of the old tables, copied into the newest ones.
 
 ghost use Rattle.std.specs.Prelude.{◌≡◌, ◌+◌, [], ◌∷◌, IsTrue, IfOk};
-ghost use Rattle.bike_book.specs.Tables.{History};
+ghost use Rattle.sqlite_value.specs.Value.{owned};
+ghost use Rattle.bike_book.specs.Tables.{Stations, History};
 ghost use Rattle.bike_book.specs.Writes.{Add};
+ghost use Rattle.bike_recognition.specs.EarlierVersions.Earlier.{with_text};
 ghost use Rattle.bike_schema.specs.Tables.{IsOurs};
 ghost use Rattle.bike_migrate.specs.Calls.{ChangesInside};
 ghost use Rattle.bike_migrate.specs.Raised.{version_write, station_writes, request_row, request_writes, first_writes};
-ghost use Rattle.bike_migrate.specs.Raised.{fill_writes, version_names, station_names, first_names, request_names};
-ghost use Rattle.bike_migrate.specs.Raised.{filled_names, WritesOnly};
-ghost use Rattle.bike_migrate.specs.Stations.{IsStationRow, IsRequestRow};
+ghost use Rattle.bike_migrate.specs.Raised.{fill_writes, version_names, station_names, request_names, filled_names};
+ghost use Rattle.bike_migrate.specs.Raised.{WritesOnly, WritesBeside, IsOursBeside};
+ghost use Rattle.bike_migrate.specs.Stations.{IsStationRow, IsRequestRow, value_with_text};
 
+use crate::counts::{old_text, read_counts};
 use crate::inside::run;
 use crate::stations::{has_kinds, value_at};
 use bike_book::columns::stations;
 use bike_book::{NEWEST, RequestCount, table};
-use bike_recognition::{Earlier, check_open};
+use bike_recognition::check_open;
 use bike_schema::StatementFault;
 use sqlite::types::ValueRef;
 use sqlite::{Alter, Connection, Row, params};
 use sqlite_schema::schema::Kind;
+use std::alloc::Global;
 use std::array;
 
-/// The kinds of a station's columns.
+/// The kinds of a station's columns. An old row has none in the last, which counts as NULL.
 const KINDS: [Kind; stations::COLUMNS] = table!(kinds stations);
 
 /// The kinds of the columns of `kept`.
@@ -46,55 +50,69 @@ fn is_station(row: &Row) -> bool
     has_kinds(row, &KINDS)
 }
 
-/// Adds a station.
-fn put_station<S: Alter>(conn: &mut Connection<S>, row: &Row) -> Result<(), StatementFault>
+/// What the station's new row has in a column.
+fn station_value<'a>(row: &'a Row, by_type: &'a str, at: usize) -> ValueRef<'a>
+    ensures { owned result ≡ value_with_text by_type.now row.now at }
+{
+    if at == stations::BY_TYPE {
+        ValueRef::Text(by_type.as_bytes())
+    } else {
+        value_at(row, at)
+    }
+}
+
+/// Adds a station with the text of its bicycles by type.
+fn put_station<S: Alter>(
+    conn: &mut Connection<S>,
+    row: &Row,
+    by_type: &str,
+) -> Result<(), StatementFault>
     requires { IsStationRow row.now }
     ensures { ChangesInside S.Store IsOurs conn.old conn.new result
-        (WritesOnly station_names (station_writes (row.now ∷ []))) }
+        (WritesOnly station_names (Add Stations (with_text by_type.now row.now) ∷ [])) }
 {
-    let values: [ValueRef<'_>; stations::COLUMNS] = array::from_fn(|at| value_at(row, at));
+    let values: [ValueRef<'_>; stations::COLUMNS] = array::from_fn(|at| station_value(
+        row, by_type, at,
+    ));
     run(conn, table!(insert stations), &values)
 }
 
-/// Adds a station as the old table has it. A sound database stores in a column only what suits it: anything else is
+/// Adds a station as the old tables have it. A sound database stores in a column only what suits it: anything else is
 /// `StoreFailed`.
-fn copy_station<S: Alter>(conn: &mut Connection<S>, row: &Row) -> Result<(), StatementFault>
-    ensures { ChangesInside S.Store IsOurs conn.old conn.new result
-        (WritesOnly station_names (station_writes (row.now ∷ []))) }
+fn copy_station<S: Alter>(
+    alloc: Global,
+    conn: &mut Connection<S>,
+    row: &Row,
+) -> Result<(), StatementFault>
+    ensures { ChangesInside S.Store IsOursBeside conn.old conn.new result
+        (WritesBeside station_names (λ counts. station_writes counts (row.now ∷ []))) }
 {
+    let ValueRef::Text(station) = value_at(row, 0) else {
+        return Err(StatementFault::StoreFailed);
+    };
+    let counts = read_counts(conn, station)?;
+    let by_type = old_text(alloc, counts.as_slice())?;
     if is_station(row) {
-        put_station(conn, row)
+        put_station(conn, row, by_type.as_str())
     } else {
         Err(StatementFault::StoreFailed)
     }
 }
 
 /// Sets the version in the row of `meta`, and adds these stations.
-fn fill_stations<S: Alter>(conn: &mut Connection<S>, rows: &[Row]) -> Result<(), StatementFault>
-    ensures { ChangesInside S.Store IsOurs conn.old conn.new result
-        (WritesOnly station_names (version_write ∷ station_writes rows.now)) }
+fn fill_stations<S: Alter>(
+    alloc: Global,
+    conn: &mut Connection<S>,
+    rows: &[Row],
+) -> Result<(), StatementFault>
+    ensures { ChangesInside S.Store IsOursBeside conn.old conn.new result
+        (WritesBeside station_names (λ counts. first_writes counts rows.now)) }
 {
     set_version(conn)?;
     for row in rows {
-        copy_station(conn, row)?;
+        copy_station(alloc, conn, row)?;
     }
     Ok(())
-}
-
-/// Sets the version in the row of `meta`, and adds the stations where the version has an old table of them.
-fn fill_first<S: Alter>(
-    conn: &mut Connection<S>,
-    earlier: Earlier,
-    stations: &[Row],
-) -> Result<(), StatementFault>
-    ensures { ChangesInside S.Store IsOurs conn.old conn.new result
-        (WritesOnly (first_names earlier) (first_writes earlier stations.now)) }
-{
-    if earlier.bounds_docks() {
-        fill_stations(conn, stations)
-    } else {
-        set_version(conn)
-    }
 }
 
 /// Whether each column holds what it may hold in the table of the history.
@@ -172,14 +190,14 @@ fn fill_requests<S: Alter>(conn: &mut Connection<S>, rows: &[Row]) -> Result<(),
 
 /// Sets the version, and adds the rows of the old tables.
 pub(crate) fn fill<S: Alter>(
+    alloc: Global,
     conn: &mut Connection<S>,
-    earlier: Earlier,
     stations: &[Row],
     kept: &[Row],
 ) -> Result<(), StatementFault>
-    ensures { ChangesInside S.Store IsOurs conn.old conn.new result
-        (WritesOnly (filled_names earlier) (fill_writes earlier stations.now kept.now)) }
+    ensures { ChangesInside S.Store IsOursBeside conn.old conn.new result
+        (WritesBeside filled_names (λ counts. fill_writes counts stations.now kept.now)) }
 {
-    fill_first(conn, earlier, stations)?;
+    fill_stations(alloc, conn, stations)?;
     fill_requests(conn, kept)
 }

@@ -1,6 +1,6 @@
 //! The verdict on the tables of an earlier version, once they are raised.
 
-ghost use Rattle.std.specs.Prelude.{◌≡◌, take, option_map, IsTrue};
+ghost use Rattle.std.specs.Prelude.{◌≡◌, take, option_map};
 ghost use Rattle.bike_audit.specs.Audit.{row_name};
 ghost use Rattle.bike_sql.specs.Calls.{ReadsWhere};
 ghost use Rattle.bike_schema.specs.Tables.{IsOurs, tables_of};
@@ -8,7 +8,6 @@ ghost use Rattle.bike_recognition.specs.Names.{table_named};
 ghost use Rattle.bike_migrate.specs.Stations.{AreCopies};
 ghost use Rattle.bike_judges.specs.Judging.{key_row};
 ghost use Rattle.bike_book.specs.Tables.{Stations};
-ghost use Rattle.bike_recognition.specs.EarlierVersions.Earlier.{bounds_docks};
 ghost use Rattle.bike_migrate.specs.Verdicts.{IsVerdictBefore, IsVerdictAt, first_of, lesser_of, against_stations};
 
 use crate::stations::first_over;
@@ -40,7 +39,6 @@ fn against_stations(table: TableName) -> Ordering
         | TableName::Orders
         | TableName::Entries
         | TableName::History
-        | TableName::Counts
         | TableName::MoreNames => Ordering::Greater,
     }
 }
@@ -109,7 +107,7 @@ pub(crate) fn judge<S: Alter, P: Watch>(
     watch: &mut P,
 ) -> Result<Option<BadRow>, StatementFault>
     ensures { ReadsWhere S.Store IsOurs conn.old conn.new result
-        (λ db bad. (IsTrue (bounds_docks earlier) → AreCopies rows.now (tables_of db).stations)
+        (λ db bad. AreCopies rows.now (tables_of db).stations
         → IsVerdictAt earlier (tables_of db) (option_map row_name bad)) }
 {
     if earlier.bounds_docks() {

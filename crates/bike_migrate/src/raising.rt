@@ -34,7 +34,7 @@ fn raise_inside<S: Alter, P: Watch>(
     ensures { DoesInside S.Store (WasRead earlier stations.now kept.now) conn.old conn.new result
         (λ old new bad. IsJudged earlier old new (option_map row_name bad)) }
 {
-    build(conn, earlier, stations, kept)?;
+    build(alloc, conn, earlier, stations, kept)?;
     match judge(alloc, conn, earlier, stations, watch)? {
         Some(bad) => Ok(Some(bad)),
         None => {
@@ -53,7 +53,7 @@ fn attempt<S: Alter, P: Watch>(
 ) -> Result<Option<BadRow>, StatementFault>
     ensures { Attempts S.Store earlier conn.old conn.new result }
 {
-    let rows = read_old(alloc, conn, earlier)?;
+    let rows = read_old(conn, earlier)?;
     begin(conn)?;
     raise_inside(
         alloc,

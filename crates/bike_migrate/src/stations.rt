@@ -1,22 +1,20 @@
-//! The rows of the old tables.
+//! The rows of the old tables of stations and of requests.
 
 ghost use Rattle.std.specs.Prelude.{◌≡◌, IfOk};
 ghost use Rattle.sqlite_value.specs.Order.{column};
 ghost use Rattle.sqlite_value.specs.Value.{owned};
 ghost use Rattle.bike_sql.specs.Calls.{ReadsWhere};
-ghost use Rattle.bike_sql.specs.Stands.{rows_of};
-ghost use Rattle.bike_recognition.specs.EarlierVersions.Earlier.{stations_name, stations_layout};
+ghost use Rattle.bike_recognition.specs.EarlierVersions.Earlier.{stations_layout};
 ghost use Rattle.bike_recognition.specs.EarlierVersions.Kept.{KeptLies, kept_rows};
 ghost use Rattle.bike_migrate.specs.Raised.{old_stations, AreOldRows, HasOld, HasOldTables};
 ghost use Rattle.bike_migrate.specs.Stations.{AsksRows, may_hold, has_kinds, has_few, IsOver};
 
 use bike_book::columns::stations;
-use bike_recognition::{Earlier, MOST_DOCKS_BEFORE, check_open};
+use bike_recognition::{Earlier, MOST_DOCKS_BEFORE};
 use bike_schema::StatementFault;
 use sqlite::types::ValueRef;
 use sqlite::{Alter, Connection, Row};
 use sqlite_schema::schema::Kind;
-use std::alloc::Global;
 
 /// The query that answers all rows of its table of stations, in the order of their keys.
 fn stations_query(earlier: Earlier) -> &'static str
@@ -30,32 +28,15 @@ fn stations_query(earlier: Earlier) -> &'static str
 }
 
 /// All rows of its table of stations, in the order of their keys. The database stays as it is.
-fn read_table<S: Alter>(
-    conn: &mut Connection<S>,
-    earlier: Earlier,
-) -> Result<Vec<Row>, StatementFault>
-    ensures { ReadsWhere S.Store (HasOld earlier) conn.old conn.new result
-        (λ db rows. rows.items ≡ rows_of 1 (stations_name earlier) db) }
-{
-    let rows = conn.query_all(stations_query(earlier), &[])?;
-    Ok(rows)
-}
-
-/// All rows of its old table of stations, in the order of their keys; none where that table is the newest. The database
-/// stays as it is.
 fn read_stations<S: Alter>(
-    alloc: Global,
     conn: &mut Connection<S>,
     earlier: Earlier,
 ) -> Result<Vec<Row>, StatementFault>
     ensures { ReadsWhere S.Store (HasOld earlier) conn.old conn.new result
         (λ db rows. rows.items ≡ old_stations earlier db) }
 {
-    if earlier.bounds_docks() {
-        return read_table(conn, earlier);
-    }
-    check_open(conn)?;
-    Ok(Vec::new(alloc))
+    let rows = conn.query_all(stations_query(earlier), &[])?;
+    Ok(rows)
 }
 
 /// All rows of `kept`, in the order of their rowids. The database stays as it is.
@@ -66,25 +47,24 @@ fn read_kept<S: Alter>(conn: &mut Connection<S>) -> Result<Vec<Row>, StatementFa
     Ok(rows)
 }
 
-/// The rows of the old tables.
+/// The rows of the old tables of stations and of requests.
 #[derive(Drop)]
 pub(crate) struct OldRows {
-    /// Those of stations, in the order of their keys; none where their table is the newest.
+    /// Those of stations, in the order of their keys.
     pub(crate) stations: Vec<Row>,
     /// Those of `kept`, in the order of their rowids.
     pub(crate) kept: Vec<Row>,
 }
 
-/// All rows of the old tables. The database stays as it is.
+/// All rows of the old tables of stations and of requests. The database stays as it is.
 pub(crate) fn read_old<S: Alter>(
-    alloc: Global,
     conn: &mut Connection<S>,
     earlier: Earlier,
 ) -> Result<OldRows, StatementFault>
     ensures { ReadsWhere S.Store (HasOldTables earlier) conn.old conn.new result
         (λ db rows. AreOldRows earlier rows.stations.items rows.kept.items db) }
 {
-    let stations = read_stations(alloc, conn, earlier)?;
+    let stations = read_stations(conn, earlier)?;
     let kept = read_kept(conn)?;
     Ok(OldRows { stations, kept })
 }

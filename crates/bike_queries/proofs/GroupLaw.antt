@@ -1,5 +1,5 @@
 -- Stations that are read one after another, each with its own rows: what was taken of the others so far, and what is left.
-use Rattle.std.proofs.Common.{◌≡◌, ◌<◌, inl, inr, ℕ, suc, List, [], ◌∷◌, ◌++◌, length, map, bytes_eq, filter, Bool, true, false, cond, refl, sym, ap, ap₂, subst, ◌∙◌, append_assoc, append-nil, arith}
+use Rattle.std.proofs.Common.{◌≡◌, ◌<◌, inl, inr, ℕ, suc, List, [], ◌∷◌, ◌++◌, length, bytes_eq, filter, Bool, true, false, cond, refl, sym, ap, ap₂, subst, ◌∙◌, append_assoc, append-nil, arith}
 use Rattle.std.proofs.lemmas.List.Elements.{filter-append}
 use Rattle.std.specs.List.{AllZip, All}
 use Rattle.std.proofs.lemmas.Slice.Eq.{bytes_eq-Decides}
@@ -31,7 +31,7 @@ all_pass p [] passes = refl
 all_pass p (x ∷ xs) passes =
     ap (λ (b : Bool). cond b (x ∷ filter p xs) (filter p xs)) (passes x (inl refl)) ∙ ap (λ (ys : List _). x ∷ ys) (all_pass p xs (λ y has. passes y (inr has)))
 
-zipped : {X Y : Type 0} {R S : X → Y → Type 0} (xs : List X) (ys : List Y) → ((x : X) (y : Y) → Has xs x → R x y → S x y) → AllZip R xs ys → AllZip S xs ys
+pub zipped : {X Y : Type 0} {R S : X → Y → Type 0} (xs : List X) (ys : List Y) → ((x : X) (y : Y) → Has xs x → R x y → S x y) → AllZip R xs ys → AllZip S xs ys
 zipped [] [] then all = tt
 zipped [] (y ∷ ys) then all = absurd all
 zipped (x ∷ xs) [] then all = absurd all
@@ -101,8 +101,8 @@ module _ {O X : Type 0} (id : O → List ℕ) (reads : O → List Row → X → 
       let all : rows ≡ so.taken = so.split ∙ ap (λ (xs : List Row). so.taken ++ xs) none ∙ append-nil so.taken in
       subst (λ (xs : List Row). AreReadWith xs owners items) (sym all) so.done
 
--- what holds of all rows by their places
-pub of_mapped : {X : Type 0} (row_of : X → Row) (P : Row → Type 0) (xs : List X) → All (λ x. P (row_of x)) xs → (r : Row) → Has (map row_of xs) r → P r
-of_mapped row_of P [] all r has = absurd has
-of_mapped row_of P (x ∷ xs) all r (inl same) = subst P (sym same) (all 0 x (let some : 0 < suc (length xs) = omega arith in some))
-of_mapped row_of P (x ∷ xs) all r (inr has) = of_mapped row_of P xs (λ k d below. all (suc k) d (let next : suc k < suc (length xs) = omega (arith, below) in next)) r has
+-- what holds of all by their places
+pub of_all : {X : Type 0} (P : X → Type 0) (xs : List X) → All P xs → (x : X) → Has xs x → P x
+of_all P [] all x has = absurd has
+of_all P (y ∷ xs) all x (inl same) = subst P (sym same) (all 0 y (let some : 0 < suc (length xs) = omega arith in some))
+of_all P (y ∷ xs) all x (inr has) = of_all P xs (λ k d below. all (suc k) d (let next : suc k < suc (length xs) = omega (arith, below) in next)) x has

@@ -2,9 +2,9 @@ mod SumLaw
 mod TextLemmas
 mod InfoLemmas
 mod TypeLemmas
+mod TypeOrder
 pub mod CountLemmas
 mod StatusLemmas
-mod CountRows
 mod AfterLaw
 mod LeastLaw
 mod LanguageLemmas

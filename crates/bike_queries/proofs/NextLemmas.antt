@@ -103,7 +103,7 @@ pub station_read : (x : StationRow) (row : Row) (y : Station) → ident_in (colu
     → ((z : ℤ) → column row 2 ≡ Int z → x.lat ≡ z) → ((z : ℤ) → column row 3 ≡ Int z → x.lon ≡ z)
     → Told x.docks (number_in 1 MOST_DOCKS (column row 4)) → HoldsStation row y → x ≡ y.row
 station_read x row y id name lat lon docks holds =
-    let at : (k : ℕ) → column row k ≡ column (station_row y.row.station_id y holds.free holds.broken) k = λ k. ap (λ r. column r k) holds.is in
+    let at : (k : ℕ) → column row k ≡ column (station_row y.row.station_id y holds.free holds.broken holds.by_type) k = λ k. ap (λ r. column r k) holds.is in
     let id_is = ident_read id (at 0) in
     let name_is = name_read name (at 1) in
     let lat_is = lat y.row.lat (at 2) in
@@ -115,7 +115,7 @@ pub info_read : (x : StationInfo) (row : Row) (y : Station) → x.station ≡ y.
     → Told x.is_renting (flag_in (column row 6)) → Told x.is_returning (flag_in (column row 7))
     → Told x.reported (moment_in (column row 8)) → or_none ident_in (column row 11) ≡ Some x.region → HoldsStation row y → station_of x ≡ y
 info_read x row y station installed renting returning reported region holds =
-    let at : (k : ℕ) → column row k ≡ column (station_row y.row.station_id y holds.free holds.broken) k = λ k. ap (λ r. column r k) holds.is in
+    let at : (k : ℕ) → column row k ≡ column (station_row y.row.station_id y holds.free holds.broken holds.by_type) k = λ k. ap (λ r. column r k) holds.is in
     let installed_is = flag_read y.is_installed installed (at 5) in
     let renting_is = flag_read y.is_renting renting (at 6) in
     let returning_is = flag_read y.is_returning returning (at 7) in

@@ -1,15 +1,13 @@
--- The rows of a page: those that are a station's own among the rows of its counts or of its names.
-use Rattle.std.proofs.Common.{◌≡◌, ℕ, List, [], ◌∷◌, map, filter, Bool, ◌&&◌, true, false, not, cond, refl, sym, ap, ap₂, ◌∙◌}
+-- The rows of a page's names: those that are a station's own.
+use Rattle.std.proofs.Common.{◌≡◌, ℕ, List, [], ◌∷◌, map, filter, Bool, ◌&&◌, true, false, not, cond, refl, ap, ap₂, ◌∙◌}
 use Rattle.std.specs.Ordering.{is_eq, is_le, is_lt}
 use Rattle.std.specs.Str.{bytes_eq}
 use Rattle.std.proofs.lemmas.Slice.Eq.{bytes_eq-Decides}
 use Rattle.std.proofs.lemmas.Map.Text.{is_eq-slice_cmp}
 use Rattle.std.specs.declared.cmp.Ordering.{Ordering}
 use Rattle.sqlite_value.specs.declared.value.Value.TheVariants.{Text}
-use Rattle.sqlite_value.specs.Order.{Row, column, value_cmp, row_cmp}
+use Rattle.sqlite_value.specs.Order.{Row, column, value_cmp}
 use Rattle.sqlite_value.proofs.OrderLemmas.{value_cmp-Text}
-use Rattle.bike_sql.proofs.PageLaw.{filter_filter}
-use Rattle.bike_sql.proofs.TestLemmas.{then_eq}
 use Rattle.bike_fields.specs.declared.name_kind.NameKind.TheVariants as named
 use Rattle.bike_fields.specs.NameKinds.{kind_text}
 use Rattle.bike_operator.specs.Names.{part_at, is_name_of}
@@ -38,27 +36,6 @@ module _ (start last id : List ℕ) (low : not (is_lt (text_cmp id start)) ≡ t
     go : (b : Bool) → bytes_eq t id ≡ b → (is_within (Text start) (Text last) (Text t) && b) ≡ b
     go true same = and_true _ ∙ ap (λ (u : List ℕ). is_within (Text start) (Text last) (Text u)) ((bytes_eq-Decides t id).0 same) ∙ inside
     go false other = and_false _
-
-  -- ---- rows that begin with texts
-
-  module _ {A : Type 0} (row : A → Row) (key : A → List ℕ) (begins : (a : A) → column (row a) 0 ≡ Text (key a)) where
-    key_is : (a : A) → is_eq (row_cmp (map (column (row a)) (0 ∷ [])) (Text id ∷ [])) ≡ bytes_eq (key a) id
-    key_is a = rw (begins a) (then_eq (value_cmp (Text (key a)) (Text id)) _ ∙ and_true _ ∙ ap is_eq (value_cmp-Text (key a) id) ∙ is_eq-slice_cmp (key a) id)
-
-    own_is : (a : A) → (is_within (Text start) (Text last) (column (row a) 0) && is_same_text (Text id) (column (row a) 0)) ≡ is_eq (row_cmp (map (column (row a)) (0 ∷ [])) (Text id ∷ []))
-    own_is a = rw (begins a) (own_text (key a)) ∙ sym (key_is a)
-
-    pub own_among : (xs : List A) → filter (λ r. is_same_text (Text id) (column r 0)) (filter (λ r. is_within (Text start) (Text last) (column r 0)) (map row xs))
-        ≡ filter (λ r. is_eq (row_cmp (map (column r) (0 ∷ [])) (Text id ∷ []))) (map row xs)
-    own_among xs =
-        sym (filter_filter (λ r. is_same_text (Text id) (column r 0)) (λ r. is_within (Text start) (Text last) (column r 0)) (map row xs))
-        ∙ same_of xs
-      where
-        same_of : (xs : List A) → filter (λ r. is_within (Text start) (Text last) (column r 0) && is_same_text (Text id) (column r 0)) (map row xs)
-            ≡ filter (λ r. is_eq (row_cmp (map (column r) (0 ∷ [])) (Text id ∷ []))) (map row xs)
-        same_of [] = refl
-        same_of (x ∷ xs) =
-            ap₂ (λ (b : Bool) (rest : List Row). cond b (row x ∷ rest) rest) (own_is x) (same_of xs)
 
   -- ---- further names
 

@@ -1,4 +1,4 @@
--- The statements of a page: its stations, and the counts of those.
+-- The statement of a page of stations.
 use Rattle.std.proofs.Common.{ℕ, List, [], ◌∷◌, codes, filter, take, pos, refl, ap, subst, ◌∙◌}
 use Rattle.sqlite_value.specs.declared.value.Value.TheVariants.{Int, Text}
 use Rattle.sqlite_value.specs.Order.{column}
@@ -7,16 +7,15 @@ use Rattle.sqlite_tied.specs.Compute.{everything}
 use Rattle.bike_sql.specs.Answer.{HasOneAnswer}
 use Rattle.bike_sql.proofs.PageLaw.{map_same_list}
 use Rattle.bike_sql.proofs.SelectLaws.{every_column, rows_passing}
-use Rattle.bike_book.specs.Tables.{Stations, Counts}
+use Rattle.bike_book.specs.Tables.{Stations}
 use Rattle.bike_schema.specs.Layouts.{layout_of}
 use Rattle.bike_schema.proofs.KeyLemmas.{table_key}
-use Rattle.bike_schema.specs.Within.{rows_within}
 use Rattle.bike_schema.proofs.ListedLemmas.{ListsIn}
-use Rattle.bike_schema.proofs.WithinLaw.{and_true, from_test, shows_every, lists_within}
+use Rattle.bike_schema.proofs.WithinLaw.{and_true, from_test, shows_every}
 use Rattle.bike_queries.proofs.AfterLaw.{from_tests}
 use Rattle.bike_queries.specs.After.{begins_from}
 
-pub lists_stations_from : (start : List ℕ) → ListsIn (codes "SELECT * FROM stations_3 WHERE station_id >= ?1 ORDER BY station_id LIMIT 64") (Text start ∷ [])
+pub lists_stations_from : (start : List ℕ) → ListsIn (codes "SELECT * FROM stations_4 WHERE station_id >= ?1 ORDER BY station_id LIMIT 64") (Text start ∷ [])
     (λ t. take 64 (filter (begins_from start) t.stations))
 unfolding everything
 lists_stations_from start = record {
@@ -25,8 +24,3 @@ lists_stations_from start = record {
       (begins_from start) (λ tree. refl, refl)
       (λ r. and_true _ ∙ from_test (column r 1) (Text start) refl));
 }
-
-pub lists_counts_within : (first last : List ℕ)
-    → ListsIn (codes "SELECT * FROM counts WHERE station_id >= ?1 AND station_id <= ?2 ORDER BY station_id, type_id") (Text first ∷ Text last ∷ []) (λ t. rows_within (Text first) (Text last) t.counts)
-unfolding everything
-lists_counts_within first last = lists_within Counts 1 (Text first) (Text last) refl refl (λ r. refl) (λ tree. refl, refl)

@@ -47,11 +47,12 @@ station_of x = record {
   region = x.region;
 }
 
--- the row is that of the station, whatever its docks' numbers
+-- the row is that of the station, whatever its docks' numbers and its bicycles by type
 pub record HoldsStation (row : Row) (x : Station) : Type 0 where
   pub free : ℤ
   pub broken : ℕ
-  pub is : row ≡ station_row x.row.station_id x free broken
+  pub by_type : List ℕ
+  pub is : row ≡ station_row x.row.station_id x free broken by_type
 
 -- ---- languages
 

@@ -1,4 +1,4 @@
--- A page of stations: the first ones of those that come next, each with the rows of other tables that are its own.
+-- A page of stations: the first ones of those that come next, each with its counts or with its further names.
 use Rattle.std.specs.Prelude.{◌≡◌, ◌++◌, ℕ, List, [], ◌∷◌, Bool, false, take, filter, Option, Some, None, if◌then◌else◌}
 use Rattle.std.specs.List.{AllZip}
 use Rattle.std.specs.Ordering.{is_lt}
@@ -12,17 +12,17 @@ use Rattle.bike_catalogue.specs.Rows.{MoreNameRow}
 use Rattle.bike_fields.specs.declared.name_kind.NameKind.TheVariants as named
 use Rattle.bike_operator.specs.Names.{further_names}
 use Rattle.bike_operator.specs.Operator.{Operator, Station, text_cmp}
-use Rattle.bike_fleet_reads.specs.Fleet.{dock_numbers_of}
-use Rattle.bike_fleet_reads.specs.Holds.{HoldsDockNumbers}
+use Rattle.bike_book.specs.Stored.{stored_station}
+use Rattle.bike_fleet_reads.specs.Holds.{HoldsNumbers}
 use Rattle.bike_office_reads.specs.ReadRows.{IsOwnedName}
 use Rattle.bike_feed_texts.specs.Trees.{further_languages}
 use Rattle.bike_queries.specs.declared.pages.TheConstants.{STATIONS_A_PAGE}
 use Rattle.bike_operator.specs.declared.station_info.StationInfo.{StationInfo}
-use Rattle.bike_queries.specs.declared.stations.PageStation.{PageStation}
 use Rattle.bike_queries.specs.declared.stations.NamedStation.{NamedStation}
+use Rattle.bike_queries.specs.declared.status.CountedStation.{CountedStation}
 use Rattle.bike_queries.specs.declared.status.StationStatus.{StationStatus}
 use Rattle.bike_queries.specs.After.{HoldsStation, station_of}
-use Rattle.bike_queries.specs.StationCounts.{AreCountRows, AreCountsOfTypes}
+use Rattle.bike_queries.specs.StationCounts.{AreCountsOfTypes, AreCountsTold, AreRising}
 
 -- ---- what comes next
 
@@ -64,26 +64,30 @@ IsTold translated s = translated ≡ false → further_languages s ≡ []
 -- ---- the stations of a page
 
 -- its identifier
-abbrev pub id_of : PageStation → List ℕ
+abbrev pub id_of : NamedStation → List ℕ
 id_of x = x.info.station.station_id
 
--- the station and the numbers of its docks that stand in the row
-abbrev pub ReadsStation : Row → PageStation → Type 0
-ReadsStation row x = ((y : Station) → HoldsStation row y → station_of x.info ≡ y) × HoldsDockNumbers row x.docks
+-- the station that stands in the row
+abbrev pub ReadsInfo : Row → StationInfo → Type 0
+ReadsInfo row x = (y : Station) → HoldsStation row y → station_of x ≡ y
 
--- the station of an entry, with the numbers of its docks
-abbrev pub IsPageStation : Operator → List ℕ × Station → PageStation → Type 0
-IsPageStation s e x = IsStationOf e x.info × (x.docks ≡ dock_numbers_of s e.0 e.1)
+-- with no further name as yet
+abbrev pub ReadsUnnamed : Row → NamedStation → Type 0
+ReadsUnnamed row x = ReadsInfo row x.info × (x.names.items ≡ [])
 
--- these are those of the page after this identifier
-abbrev pub ArePage : Operator → Option (List ℕ) → List PageStation → Type 0
-ArePage s after = AllZip (IsPageStation s) (page_after after s.stations)
+-- with the numbers of its docks and its bicycles by type
+abbrev pub ReadsCounted : Row → CountedStation → Type 0
+ReadsCounted row x = ReadsInfo row x.info × HoldsNumbers row x.numbers
+
+-- these were read of the rows of the page after this identifier
+abbrev pub ArePage : {X : Type 0} → (Row → X → Type 0) → Operator → Option (List ℕ) → List X → Type 0
+ArePage reads s after = AllZip (λ e x. reads (stored_station s e) x) (page_after after s.stations)
 
 -- the identifier of the last, if there is one
-abbrev pub EndsWith : List PageStation → Option (List ℕ) → Type 0
+abbrev pub EndsWith : List NamedStation → Option (List ℕ) → Type 0
 EndsWith xs None = xs ≡ []
 EndsWith xs (Some id) =
-    (front : List PageStation) × (last : PageStation) × (xs ≡ front ++ last ∷ []) × (id_of last ≡ id)
+    (front : List NamedStation) × (last : NamedStation) × (xs ≡ front ++ last ∷ []) × (id_of last ≡ id)
 
 -- ---- their own rows
 
@@ -105,15 +109,15 @@ AreApart id [] = Unit {0}
 AreApart id (x ∷ xs) =
     ((y : _) → Has xs y → (bytes_eq (id x) (id y) ≡ false) × (bytes_eq (id y) (id x) ≡ false)) × AreApart id xs
 
--- ---- what is read of a station and its own rows
+-- ---- what is made of a station that was read
 
--- its counts
-abbrev pub ReadsStatus : List (List ℕ) → PageStation → List Row → StationStatus → Type 0
-ReadsStatus type_ids station own x =
-    (x.info ≡ station.info)
-    × ((s : Operator) (e : List ℕ × Station) → station.docks ≡ dock_numbers_of s e.0 e.1 → AreCountRows s e.0 own
-    → AreCountsOfTypes s e.0 e.1 type_ids x.counts)
-
--- its further names
-abbrev pub ReadsNamed : PageStation → List Row → NamedStation → Type 0
+-- with its further names, by its own rows
+abbrev pub ReadsNamed : NamedStation → List Row → NamedStation → Type 0
 ReadsNamed station own x = (x.info ≡ station.info) × AllZip IsOwnedName own x.names.items
+
+-- with its counts, of the types with these identifiers
+abbrev pub IsStatusBy : List (List ℕ) → CountedStation → StationStatus → Type 0
+IsStatusBy type_ids station x =
+    (x.info ≡ station.info)
+    × (AreRising station.numbers.by_type.items
+    → AreCountsTold station.numbers.by_type.items station.numbers.docks type_ids x.counts)

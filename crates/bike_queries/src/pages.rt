@@ -1,12 +1,11 @@
-//! A page of stations, each read with the rows of another table that are its own: those that begin with its identifier.
+//! A page of stations, each read with its further names: those rows that begin with its identifier.
 
-ghost use Rattle.std.specs.Prelude.{◌≡◌, ◌≤◌, List, IfOk, map, option_map, take, true, length};
+ghost use Rattle.std.specs.Prelude.{◌≡◌, ◌≤◌, IfOk, option_map, take, true, length};
 ghost use Rattle.std.specs.List.{All, AllZip};
-ghost use Rattle.sqlite_value.specs.declared.value.Value.TheVariants.{Text};
-ghost use Rattle.sqlite_value.specs.Order.{Row, column};
-ghost use Rattle.bike_queries.specs.Pages.{AreApart, EndsWith, id_of, is_own, own_rows};
+ghost use Rattle.bike_queries.specs.Pages.{AreApart, EndsWith, ReadsNamed, id_of, is_own, own_rows};
 
-use crate::stations::PageStation;
+use crate::stations::NamedStation;
+use bike_office_reads::{NameRow, read_names};
 use bike_schema::StatementFault;
 use std::alloc::Global;
 use std::collections::VecDeque;
@@ -15,51 +14,17 @@ use std::collections::VecDeque;
 /// statement costs the engine as much as several rows do, and the stations of a page share it.
 pub const STATIONS_A_PAGE: usize = 64;
 
-/// A row that begins with the identifier of a station.
-pub(crate) trait OwnedRow: Drop {
-    /// The row as it is stored.
-    ghost as_row: { Self → Row };
-
-    /// The text with which it begins.
-    fn owner(&self) -> &str
-        ensures { column (as_row self.now) 0 ≡ Text result.now };
-}
-
-/// Reads a station with the rows that are its own.
-pub(crate) trait OwnerReader: Drop {
-    ghost use Rattle.bike_queries.specs.declared.stations.PageStation.{PageStation};
-
-    /// A row that is a station's own.
-    type Own: OwnedRow;
-
-    /// What is read of them.
-    type Item: Drop;
-
-    /// What the station and its rows hold.
-    ghost reads: { Self → PageStation → List Row → Self.Item → Type 0 };
-
-    /// What stands in the station's own rows, beside it. `NoMemory` where it finds no room; a row that holds what the
-    /// product never writes is `StoreFailed`.
-    fn read(
-        &self,
-        alloc: Global,
-        owner: PageStation,
-        own: &[Self::Own],
-    ) -> Result<Self::Item, StatementFault>
-        ensures { IfOk result (reads self.now owner (map Self.Own.as_row own.now)) };
-}
-
 /// Whether the row begins with the identifier.
-fn is_own<R: OwnedRow>(id: &str, row: &R) -> bool
-    ensures { result ≡ is_own id.now (R.as_row row.now) }
+fn is_own(id: &str, row: &NameRow) -> bool
+    ensures { result ≡ is_own id.now row.now }
 {
-    id == row.owner()
+    id == row.id()
 }
 
 /// How many of the rows in front are those of the identifier.
-fn count_own<R: OwnedRow>(id: &str, rows: &[R]) -> usize
+fn count_own(id: &str, rows: &[NameRow]) -> usize
     ensures few { result ≤ length rows.now }
-    ensures own { All (λ row. is_own id.now (R.as_row row) ≡ true) (take result rows.now) }
+    ensures own { All (λ row. is_own id.now row ≡ true) (take result rows.now) }
 {
     let mut own = 0;
     for row in rows {
@@ -72,35 +37,47 @@ fn count_own<R: OwnedRow>(id: &str, rows: &[R]) -> usize
 }
 
 /// The identifier of the last station; `None` where there is none.
-pub(crate) fn last_id(stations: &[PageStation]) -> Option<&str>
+pub(crate) fn last_id(stations: &[NamedStation]) -> Option<&str>
     ensures { EndsWith stations.now (option_map (λ id. id.now) result) }
 {
-    match stations.last() {
-        Some(last) => Some(last.id()),
+    match stations.split_last() {
+        Some((last, _)) => Some(last.id()),
         None => None,
     }
 }
 
-/// Reads each station with its own among the rows, which stand in the order of the stations. `NoMemory` where the page
-/// finds no room, `StoreFailed` where a row is left that is no station's, which no sound database has; other faults are
-/// the reader's.
-pub(crate) fn read_page<R: OwnerReader>(
+/// The station with the names that stand in its own rows.
+fn read_named(
     alloc: Global,
-    stations: Vec<PageStation>,
-    rows: &[R::Own],
-    reader: &R,
-) -> Result<VecDeque<R::Item>, StatementFault>
+    station: NamedStation,
+    own: &[NameRow],
+) -> Result<NamedStation, StatementFault>
+    ensures { IfOk result (ReadsNamed station own.now) }
+{
+    let names = read_names(alloc, own)?;
+    let info = station.info;
+    Ok(NamedStation { info, names })
+}
+
+/// Reads each station with its own among the rows, which stand in the order of the stations. `NoMemory` where the page
+/// or a name finds no room, `StoreFailed` where a row holds no name or is left as no station's, which no sound database
+/// has.
+pub(crate) fn read_page(
+    alloc: Global,
+    stations: Vec<NamedStation>,
+    rows: &[NameRow],
+) -> Result<VecDeque<NamedStation>, StatementFault>
     ensures { AreApart id_of stations.items → IfOk result
-        (λ page. AllZip (λ station x. R.reads reader.now station
-        (own_rows (id_of station) (map R.Own.as_row rows.now)) x) stations.items page.items) }
+        (λ page. AllZip (λ station x. ReadsNamed station (own_rows (id_of station) rows.now) x)
+        stations.items page.items) }
 {
     let mut page = VecDeque::new(alloc);
     let mut rest = rows;
     for station in stations {
         let number = count_own(station.id(), rest);
         let (own, later) = rest.split_at(number);
-        let item = reader.read(alloc, station, own)?;
-        if page.push_back(item).is_err() {
+        let named = read_named(alloc, station, own)?;
+        if page.push_back(named).is_err() {
             return Err(StatementFault::NoMemory);
         }
         rest = later;

@@ -5,19 +5,17 @@ ghost use Rattle.std.specs.Borrow.{sem};
 ghost use Rattle.bike_sql.specs.Calls.{LendsWhere, WalksWhere};
 ghost use Rattle.bike_schema.specs.Answers.{Answers};
 ghost use Rattle.bike_schema.specs.Tables.{IsOurs, tables_of};
-ghost use Rattle.bike_fleet_reads.specs.Holds.{HoldsDockNumbers};
 ghost use Rattle.bike_queries.specs.declared.pages.TheConstants.{STATIONS_A_PAGE};
 ghost use Rattle.bike_queries.specs.After.{HoldsStation, begins_from, station_of};
-ghost use Rattle.bike_queries.specs.Pages.{AreNamedStations, ArePage, ReadsNamed, ReadsStation, id_of, page_after};
+ghost use Rattle.bike_queries.specs.Pages.{AreNamedStations, ArePage, ReadsInfo, ReadsUnnamed, id_of, page_after};
 
 use crate::after::start_of;
 use crate::columns::micro_at;
-use crate::pages::{OwnedRow, OwnerReader, last_id, read_page};
+use crate::pages::{last_id, read_page};
 use bike_book::columns::stations;
 use bike_catalogue::{MoreName, Station};
 use bike_fields::{Ident, NameKind};
-use bike_fleet_reads::{DockNumbers, dock_total_at};
-use bike_office_reads::{NameRow, ReadRow, collect_rows, read_names, select_names};
+use bike_office_reads::{ReadRow, collect_rows, select_names};
 use bike_operator::StationInfo;
 use bike_schema::{
     StatementFault, flag_at, ident_at, moment_at, name_at, number_at, optional_ident_at,
@@ -35,14 +33,7 @@ pub struct NamedStation {
     pub names: Vec<MoreName>,
 }
 
-/// A station of a page with the numbers of its docks, as they stand in its row.
-#[derive(Drop)]
-pub(crate) struct PageStation {
-    pub(crate) info: StationInfo,
-    pub(crate) docks: DockNumbers,
-}
-
-impl PageStation {
+impl NamedStation {
     /// Its identifier.
     pub(crate) fn id(&self) -> &str
         ensures { result.now ≡ id_of self.now }
@@ -51,13 +42,14 @@ impl PageStation {
     }
 }
 
-impl ReadRow for PageStation {
-    ghost reads = { λ row x. ReadsStation row x };
+/// The station of a row, with no further name as yet.
+impl ReadRow for NamedStation {
+    ghost reads = { λ row x. ReadsUnnamed row x };
 
-    fn read(alloc: Global, row: &Row) -> Result<PageStation, StatementFault> {
+    fn read(alloc: Global, row: &Row) -> Result<NamedStation, StatementFault> {
         let info = read_info(alloc, row)?;
-        let docks = read_docks(row)?;
-        Ok(PageStation { info, docks })
+        let names = Vec::new(alloc);
+        Ok(NamedStation { info, names })
     }
 }
 
@@ -71,26 +63,26 @@ fn begin_stations<'a, S: Alter>(
         (λ db. take STATIONS_A_PAGE (filter (begins_from start.now) (tables_of db).stations)) }
 {
     conn.query(
-        "SELECT * FROM stations_3 WHERE station_id >= ?1 ORDER BY station_id LIMIT 64",
+        "SELECT * FROM stations_4 WHERE station_id >= ?1 ORDER BY station_id LIMIT 64",
         params![start],
     )
 }
 
-/// The next stations whose identifiers come after this one, or the first of all, a page of them.
-pub(crate) fn select_stations<S: Alter>(
+/// What is read of the next stations whose identifiers come after this one, or of the first of all: a page of them.
+pub(crate) fn select_stations<R: ReadRow, S: Alter>(
     alloc: Global,
     conn: &mut Connection<S>,
     after: Option<&Ident>,
-) -> Result<Vec<PageStation>, StatementFault>
+) -> Result<Vec<R>, StatementFault>
     ensures { Answers S.Store conn.old conn.new result
-        (λ s m stations. ArePage s (option_map (λ id. id.now) after.entry) stations.items) }
+        (λ s m stations. ArePage R.reads s (option_map (λ id. id.now) after.entry) stations.items) }
 {
     let start = start_of(after);
     let mut rows = begin_stations(conn, start.as_str())?;
     collect_rows(alloc, &mut rows)
 }
 
-/// The name, the place and the docks that stand in a row of `stations_3`.
+/// The name, the place and the docks that stand in a row of `stations_4`.
 fn read_station(alloc: Global, row: &Row) -> Result<Station, StatementFault>
     ensures { IfOk result (λ x. (y : _) → HoldsStation row.now y → x ≡ y.row) }
 {
@@ -102,18 +94,9 @@ fn read_station(alloc: Global, row: &Row) -> Result<Station, StatementFault>
     Station::from_fields(station_id, name, lat, lon, docks).ok_or(StatementFault::StoreFailed)
 }
 
-/// The numbers of its docks that stand in a row of `stations_3`.
-fn read_docks(row: &Row) -> Result<DockNumbers, StatementFault>
-    ensures { IfOk result (HoldsDockNumbers row.now) }
-{
-    let free = dock_total_at(row, stations::FREE)?;
-    let broken = dock_total_at(row, stations::BROKEN)?;
-    Ok(DockNumbers { free, broken })
-}
-
-/// The station that stands in a row of `stations_3`.
-fn read_info(alloc: Global, row: &Row) -> Result<StationInfo, StatementFault>
-    ensures { IfOk result (λ x. (y : _) → HoldsStation row.now y → station_of x ≡ y) }
+/// The station that stands in a row of `stations_4`.
+pub(crate) fn read_info(alloc: Global, row: &Row) -> Result<StationInfo, StatementFault>
+    ensures { IfOk result (ReadsInfo row.now) }
 {
     let station = read_station(alloc, row)?;
     let is_installed = flag_at(row, stations::INSTALLED)?;
@@ -131,37 +114,6 @@ fn read_info(alloc: Global, row: &Row) -> Result<StationInfo, StatementFault>
     })
 }
 
-/// Reads stations with their further names.
-#[derive(Drop)]
-struct NamedReader {}
-
-impl OwnedRow for NameRow {
-    ghost as_row = { λ r. r };
-
-    fn owner(&self) -> &str {
-        self.id()
-    }
-}
-
-impl OwnerReader for NamedReader {
-    type Own = NameRow;
-
-    type Item = NamedStation;
-
-    ghost reads = { λ this station own x. ReadsNamed station own x };
-
-    fn read(
-        &self,
-        alloc: Global,
-        owner: PageStation,
-        own: &[NameRow],
-    ) -> Result<NamedStation, StatementFault> {
-        let names = read_names(alloc, own)?;
-        let info = owner.info;
-        Ok(NamedStation { info, names })
-    }
-}
-
 /// The next stations whose identifiers come after this one, or the first of all, as many as a page holds, by one
 /// statement. With `translated` each has its further names, by a second statement; else none has any. `NoMemory` where
 /// a text finds no room; every other fault is the database's.
@@ -174,14 +126,14 @@ pub fn find_stations_after<S: Alter>(
     ensures { Answers S.Store conn.old conn.new result (λ s m page.
         AreNamedStations translated s (page_after (option_map (λ id. id.now) after.entry) s.stations) page.items) }
 {
-    let stations = select_stations(alloc, conn, after)?;
+    let stations = select_stations::<NamedStation, S>(alloc, conn, after)?;
+    if !translated {
+        return Ok(VecDeque::from_vec(stations));
+    }
     let Some(last) = last_id(stations.as_slice()) else {
         return Ok(VecDeque::new(alloc));
     };
-    if !translated {
-        return read_page(alloc, stations, &[], &NamedReader {});
-    }
     let start = start_of(after);
     let names = select_names(alloc, conn, NameKind::Station, start.as_str(), last)?;
-    read_page(alloc, stations, names.as_slice(), &NamedReader {})
+    read_page(alloc, stations, names.as_slice())
 }

@@ -17,7 +17,7 @@ use Rattle.bike_book.specs.Rows.{number_value, meta_row, system_row, plan_row, s
 use Rattle.bike_schema.specs.Columns.{number_in, or_none}
 use Rattle.bike_readings.specs.Bounds.{IsWithin, IsStoredMeta, IsStoredPlan, IsStoredSegment, IsStoredType, IsStoredRegion, IsStoredStation, IsStoredDock, IsStoredName}
 use Rattle.bike_readings.specs.BothWays.{MetaReading, SystemReading, PlanReading, SegmentReading, TypeReading, RegionReading, StationReading, DockReading, NameReading}
-use Rattle.bike_readings.proofs.ColumnLaws.{IsColumn, IfAny, whole_column, number_column, moment_column, flag_column, signed_column, word_column, word_utf8, ident_column, name_column, ascii_column}
+use Rattle.bike_readings.proofs.ColumnLaws.{IsColumn, IfAny, whole_column, number_column, moment_column, flag_column, signed_column, text_column, word_column, word_utf8, ident_column, name_column, ascii_column}
 use Rattle.bike_readings.proofs.ColumnLaws.{language_column, currency_column, form_column, propulsion_column, named_kind_column, or_none_column, ident_or_none_column}
 use Rattle.bike_readings.proofs.ChainLaws.{wide, takes, ends, ends_if, gives, gives_if}
 
@@ -193,7 +193,7 @@ region_reading = record {
 pub station_reading : StationReading
 station_reading = record {
   sound = λ row x e.
-      wide 12 row e (λ width e.
+      wide 13 row e (λ width e.
       takes _ ident_column e (λ id id_is id_good e.
       takes _ name_column e (λ name name_is name_good e.
       takes _ (signed_column (neg_ℤ (pos 90000000)) (pos 90000000)) e (λ lat lat_is lat_good e.
@@ -206,15 +206,17 @@ station_reading = record {
       takes _ whole_column e (λ free free_is _ e.
       takes _ (number_column 0 _) e (λ broken broken_is broken_good e.
       takes _ ident_or_none_column e (λ region region_is region_good e.
-      ends (λ (x : List ℕ × Station × ℤ × ℕ). station_row x.0 x.1 x.2 x.3) (λ x. IsStoredStation x.0 x.1 x.3) x e width
-      (id_is, (name_is, (lat_is, (lon_is, (docks_is, (installed_is, (renting_is, (returning_is, (reported_is, (free_is, (broken_is, (region_is, tt))))))))))))
+      takes _ text_column e (λ by_type by_type_is by_type_good e.
+      ends (λ (x : List ℕ × Station × ℤ × ℕ × List ℕ). station_row x.0 x.1 x.2 x.3 x.4) (λ x. IsStoredStation x.0 x.1 x.3 x.4) x e width
+      (id_is, (name_is, (lat_is, (lon_is, (docks_is, (installed_is, (renting_is, (returning_is, (reported_is, (free_is, (broken_is, (region_is, (by_type_is, tt)))))))))))))
       (record {
         id_is = refl;
         good = record { station_id = id_good; name = name_good; lat = lat_good; lon = lon_good; some_docks = docks_good.0; few_docks = docks_good.1 };
         reported = reported_good;
         good_broken = broken_good.1;
         region = region_good;
-      }))))))))))))));
+        good_by_type = by_type_good;
+      })))))))))))))));
   full = λ x g.
       gives _ x.0 ident_column (same_ident _ _ g.id_is g.good.station_id) (
       gives _ x.1.row.name name_column g.good.name (
@@ -226,7 +228,8 @@ station_reading = record {
       gives _ x.1.is_returning flag_column tt (
       gives _ x.1.reported moment_column g.reported (
       gives _ x.3 (number_column 0 _) (omega arith, g.good_broken) (
-      gives _ x.1.region ident_or_none_column g.region
+      gives _ x.1.region ident_or_none_column g.region (
+      gives _ x.4 text_column g.good_by_type
       (λ i. Some (
         x.0,
         record {
@@ -239,7 +242,8 @@ station_reading = record {
         },
         x.2,
         x.3,
-      ))))))))))));
+        x.4,
+      )))))))))))));
 }
 
 pub dock_reading : DockReading

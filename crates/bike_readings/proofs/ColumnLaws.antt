@@ -167,6 +167,12 @@ text_sound (Real x) text e = absurd cc
 text_sound (Text t) text e = ap Text (cond_some (is_utf8 t) t text e).1
 text_sound (Blob b) text e = absurd cc
 
+pub text_column : IsColumn text_in Text (λ text. is_utf8 text ≡ true)
+text_column = record { sound = sound; full = λ text g. rw g refl }
+  where
+    sound : (v : Value) (text : List ℕ) → text_in v ≡ Some text → (v ≡ Text text) × (is_utf8 text ≡ true)
+    sound v text e = let is = text_sound v text e in (is, (cond_some (is_utf8 text) text text (sym (ap text_in is) ∙ e)).0)
+
 -- what is read of texts
 pub of_text : {A : Type 0} (read : List ℕ → Option A) (write : A → List ℕ) (Good : A → Type 0) → ((text : List ℕ) (a : A) → read text ≡ Some a → (text ≡ write a) × Good a)
     → ((a : A) → Good a → read (write a) ≡ Some a)

@@ -6,7 +6,6 @@ use Rattle.std.specs.declared.cmp.Ordering.{Ordering}
 use Rattle.std.specs.FinMap as fin
 use Rattle.std.specs.FinMap.{FinMap}
 use Rattle.std.specs.FinSet as set
-use Rattle.sqlite_value.specs.declared.value.Value.TheVariants.{Text}
 use Rattle.sqlite_value.specs.Order.{Row}
 use Rattle.sqlite_rules.specs.Lists.{Has}
 use Rattle.bike_sql.specs.View.{row_with}
@@ -21,36 +20,34 @@ use Rattle.bike_operator.specs.declared.records.Place.{Place}
 use Rattle.bike_operator.specs.declared.records.Place.TheVariants as place
 use Rattle.bike_operator.specs.declared.records.Rental.{Rental}
 use Rattle.bike_operator.specs.declared.records.Closing.{Closing}
-use Rattle.bike_operator.specs.Operator.{Operator, AcceptedRequest, Key, NameKey, DockKey, key_in, name_key, item_numbered}
-use Rattle.bike_operator.specs.Counts.{docks_available, docks_broken, available_of}
+use Rattle.bike_operator.specs.Operator.{Operator, AcceptedRequest, NameKey, DockKey, key_in, name_key, item_numbered}
+use Rattle.bike_operator.specs.Counts.{docks_available, docks_broken}
 use Rattle.bike_operator.specs.Sound.{IsSound, IsPlace, IsBooking, IsSetSystem, fares_of, fares_in}
-use Rattle.bike_laws.specs.SingleSteps.Numbers.{disabled_of}
 use Rattle.bike_laws.proofs.SingleSteps.ItemLemmas.{number_within}
 use Rattle.bike_book.specs.declared.version.TheConstants.{NEWEST}
-use Rattle.bike_book.specs.Tables.{Meta, System, Plans, Segments, Types, Regions, Stations, Docks, Bikes, Trucks, Riders, Rentals, Orders, Entries, History, Counts, MoreNames}
+use Rattle.bike_book.specs.Tables.{Meta, System, Plans, Segments, Types, Regions, Stations, Docks, Bikes, Trucks, Riders, Rentals, Orders, Entries, History, MoreNames}
+use Rattle.bike_book.specs.ByType.{types_at, by_type_text}
 use Rattle.bike_book.specs.Rows.{number_value, meta_row}
 use Rattle.bike_book.specs.Stored.{Listed, IsListing, tables_for, meta_rows, system_rows, with_numbers, plans_segments, stored_plan, stored_type, stored_region, stored_station, stored_dock}
-use Rattle.bike_book.specs.Stored.{stored_bike, stored_truck, stored_rider, stored_rental, stored_order, stored_entry, stored_request, stored_count, stored_name}
+use Rattle.bike_book.specs.Stored.{stored_bike, stored_truck, stored_rider, stored_rental, stored_order, stored_entry, stored_request, stored_name}
 use Rattle.bike_book.proofs.MapRows.{StoresKeys, BeginsWithKey, has_get}
-use Rattle.bike_book.proofs.Keys.{numbers, texts, pairs, triples, docks}
-use Rattle.bike_book.proofs.FoundKeys.{found_listed}
+use Rattle.bike_book.proofs.Keys.{numbers, texts, triples, docks}
 use Rattle.bike_book.proofs.FoundNumbers.{same_length}
 use Rattle.bike_readings.specs.Readings.{meta_read, system_read, plan_read, segment_read, type_read, region_read, station_read, dock_read, bike_read, truck_read, rider_read, rental_read, order_read}
-use Rattle.bike_readings.specs.Readings.{entry_read, request_read, count_read, name_read}
+use Rattle.bike_readings.specs.Readings.{entry_read, request_read, name_read}
 use Rattle.bike_readings.proofs.CatalogueRows.{system_reading, segment_reading}
 use Rattle.bike_readings.specs.Bounds.{IsStoredSegment}
 use Rattle.bike_readings.proofs.SoundBounds.{segment_stored}
 use Rattle.bike_readings.specs.Demands.{IsGoodMeta, IsGoodPlan, IsGoodSegment, IsGoodType, IsGoodRegion, IsGoodStation, IsGoodDock, IsGoodPlace, IsGoodBike, IsGoodTruck, IsGoodRider, IsGoodRental}
-use Rattle.bike_readings.specs.Demands.{IsGoodOrder, IsGoodEntry, IsGoodRequest, IsGoodCount, IsGoodName, HasFare, IsOneFare}
+use Rattle.bike_readings.specs.Demands.{IsGoodOrder, IsGoodEntry, IsGoodRequest, IsGoodName, HasFare, IsOneFare}
 use Rattle.bike_readings.specs.ReadOff.{rental_in}
-use Rattle.bike_readings.specs.Rules.{HasNone}
 use Rattle.bike_readings.proofs.ByNumber.{at_number}
 use Rattle.bike_readings.proofs.Places.{lesser, lesser_fewer, lesser_numbered, has_under}
 use Rattle.bike_readings.proofs.ReadBack.{has_numbered}
 use Rattle.bike_readings.proofs.Segments.{row_among}
 use Rattle.bike_readings.proofs.FurtherNames.{name_room}
 use Rattle.bike_readings.proofs.Fares.{fare_passes, fare_among, two_fares}
-use Rattle.bike_readings.proofs.ReadOffBack.{meta_is, plan_is, type_is, region_is, station_is, dock_is, bike_is, truck_is, rider_is, rental_is, order_is, entry_is, request_is, count_is, name_is}
+use Rattle.bike_readings.proofs.ReadOffBack.{meta_is, plan_is, type_is, region_is, station_is, dock_is, bike_is, truck_is, rider_is, rental_is, order_is, entry_is, request_is, name_is}
 use Rattle.bike_readings.proofs.Histories.{none_before, if_some}
 use Rattle.bike_readings.proofs.RowRules.{some_and, AreGoodRows, LacksNone}
 
@@ -196,20 +193,13 @@ module _ (s : Operator) (m : Listed) (sound : IsSound s) (listing : IsListing s 
       }
   place_good bike type_id place.Depot it = tt
 
-  -- ---- docks and counts
+  -- ---- docks
 
   dock_good : (key : DockKey) (v : Unit {0}) (below : ℕ) → fin.get m.docks key ≡ Some v → IsSomeAnd (dock_read (stored_dock s.broken (key, v))) (IsGoodDock s below)
   dock_good key v below found =
       let k = listing.docks key (ap is_some found) in
       some_and (IsGoodDock s below) (dock_read (stored_dock s.broken (key, v))) (k.station, k.dock, set.contains s.broken key)
       (dock_is s m sound listing k.station k.dock key (ap is_some found) k.key_is k.has) k.has
-
-  count_good : (key : Key) (v : Unit {0}) (below : ℕ) → fin.get m.counts key ≡ Some v → IsSomeAnd (count_read (stored_count s (key, v))) (IsGoodCount s below)
-  count_good key v below found =
-      let k = listing.counts key (ap is_some found) in
-      some_and (IsGoodCount s below) (count_read (stored_count s (key, v))) (k.station, k.type_id, available_of s k.station k.type_id, disabled_of s k.station k.type_id)
-      (count_is s m sound listing k.station k.type_id key k.key_is k.has_station k.has_type)
-      (record { has_station = k.has_station; has_type = k.has_type; available_is = refl; disabled_is = refl })
 
   -- ---- names in further languages
 
@@ -243,8 +233,9 @@ module _ (s : Operator) (m : Listed) (sound : IsSound s) (listing : IsListing s 
   all_rows_good Stations row has =
       map_good texts (stored_station s) station_read (IsGoodStation s) s.stations (λ k v below found low.
       let few = sound.catalogue.few_stations in
-      some_and (IsGoodStation s below) (station_read (stored_station s (k, v))) (k, v, pos (docks_available s k v.row.docks), docks_broken s k v.row.docks) (station_is s m sound listing k v found)
-      (record { room = omega (arith, low, few); good = sound.catalogue.stations k v found; free_is = refl; broken_is = refl })) row has
+      some_and (IsGoodStation s below) (station_read (stored_station s (k, v)))
+      (k, v, pos (docks_available s k v.row.docks), docks_broken s k v.row.docks, by_type_text (types_at s k)) (station_is s m sound listing k v found)
+      (record { room = omega (arith, low, few); good = sound.catalogue.stations k v found; free_is = refl; broken_is = refl; by_type_is = refl })) row has
   all_rows_good Docks row has = map_good docks (stored_dock s.broken) dock_read (IsGoodDock s) m.docks (λ k v below found low. dock_good k v below found) row has
   all_rows_good Bikes row has =
       map_good numbers stored_bike bike_read (IsGoodBike (tables_for s m) s) s.bikes (λ k v below found low.
@@ -282,7 +273,6 @@ module _ (s : Operator) (m : Listed) (sound : IsSound s) (listing : IsListing s 
       (record { number_is = place; room = omega (arith, few, high, place); good = sound.orders.orders n o found })) row has
   all_rows_good Entries row has = numbered_good stored_entry (λ e. refl) entry_read (IsGoodEntry s) s.entries entry_good row has
   all_rows_good History row has = numbered_good stored_request (λ e. refl) request_read (IsGoodRequest s) s.history request_good row has
-  all_rows_good Counts row has = map_good pairs (stored_count s) count_read (IsGoodCount s) m.counts (λ k v below found low. count_good k v below found) row has
   all_rows_good MoreNames row has = map_good triples stored_name name_read (IsGoodName s) s.more_names (λ k v below found low. name_good k v below found) row has
 
   -- ---- what is missing
@@ -294,14 +284,8 @@ module _ (s : Operator) (m : Listed) (sound : IsSound s) (listing : IsListing s 
       let both : ◌≡◌ {A = Option Row} None (Some (meta_row NEWEST s.now (cash_of s.entries) (revenue_of s.entries))) = sym none ∙ ap (λ (k : Row). row_with 1 k (meta_rows s)) is ∙ there in
       absurd cc
 
-  counts_lacking : (key : Row) → row_with 2 key (map (stored_count s) (fin.entries m.counts)) ≡ None → (station type_id : List ℕ) → key ≡ Text station ∷ Text type_id ∷ [] → HasNone s station type_id
-  counts_lacking key none station type_id is =
-      let listed = (found_listed s m sound listing).count_listed station type_id in
-      listing.counted station type_id (sym listed ∙ ap is_some (ap (λ (k : Row). row_with 2 k (map (stored_count s) (fin.entries m.counts))) (sym is) ∙ none))
-
-  pub none_lacking : LacksNone s (tables_for s m)
+  pub none_lacking : LacksNone (tables_for s m)
   none_lacking Meta key none = meta_there key none
-  none_lacking Counts key none = counts_lacking key none
   none_lacking System key none = tt
   none_lacking Plans key none = tt
   none_lacking Segments key none = tt

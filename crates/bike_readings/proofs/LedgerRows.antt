@@ -1,4 +1,4 @@
--- The rows of riders, rentals, entries and counts are read exactly.
+-- The rows of riders, rentals and entries are read exactly.
 use Rattle.std.proofs.Common.{◌≡◌, ℕ, ℤ, pos, negsuc, List, [], ◌∷◌, ◌++◌, length, Option, Some, None, refl, sym, subst, arith}
 use Rattle.std.specs.Prelude.{option_and_then}
 use Rattle.std.proofs.lemmas.Int.{ints}
@@ -14,11 +14,11 @@ use Rattle.bike_ledger.specs.Entries.{Entry}
 use Rattle.bike_operator.specs.declared.records.Rental.{Rental}
 use Rattle.bike_operator.specs.Operator.{Rider}
 use Rattle.bike_operator.specs.Sound.{IsPayment}
-use Rattle.bike_book.specs.Rows.{number_value, closing_columns, rider_row, rental_row, entry_row, count_row}
+use Rattle.bike_book.specs.Rows.{number_value, closing_columns, rider_row, rental_row, entry_row}
 use Rattle.bike_schema.specs.Columns.{whole_in, moment_in}
 use Rattle.bike_readings.specs.ColumnReaders.{closing_in, fare_in, rental_in, amount_in, signed_in}
-use Rattle.bike_readings.specs.Bounds.{IsNumbered, IsMoment, IsFare, IsStoredRental, IsStoredEntry, IsStoredCount, IsIdentOrNone, IsOpenOrStored, IsStoredRentalOf, IsStoredAmount}
-use Rattle.bike_readings.specs.BothWays.{RiderReading, RentalReading, EntryReading, CountReading}
+use Rattle.bike_readings.specs.Bounds.{IsNumbered, IsMoment, IsFare, IsStoredRental, IsStoredEntry, IsIdentOrNone, IsOpenOrStored, IsStoredRentalOf, IsStoredAmount}
+use Rattle.bike_readings.specs.BothWays.{RiderReading, RentalReading, EntryReading}
 use Rattle.bike_readings.proofs.ColumnLaws.{IsColumn, IsBetween, whole_column, number_column, moment_column, signed_column, flag_column, kind_column, ident_column, ident_or_none_column}
 use Rattle.bike_readings.proofs.ChainLaws.{HasColumns, wide, takes, ends, gives, gives_wide, given, pick_null}
 
@@ -150,23 +150,4 @@ entry_reading = record {
       gives _ x.rental (rental_column x.kind) g.rental (
       gives _ x.amount (amount_column x.kind) g.amount (
       gives _ x.at moment_column g.at refl)))));
-}
-
--- ---- counts
-
-pub count_reading : CountReading
-count_reading = record {
-  sound = λ row x e.
-      wide 4 row e (λ width e.
-      takes _ ident_column e (λ station station_is station_good e.
-      takes _ ident_column e (λ type_id type_is type_good e.
-      takes _ (number_column 0 _) e (λ available available_is available_good e.
-      takes _ (number_column 0 _) e (λ disabled disabled_is disabled_good e.
-      ends (λ (x : List ℕ × List ℕ × ℕ × ℕ). count_row x.0 x.1 x.2 x.3) (λ x. IsStoredCount x.0 x.1 x.2 x.3) x e width (station_is, (type_is, (available_is, (disabled_is, tt))))
-      (record { good_station = station_good; good_type = type_good; good_available = available_good.1; good_disabled = disabled_good.1 }))))));
-  full = λ x g.
-      gives _ x.0 ident_column g.good_station (
-      gives _ x.1 ident_column g.good_type (
-      gives _ x.2 (number_column 0 _) (omega arith, g.good_available) (
-      gives _ x.3 (number_column 0 _) (omega arith, g.good_disabled) refl)));
 }

@@ -3,6 +3,7 @@ pub mod ChainLaws
 pub mod CatalogueRows
 pub mod FleetRows
 pub mod LedgerRows
+pub mod StationTexts
 pub mod SoundBounds
 pub mod TextUtf8
 pub mod RequestRows

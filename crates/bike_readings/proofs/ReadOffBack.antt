@@ -12,28 +12,28 @@ use Rattle.bike_ledger.specs.Ledger.{balance_of, cash_of, revenue_of, refunded_o
 use Rattle.bike_operator.specs.declared.records.Bike.{Bike}
 use Rattle.bike_operator.specs.declared.records.Rental.{Rental}
 use Rattle.bike_operator.specs.declared.records.Order.{Order}
-use Rattle.bike_operator.specs.Operator.{Operator, Station, Truck, Rider, AcceptedRequest, Key, NameKey, DockKey, dock_key, key_of, name_key, item_numbered}
-use Rattle.bike_operator.specs.Counts.{docks_available, docks_broken, available_of}
+use Rattle.bike_operator.specs.Operator.{Operator, Station, Truck, Rider, AcceptedRequest, NameKey, DockKey, dock_key, name_key, item_numbered}
+use Rattle.bike_operator.specs.Counts.{docks_available, docks_broken}
 use Rattle.bike_operator.specs.Sound.{IsSound, IsSetSystem, HasDock, IsNameAt}
-use Rattle.bike_laws.specs.SingleSteps.Numbers.{disabled_of}
 use Rattle.bike_book.specs.declared.version.TheConstants.{NEWEST}
+use Rattle.bike_book.specs.ByType.{types_at, by_type_text}
 use Rattle.bike_book.specs.Stored.{Listed, IsListing, tables_for, meta_rows, system_rows, plans_segments, stored_plan, stored_type, stored_region, stored_station, stored_dock, stored_bike}
-use Rattle.bike_book.specs.Stored.{stored_truck, stored_rider, stored_rental, stored_order, stored_entry, stored_request, stored_count, stored_name}
-use Rattle.bike_book.proofs.Keys.{numbers, texts, pairs, triples, docks}
+use Rattle.bike_book.specs.Stored.{stored_truck, stored_rider, stored_rental, stored_order, stored_entry, stored_request, stored_name}
+use Rattle.bike_book.proofs.Keys.{numbers, texts, triples, docks}
 use Rattle.bike_readings.specs.Readings.{meta_read, system_read, plan_read, type_read, region_read, station_read, dock_read, bike_read, truck_read, rider_read, rental_read, order_read, entry_read}
-use Rattle.bike_readings.specs.Readings.{request_read, count_read, name_read}
+use Rattle.bike_readings.specs.Readings.{request_read, name_read}
 use Rattle.bike_readings.specs.Bounds.{IsStoredSegment}
 use Rattle.bike_readings.proofs.CatalogueRows.{meta_reading, plan_reading, type_reading, region_reading, station_reading, dock_reading, name_reading, system_reading}
 use Rattle.bike_readings.proofs.FleetRows.{bike_reading, truck_reading, order_reading}
-use Rattle.bike_readings.proofs.LedgerRows.{rider_reading, rental_reading, entry_reading, count_reading}
+use Rattle.bike_readings.proofs.LedgerRows.{rider_reading, rental_reading, entry_reading}
 use Rattle.bike_readings.proofs.RequestRows.{request_reading}
-use Rattle.bike_readings.specs.ReadOff.{first, moment_of, with_segments, plan_in, station_in, rider_in, rental_in, entry_in, name_in, dock_in, count_in, segments_of, operator_of, listed_of, first_of}
+use Rattle.bike_readings.specs.ReadOff.{first, moment_of, with_segments, plan_in, station_in, rider_in, rental_in, entry_in, name_in, dock_in, segments_of, operator_of, listed_of, first_of}
 use Rattle.bike_readings.specs.ReadOff.{misplaced_bike, bike_in}
 use Rattle.bike_readings.proofs.ReadBack.{map_back, numbered_back}
 use Rattle.bike_readings.proofs.Segments.{segments_back}
 use Rattle.bike_readings.proofs.Broken.{broken_back}
 use Rattle.bike_readings.proofs.SoundBounds.{meta_stored, segment_stored, dock_stored, type_stored, region_stored, station_stored, bike_stored, truck_stored, rider_stored, rental_stored, order_stored}
-use Rattle.bike_readings.proofs.SoundBounds.{entry_stored, request_stored, count_stored}
+use Rattle.bike_readings.proofs.SoundBounds.{entry_stored, request_stored}
 use Rattle.bike_book.specs.Rows.{meta_row}
 
 module _ (s : Operator) (m : Listed) (sound : IsSound s) (listing : IsListing s m) where
@@ -69,8 +69,9 @@ module _ (s : Operator) (m : Listed) (sound : IsSound s) (listing : IsListing s 
   region_is id x found = region_reading.full (id, x) (region_stored s sound id x found)
 
   pub station_is : (id : List ℕ) (x : Station) → fin.get s.stations id ≡ Some x
-      → station_read (stored_station s (id, x)) ≡ Some (id, x, pos (docks_available s id x.row.docks), docks_broken s id x.row.docks)
-  station_is id x found = station_reading.full (id, x, pos (docks_available s id x.row.docks), docks_broken s id x.row.docks) (station_stored s sound id x found)
+      → station_read (stored_station s (id, x)) ≡ Some (id, x, pos (docks_available s id x.row.docks), docks_broken s id x.row.docks, by_type_text (types_at s id))
+  station_is id x found =
+      station_reading.full (id, x, pos (docks_available s id x.row.docks), docks_broken s id x.row.docks, by_type_text (types_at s id)) (station_stored s sound id x found)
 
   pub dock_is : (station : List ℕ) (dock : ℕ) (key : DockKey) → fin.contains_key m.docks key ≡ true → key ≡ dock_key station dock → HasDock s station dock
       → dock_read (stored_dock s.broken (key, tt)) ≡ Some (station, dock, set.contains s.broken key)
@@ -104,12 +105,6 @@ module _ (s : Operator) (m : Listed) (sound : IsSound s) (listing : IsListing s 
   pub request_is : (n : ℕ) (a : AcceptedRequest) → item_numbered n s.history ≡ Some a → request_read (stored_request (n, a)) ≡ Some (n, a)
   request_is n a found = request_reading.full (n, a) (request_stored s sound n a found)
 
-  pub count_is : (station type_id : List ℕ) (key : Key) → key ≡ key_of station type_id → fin.contains_key s.stations station ≡ true → fin.contains_key s.types type_id ≡ true
-      → count_read (stored_count s (key, tt)) ≡ Some (station, type_id, available_of s station type_id, disabled_of s station type_id)
-  count_is station type_id key is at kind =
-      ap (λ (q : Key). count_read (stored_count s (q, tt))) is
-      ∙ count_reading.full (station, type_id, available_of s station type_id, disabled_of s station type_id) (count_stored s sound station type_id at kind)
-
   pub name_is : (key : NameKey) (name : List ℕ) (it : IsNameAt s key name) → name_read (stored_name (key, name)) ≡ Some (it.kind, it.id, record { language = it.language; name = name })
   name_is key name it =
       ap (λ (k : NameKey). name_read (stored_name (k, name))) it.key_is
@@ -132,11 +127,6 @@ module _ (s : Operator) (m : Listed) (sound : IsSound s) (listing : IsListing s 
   dock_back : (key : DockKey) → fin.contains_key m.docks key ≡ true → (station : List ℕ) × (dock : ℕ) × (key ≡ dock_key station dock)
       × (dock_read (stored_dock s.broken (key, tt)) ≡ Some (station, dock, set.contains s.broken key))
   dock_back key known = let k = listing.docks key known in (k.station, k.dock, k.key_is, dock_is k.station k.dock key known k.key_is k.has)
-
-  count_back : (key : Key) (v : Unit {0}) → fin.get m.counts key ≡ Some v → count_in (stored_count s (key, v)) ≡ Some (key, v)
-  count_back key v found =
-      let k = listing.counts key (ap is_some found) in
-      ap (option_map (λ (e : List ℕ × List ℕ × ℕ × ℕ). (key_of e.0 e.1, tt))) (count_is k.station k.type_id key k.key_is k.has_station k.has_type) ∙ ap (λ (q : Key). Some (q, tt)) (sym k.key_is)
 
   listed_dock_back : (key : DockKey) (v : Unit {0}) → fin.get m.docks key ≡ Some v → dock_in (stored_dock s.broken (key, v)) ≡ Some (key, v)
   listed_dock_back key v found =
@@ -183,5 +173,4 @@ module _ (s : Operator) (m : Listed) (sound : IsSound s) (listing : IsListing s 
   pub listed_back : listed_of (tables_for s m) ≡ m
   listed_back =
       let listed_docks = map_back docks dock_in (stored_dock s.broken) m.docks listed_dock_back in
-      let listed_counts = map_back pairs count_in (stored_count s) m.counts count_back in
-      λ i. record { docks = listed_docks i; counts = listed_counts i }
+      λ i. record { docks = listed_docks i }

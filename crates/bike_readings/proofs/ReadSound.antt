@@ -1,4 +1,4 @@
--- The operator that is read off tables whose keys are all good is sound, and its docks and counts are listed right.
+-- The operator that is read off tables whose keys are all good is sound, and its docks are listed right.
 use Rattle.std.proofs.Common.{◌≡◌, inl, ℕ, ℤ, ◌+◌, ◌-◌, ◌<◌, ◌≤◌, List, [], ◌∷◌, length, Bool, true, false, Option, Some, None, is_some, refl, sym, ap, ◌∙◌, subst, arith}
 use Rattle.std.specs.Prelude.{option_map, take}
 use Rattle.std.specs.Ordering.{nat_cmp}
@@ -8,10 +8,8 @@ use Rattle.std.specs.Cmp.{ranked}
 use Rattle.std.proofs.lemmas.Option.{same_Some}
 use Rattle.std.specs.FinMap as fin
 use Rattle.std.specs.FinSet as set
-use Rattle.sqlite_value.specs.declared.value.Value.TheVariants.{Text}
 use Rattle.sqlite_value.specs.Order.{Row}
 use Rattle.sqlite_rules.specs.Lists.{Has}
-use Rattle.bike_sql.specs.View.{row_with}
 use Rattle.bike_fields.specs.Bytes.{is_name}
 use Rattle.bike_fields.specs.declared.name_kind.NameKind.{NameKind}
 use Rattle.bike_fields.specs.NameKinds.{kind_text}
@@ -26,19 +24,19 @@ use Rattle.bike_operator.specs.declared.records.Bike.{Bike}
 use Rattle.bike_operator.specs.declared.records.Rental.{Rental}
 use Rattle.bike_operator.specs.declared.records.Closing.{Closing}
 use Rattle.bike_operator.specs.declared.records.Order.{Order}
-use Rattle.bike_operator.specs.Operator.{Operator, Station, Truck, Rider, AcceptedRequest, Key, NameKey, DockKey, dock_key, key_of, name_key, item_numbered}
+use Rattle.bike_operator.specs.Operator.{Operator, Station, Truck, Rider, AcceptedRequest, NameKey, DockKey, dock_key, name_key, item_numbered}
 use Rattle.bike_operator.specs.Counts.{is_open, open_rentals}
 use Rattle.bike_operator.specs.Names.{part_at}
 use Rattle.bike_operator.specs.Sound.{IsSound, IsCatalogueSound, AreNamesSound, IsNameAt, AreBikesSound, AreOrdersSound, AreRentalsSound, IsLedgerSound, IsTypeAt, IsRegionAt, IsStationAt, HasDock}
 use Rattle.bike_operator.specs.Sound.{IsBrokenDock, IsBikeAt, IsPlace, IsTruckAt, IsOrderAt, IsRentalAt, IsRiderNumber, IsEntryAt, IsAccepted, IsHistory, fares_of, fares_in}
 use Rattle.bike_laws.proofs.SingleSteps.MapLemmas.{there_of}
-use Rattle.bike_book.specs.Tables.{TableName, Tables, keys_of, Meta, Plans, Types, Regions, Stations, Docks, Bikes, Trucks, Riders, Rentals, Orders, Entries, History, Counts, MoreNames}
+use Rattle.bike_book.specs.Tables.{TableName, Tables, keys_of, Meta, Plans, Types, Regions, Stations, Docks, Bikes, Trucks, Riders, Rentals, Orders, Entries, History, MoreNames}
 use Rattle.bike_book.specs.Rows.{number_value}
-use Rattle.bike_book.specs.Stored.{IsListing, IsDockKey, IsCountKey, tables_for, stored_plan, stored_type, stored_region, stored_station, stored_bike, stored_truck, stored_rider, stored_rental}
-use Rattle.bike_book.specs.Stored.{stored_order, stored_count}
-use Rattle.bike_book.proofs.MapRows.{found_entries, has_get}
-use Rattle.bike_book.proofs.Keys.{numbers, texts, pairs, docks, IsPair, IsTriple}
-use Rattle.bike_readings.specs.Readings.{type_read, region_read, station_read, dock_read, bike_read, truck_read, rider_read, rental_read, order_read, entry_read, request_read, count_read, name_read}
+use Rattle.bike_book.specs.Stored.{IsListing, IsDockKey, tables_for, stored_plan, stored_type, stored_region, stored_station, stored_bike, stored_truck, stored_rider, stored_rental}
+use Rattle.bike_book.specs.Stored.{stored_order}
+use Rattle.bike_book.proofs.MapRows.{has_get}
+use Rattle.bike_book.proofs.Keys.{numbers, texts, docks, IsTriple}
+use Rattle.bike_readings.specs.Readings.{type_read, region_read, station_read, dock_read, bike_read, truck_read, rider_read, rental_read, order_read, entry_read, request_read, name_read}
 use Rattle.bike_readings.specs.Readings.{plan_read}
 use Rattle.bike_readings.proofs.CatalogueRows.{region_reading, name_reading}
 use Rattle.bike_readings.proofs.LedgerRows.{rental_reading}
@@ -46,8 +44,8 @@ use Rattle.bike_readings.proofs.RequestRows.{request_reading}
 use Rattle.bike_readings.proofs.Histories.{IsNext, history_of}
 use Rattle.bike_readings.specs.ReadOff.{plan_in, station_in, rider_in, rental_in, dock_in, operator_of, listed_of, first_of, misplaced_bike, bike_in}
 use Rattle.bike_readings.specs.Demands.{IsGoodPlan, IsGoodType, IsGoodRegion, IsGoodStation, IsGoodDock, IsGoodPlace, IsGoodBike, IsGoodTruck, IsGoodRider, IsGoodRental, IsGoodOrder, IsGoodEntry}
-use Rattle.bike_readings.specs.Demands.{IsGoodRequest, IsGoodCount, IsGoodName, names_before, IsRiding, HasFare, IsFareOf, IsFirstFare, IsOneFare}
-use Rattle.bike_readings.specs.Rules.{AreInOrder, rows_below, HasNone, AreOf}
+use Rattle.bike_readings.specs.Demands.{IsGoodRequest, IsGoodName, names_before, IsRiding, HasFare, IsFareOf, IsFirstFare, IsOneFare}
+use Rattle.bike_readings.specs.Rules.{AreInOrder, rows_below, AreOf}
 use Rattle.bike_readings.proofs.ReadLists.{has_read}
 use Rattle.bike_readings.proofs.ByNumber.{at_number}
 use Rattle.bike_readings.proofs.Places.{within}
@@ -56,7 +54,7 @@ use Rattle.bike_readings.proofs.FurtherNames.{same_kind, name_parts, IsNameIn, f
 use Rattle.bike_readings.proofs.Fares.{counted, is_fare_of, fare_parts, no_fares, one_fare, rentals_few}
 use Rattle.bike_readings.proofs.RowRules.{some_with, some_is, AreGoodRows, LacksNone}
 use Rattle.bike_readings.proofs.ReadRows.{mapped, few_in, IsMeta, meta_are}
-use Rattle.bike_readings.proofs.TablesRead.{system_table, plans_table, plan_read_off, segments_table, types_table, regions_table, stations_table, docks_table, counts_table, bikes_table, trucks_table}
+use Rattle.bike_readings.proofs.TablesRead.{system_table, plans_table, plan_read_off, segments_table, types_table, regions_table, stations_table, docks_table, bikes_table, trucks_table}
 use Rattle.bike_readings.proofs.TablesRead.{riders_table, names_table, rentals_table, orders_table, entries_table, requests_table}
 
 module _ (t : Tables) (up : AreInOrder t) (rows : AreGoodRows (operator_of t) t) where
@@ -82,7 +80,7 @@ module _ (t : Tables) (up : AreInOrder t) (rows : AreGoodRows (operator_of t) t)
   station_fact : (id : List ℕ) (x : Station) → fin.get s.stations id ≡ Some x → IsStationAt s id x
   station_fact id x found =
       let at = (stations_table t up rows).found id x found in
-      let it = mapped (λ (e : List ℕ × Station × ℤ × ℕ). (e.0, e.1)) (station_read at.item) (id, x) at.read_is in
+      let it = mapped (λ (e : List ℕ × Station × ℤ × ℕ × List ℕ). (e.0, e.1)) (station_read at.item) (id, x) at.read_is in
       let fact = some_is (IsGoodStation s (below_of Stations at.item)) (station_read at.item) it.value (rows Stations at.item at.has) it.value_is in
       subst (λ (e : List ℕ × Station). IsStationAt s e.0 e.1) it.part_is fact.good
 
@@ -371,7 +369,7 @@ module _ (t : Tables) (up : AreInOrder t) (rows : AreGoodRows (operator_of t) t)
         few_entries = entries_within t.entries refl;
       }
 
-  -- ---- docks and counts that are listed
+  -- ---- docks that are listed
 
   dock_listed : (key : DockKey) → fin.contains_key (listed_of t).docks key ≡ true → IsDockKey s key
   dock_listed key known =
@@ -393,29 +391,9 @@ module _ (t : Tables) (up : AreInOrder t) (rows : AreGoodRows (operator_of t) t)
       let listed = (docks_table t up rows).entries_are in
       ap is_some (has_get docks.total (listed_of t).docks (key, tt) (subst (λ (es : List (DockKey × Unit {0})). Has es (key, tt)) (sym listed) has))
 
-  count_listed : (key : Key) → fin.contains_key (listed_of t).counts key ≡ true → IsCountKey s key
-  count_listed key known =
-      let there = there_of (fin.get (listed_of t).counts key) known in
-      let at = (counts_table t up rows).found key there.0 there.1 in
-      let it = mapped (λ (x : List ℕ × List ℕ × ℕ × ℕ). (key_of x.0 x.1, tt)) (count_read at.item) (key, there.0) at.read_is in
-      let fact = some_is (IsGoodCount s (below_of Counts at.item)) (count_read at.item) it.value (rows Counts at.item at.has) it.value_is in
-      record { station = it.value.0; type_id = it.value.1; key_is = ap (λ (x : Key × Unit {0}). x.0) (sym it.part_is); has_station = fact.has_station; has_type = fact.has_type }
-
-  count_pair : (key : Key) (v : Unit {0}) → fin.get (listed_of t).counts key ≡ Some v → IsPair key
-  count_pair key v found = let it = count_listed key (ap is_some found) in record { first = it.station; second = it.type_id; is = it.key_is }
-
-  module _ (lacks : LacksNone (operator_of t) t) where
-    not_listed : (station type_id : List ℕ) → fin.contains_key (listed_of t).counts (key_of station type_id) ≡ false → HasNone s station type_id
-    not_listed station type_id none = lacks Counts (Text station ∷ Text type_id ∷ []) (under (fin.get (listed_of t).counts (key_of station type_id)) refl none) station type_id refl where
-      under : (o : Option (Unit {0})) → fin.get (listed_of t).counts (key_of station type_id) ≡ o → is_some o ≡ false → row_with 2 (Text station ∷ Text type_id ∷ []) t.counts ≡ None
-      under (Some v) e is = absurd cc
-      under None e is =
-          ap (row_with 2 (Text station ∷ Text type_id ∷ [])) (counts_table t up rows).rows_are
-          ∙ found_entries pairs (stored_count s) (λ e. refl) (key_of station type_id) (record { first = station; second = type_id; is = refl }) (listed_of t).counts count_pair
-          ∙ ap (option_map (λ (v : Unit {0}). stored_count s (key_of station type_id, v))) e
-
+  module _ (lacks : LacksNone t) where
     listing : IsListing s (listed_of t)
-    listing = record { docks = dock_listed; marked = broken_listed; counts = count_listed; counted = not_listed }
+    listing = record { docks = dock_listed; marked = broken_listed }
 
     meta : IsMeta s t.meta
     meta = meta_are s t.meta (up Meta) (λ r has. (below_of Meta r, rows Meta r has)) (λ none. lacks Meta (number_value 1 ∷ []) none refl)
@@ -441,7 +419,6 @@ module _ (t : Tables) (up : AreInOrder t) (rows : AreGoodRows (operator_of t) t)
         let orders = (orders_table t up rows).rows_are in
         let entries = (entries_table t up rows).rows_are in
         let history = (requests_table t up rows).rows_are in
-        let counts = (counts_table t up rows).rows_are in
         let more_names = (names_table t up rows).rows_are in
         λ i. record {
           meta = meta_rows i;
@@ -459,7 +436,6 @@ module _ (t : Tables) (up : AreInOrder t) (rows : AreGoodRows (operator_of t) t)
           orders = orders i;
           entries = entries i;
           history = history i;
-          counts = counts i;
           more_names = more_names i;
         }
 

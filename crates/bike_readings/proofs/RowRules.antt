@@ -45,17 +45,18 @@ some_with Fact (Some x) h = record { value = x; value_is = refl; fact = h }
 pub some_is : {A : Type 0} (Fact : A → Type 0) (o : Option A) (x : A) → IsSomeAnd o Fact → o ≡ Some x → Fact x
 some_is {A} Fact o x h is = subst (λ (q : Option A). IsSomeAnd q Fact) is h
 
+-- no row is missing that has to be there
+abbrev pub LacksNone : Tables → Type 0
+LacksNone t = (name : TableName) (key : Row) → row_under t name key ≡ None → MayLack name key
+
 module _ (s : Operator) (t : Tables) where
   abbrev pub AreGoodRows : Type 0
   AreGoodRows = (name : TableName) (row : Row) → Has (rows_in t name) row → IsGoodRow t s (rows_below t name (take (keys_of name) row)) name row
 
-  abbrev pub LacksNone : Type 0
-  LacksNone = (name : TableName) (key : Row) → row_under t name key ≡ None → MayLack s name key
-
   abbrev pub AreGoodKeys : Type 0
   AreGoodKeys = (name : TableName) (key : Row) → IsGoodAt t s name key (rows_below t name key) (row_under t name key)
 
-  pub keys_good : AreGoodRows → LacksNone → AreGoodKeys
+  pub keys_good : AreGoodRows → LacksNone t → AreGoodKeys
   keys_good rows lacks name key = go (row_under t name key) refl where
     go : (o : Option Row) → row_under t name key ≡ o → IsGoodAt t s name key (rows_below t name key) o
     go None e = lacks name key e
@@ -68,5 +69,5 @@ module _ (s : Operator) (t : Tables) where
       subst (IsGoodAt t s name (take (keys_of name) row) (rows_below t name (take (keys_of name) row))) (has_under (keys_of name) (rows_in t name) row (up name) has)
       (all name (take (keys_of name) row))
 
-  pub lacks_none : AreGoodKeys → LacksNone
+  pub lacks_none : AreGoodKeys → LacksNone t
   lacks_none all name key none = subst (IsGoodAt t s name key (rows_below t name key)) none (all name key)

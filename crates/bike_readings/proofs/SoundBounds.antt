@@ -19,17 +19,18 @@ use Rattle.bike_operator.specs.declared.records.Rental.{Rental}
 use Rattle.bike_operator.specs.declared.records.Closing.{Closing}
 use Rattle.bike_operator.specs.declared.records.Order.{Order}
 use Rattle.bike_operator.specs.Operator.{Operator, Station, Truck, Rider, AcceptedRequest, name_key, item_at, item_numbered}
-use Rattle.bike_operator.specs.Counts.{count, docks_up_to, docks_broken, available_of, is_broken}
+use Rattle.bike_operator.specs.Counts.{count, docks_up_to, docks_broken, is_broken}
 use Rattle.bike_operator.specs.View.{has_end, has_region}
 use Rattle.bike_operator.specs.Sound.{IsSetSystem, HasDock, IsPlace, IsStop, IsOpenOrClosed, IsBooking, IsSound}
-use Rattle.bike_laws.specs.SingleSteps.Numbers.{disabled_of}
 use Rattle.bike_laws.proofs.SingleSteps.ItemLemmas.{number_within}
 use Rattle.bike_book.specs.declared.version.TheConstants.{NEWEST}
+use Rattle.bike_book.specs.ByType.{types_at, by_type_text}
 use Rattle.bike_book.specs.Rows.{second_text, third_text}
 use Rattle.bike_readings.specs.SoundRows.{HasBounds}
-use Rattle.bike_readings.specs.Bounds.{IsNumbered, IsSerial, IsCount, IsMoment, IsIdentOrNone, IsStoredMeta, IsStoredPlan, IsStoredSegment, IsStoredType, IsStoredRegion, IsStoredStation, IsStoredDock}
-use Rattle.bike_readings.specs.Bounds.{IsStoredPlace, IsStoredBike, IsStoredTruck, IsOpenOrStored, IsStoredRental, IsStoredOrder, IsStoredRentalOf, IsStoredAmount, IsStoredEntry, IsStoredCount}
+use Rattle.bike_readings.specs.Bounds.{IsNumbered, IsSerial, IsMoment, IsIdentOrNone, IsStoredMeta, IsStoredPlan, IsStoredSegment, IsStoredType, IsStoredRegion, IsStoredStation, IsStoredDock}
+use Rattle.bike_readings.specs.Bounds.{IsStoredPlace, IsStoredBike, IsStoredTruck, IsOpenOrStored, IsStoredRental, IsStoredOrder, IsStoredRentalOf, IsStoredAmount, IsStoredEntry}
 use Rattle.bike_readings.specs.Bounds.{IsStoredRequest, IsStoredName}
+use Rattle.bike_readings.proofs.StationTexts.{station_utf8}
 
 -- ---- what is there
 
@@ -149,13 +150,20 @@ module _ (s : Operator) (sound : IsSound s) where
   named_region None there = tt
   named_region (Some region) there = region_ident region there
 
-  pub station_stored : (id : List ℕ) (x : Station) → fin.get s.stations id ≡ Some x → IsStoredStation id x (docks_broken s id x.row.docks)
+  pub station_stored : (id : List ℕ) (x : Station) → fin.get s.stations id ≡ Some x → IsStoredStation id x (docks_broken s id x.row.docks) (by_type_text (types_at s id))
   station_stored id x found =
       let it = sound.catalogue.stations id x found in
       let few = it.good.few_docks in
       let all = docks_length x.row.docks in
       let broken = filtered_within (λ n. is_broken s id n) (docks_up_to x.row.docks) in
-      record { id_is = it.id_is; good = it.good; reported = by_now x.reported it.by_now; good_broken = omega (arith, few, all, broken); region = named_region x.region it.region }
+      record {
+        id_is = it.id_is;
+        good = it.good;
+        reported = by_now x.reported it.by_now;
+        good_broken = omega (arith, few, all, broken);
+        region = named_region x.region it.region;
+        good_by_type = station_utf8 s sound id;
+      }
 
   carried : (truck order : ℕ) (row : Order) → item_numbered order s.orders ≡ Some row → row.truck ≡ truck → IsNumbered truck × IsSerial order
   carried truck order row found is =
@@ -249,18 +257,6 @@ module _ (s : Operator) (sound : IsSound s) where
       let it = sound.history.requests number a found in
       record { moment = by_now a.moment it.by_now; request = it.request; reply = it.reply; accepted = it.accepted }
 
-  few_bikes : (test : ℕ × Bike → Bool) → IsCount (count test (fin.entries s.bikes))
-  few_bikes test =
-      let within = filtered_within test (fin.entries s.bikes) in
-      let all = fin.len-entries s.bikes in
-      let few = sound.bikes.few in
-      omega (arith, within, all, few)
-
-  pub count_stored : (station type_id : List ℕ) → fin.contains_key s.stations station ≡ true → fin.contains_key s.types type_id ≡ true
-      → IsStoredCount station type_id (available_of s station type_id) (disabled_of s station type_id)
-  count_stored station type_id there typed =
-      record { good_station = station_ident station there; good_type = type_ident type_id typed; good_available = few_bikes _; good_disabled = few_bikes _ }
-
   pub name_stored : (kind : NameKind) (id language name : List ℕ) → fin.get s.more_names (name_key kind id language) ≡ Some name → IsStoredName id (record { language = language; name = name })
   name_stored kind id language name found =
       let it = sound.names.names (name_key kind id language) name found in
@@ -285,6 +281,5 @@ has_bounds s sound = record {
   orders = order_stored s sound;
   entries = entry_stored s sound;
   requests = request_stored s sound;
-  counts = count_stored s sound;
   more_names = name_stored s sound;
 }

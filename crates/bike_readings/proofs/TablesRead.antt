@@ -12,28 +12,28 @@ use Rattle.bike_ledger.specs.Entries.{Entry}
 use Rattle.bike_texts.specs.Fields.{AreSegments}
 use Rattle.bike_operator.specs.declared.records.Bike.{Bike}
 use Rattle.bike_operator.specs.declared.records.Rental.{Rental}
-use Rattle.bike_operator.specs.Operator.{Operator, Key, NameKey, DockKey, dock_key, key_of, name_key, item_at}
+use Rattle.bike_operator.specs.Operator.{Operator, NameKey, DockKey, dock_key, name_key, item_at}
 use Rattle.bike_operator.specs.Sound.{IsPlanAt}
-use Rattle.bike_book.specs.Tables.{Tables, System, Plans, Segments, Types, Regions, Stations, Docks, Bikes, Trucks, Riders, Rentals, Orders, Entries, History, Counts, MoreNames, TableName, keys_of}
+use Rattle.bike_book.specs.Tables.{Tables, System, Plans, Segments, Types, Regions, Stations, Docks, Bikes, Trucks, Riders, Rentals, Orders, Entries, History, MoreNames, TableName, keys_of}
 use Rattle.bike_book.specs.Stored.{plans_segments, stored_plan, stored_type, stored_region, stored_station, stored_dock, stored_bike, stored_truck, stored_rider, stored_rental, stored_order}
-use Rattle.bike_book.specs.Stored.{stored_entry, stored_request, stored_count, stored_name}
-use Rattle.bike_book.proofs.Keys.{numbers, texts, pairs, triples, docks, IsPair, IsTriple, IsDockPair}
-use Rattle.bike_readings.specs.Readings.{plan_read, segment_read, type_read, region_read, dock_read, truck_read, rental_read, order_read, entry_read, request_read, count_read, name_read}
+use Rattle.bike_book.specs.Stored.{stored_entry, stored_request, stored_name}
+use Rattle.bike_book.proofs.Keys.{numbers, texts, triples, docks, IsTriple, IsDockPair}
+use Rattle.bike_readings.specs.Readings.{plan_read, segment_read, type_read, region_read, dock_read, truck_read, rental_read, order_read, entry_read, request_read, name_read}
 use Rattle.bike_readings.proofs.CatalogueRows.{plan_reading, segment_reading, type_reading, region_reading, station_reading, dock_reading, name_reading}
-use Rattle.bike_readings.proofs.LedgerRows.{count_reading, rider_reading, rental_reading, entry_reading}
+use Rattle.bike_readings.proofs.LedgerRows.{rider_reading, rental_reading, entry_reading}
 use Rattle.bike_readings.proofs.FleetRows.{bike_reading, truck_reading, order_reading}
 use Rattle.bike_readings.proofs.RequestRows.{request_reading}
-use Rattle.bike_readings.specs.ReadOff.{with_segments, plan_in, station_in, rider_in, rental_in, entry_in, name_in, dock_in, count_in, segments_of, most_segments, operator_of, listed_of, first_of}
+use Rattle.bike_readings.specs.ReadOff.{with_segments, plan_in, station_in, rider_in, rental_in, entry_in, name_in, dock_in, segments_of, most_segments, operator_of, listed_of, first_of}
 use Rattle.bike_readings.specs.ReadOff.{misplaced_bike, bike_in}
 use Rattle.bike_readings.specs.Demands.{IsGoodPlan, IsGoodSegment, IsGoodType, IsGoodRegion, IsGoodStation, IsGoodDock, IsGoodBike, IsGoodTruck, IsGoodRider, IsGoodRental, IsGoodOrder, IsGoodEntry}
-use Rattle.bike_readings.specs.Demands.{IsGoodRequest, IsGoodCount, IsGoodName}
+use Rattle.bike_readings.specs.Demands.{IsGoodRequest, IsGoodName}
 use Rattle.bike_readings.specs.Rules.{AreInOrder, rows_below}
 use Rattle.bike_readings.proofs.ReadLists.{IsStored, AreRowsOf, read_map}
 use Rattle.bike_readings.proofs.Segments.{IsOfPlan, segments_are, item_found, segment_found, few_found}
 use Rattle.bike_readings.proofs.Broken.{broken_as}
 use Rattle.bike_readings.proofs.RowRules.{some_with, AreGoodRows}
 use Rattle.bike_readings.proofs.ReadRows.{mapped, stored_plain, stored_part, AreRowsOfList, read_list, IsSystemOf, system_are}
-use Rattle.bike_book.specs.Rows.{count_row, dock_row, rental_row, rider_row, station_row}
+use Rattle.bike_book.specs.Rows.{dock_row, rental_row, rider_row, station_row}
 
 are_segments : (gs : List SegmentRow) → ((i : ℕ) (g : SegmentRow) → item_at i gs ≡ Some g → IsSegment g) → AreSegments gs
 are_segments [] each = tt
@@ -101,10 +101,10 @@ module _ (t : Tables) (up : AreInOrder t) (rows : AreGoodRows (operator_of t) t)
   stations_table =
       read_map texts (stored_station s) (λ e. refl) station_in t.stations (up Stations)
       (λ r has. stored_part station_reading (λ e. (e.0, e.1)) (stored_station s) (IsGoodStation s (below_of Stations r)) r (rows Stations r has)
-      (λ a is fact. let free = fact.free_is in let broken = fact.broken_is in λ i. station_row a.0 a.1 (free i) (broken i)))
+      (λ a is fact. let free = fact.free_is in let broken = fact.broken_is in let by_type = fact.by_type_is in λ i. station_row a.0 a.1 (free i) (broken i) (by_type i)))
       (λ r e has is. tt)
 
-  -- ---- docks and counts
+  -- ---- docks
 
   dock_pair : (r : Row) (e : DockKey × Unit {0}) → Has t.docks r → dock_in r ≡ Some e → IsDockPair e.0
   dock_pair r e has is =
@@ -117,18 +117,6 @@ module _ (t : Tables) (up : AreInOrder t) (rows : AreGoodRows (operator_of t) t)
       (λ r has. stored_part dock_reading (λ e. (dock_key e.0 e.1, tt)) (stored_dock s.broken) (IsGoodDock s (below_of Docks r)) r (rows Docks r has)
       (λ a is fact. ap (λ (b : Bool). dock_row a.0 a.1 b) (sym (broken_as t.docks (up Docks) r a.0 a.1 a.2 has is))))
       dock_pair
-
-  count_pair : (r : Row) (e : Key × Unit {0}) → Has t.counts r → count_in r ≡ Some e → IsPair e.0
-  count_pair r e has is =
-      let it = mapped (λ (x : List ℕ × List ℕ × ℕ × ℕ). (key_of x.0 x.1, tt)) (count_read r) e is in
-      record { first = it.value.0; second = it.value.1; is = ap (λ (x : Key × Unit {0}). x.0) (sym it.part_is) }
-
-  pub counts_table : AreRowsOf pairs (stored_count s) (λ e. refl) count_in t.counts (listed_of t).counts
-  counts_table =
-      read_map pairs (stored_count s) (λ e. refl) count_in t.counts (up Counts)
-      (λ r has. stored_part count_reading (λ e. (key_of e.0 e.1, tt)) (stored_count s) (IsGoodCount s (below_of Counts r)) r (rows Counts r has)
-      (λ a is fact. let available = fact.available_is in let disabled = fact.disabled_is in λ i. count_row a.0 a.1 (available i) (disabled i)))
-      count_pair
 
   -- ---- bicycles, trucks, riders
 

@@ -1,8 +1,8 @@
--- The texts of commands and of replies are UTF-8.
+-- The texts of commands, of replies and of bicycles by type are UTF-8.
 use Rattle.std.proofs.Common.{◌≡◌, ℕ, ℤ, suc, pos, negsuc, neg_ℤ, ◌≤◌, ◌<◌, ◌^◌, ◌≤ℤ◌, List, [], ◌∷◌, ◌++◌, map, Bool, true, false, cond, leb, Option, Some, None, refl, sym, subst, inl, inr, arith}
 use Rattle.std.proofs.Common.{codes, decimal}
 use Rattle.std.specs.Fmt.{signed_decimal}
-use Rattle.std.specs.List.{list_all, join_with_byte}
+use Rattle.std.specs.List.{list_all, join_with_byte, AllByRecursion}
 use Rattle.std.specs.Char.{IsScalar, is_ascii_digit}
 use Rattle.std.specs.Str.{IsUtf8, is_utf8, chars, all_scalars}
 use Rattle.std.proofs.Math.Utf8.{encode, encodes}
@@ -13,7 +13,7 @@ use Rattle.std.proofs.lemmas.Str.{IsUtf8-nil, IsUtf8-append, IsUtf8-encode, IsUt
 use Rattle.bike_fixed.specs.Coordinate.{IsCoordinate, minus_text, fraction}
 use Rattle.bike_fixed.specs.Text.{micro_text}
 use Rattle.bike_fixed.proofs.Spellings.{micro_text_spelled}
-use Rattle.bike_fields.specs.Bytes.{is_printable}
+use Rattle.bike_fields.specs.Bytes.{is_ident, is_printable}
 use Rattle.bike_fields.specs.Caller.{IsCaller, caller_text}
 use Rattle.bike_fields.specs.declared.caller.Caller.{Caller}
 use Rattle.bike_fields.specs.declared.caller.Caller.TheVariants.{Office, Rider, Dock, Crew, Import}
@@ -36,6 +36,8 @@ use Rattle.bike_commands.specs.declared.reply.Reply.{Reply}
 use Rattle.bike_commands.specs.declared.reply.Reply.TheVariants.{Done, Balance, Started, Ended, Ordered, Refused}
 use Rattle.bike_commands.specs.Replies.{reply_word, reply_fields, IsReply, reply_text}
 use Rattle.bike_operator.specs.Sound.{is_refused}
+use Rattle.bike_book.specs.declared.by_type.CountedType.{CountedType}
+use Rattle.bike_book.specs.ByType.{counted_text, by_type_text}
 use Rattle.bike_requests.proofs.Escaping.{char_stays, escapes_of-append}
 use Rattle.bike_readings.proofs.ColumnLaws.{ascii_utf8, word_utf8, named_printable, ident_utf8, language_utf8, currency_utf8, ascii_field_utf8, name_utf8}
 
@@ -102,6 +104,25 @@ each_segment_utf8 (s ∷ ss) g = (segment_utf8 s g.0, each_segment_utf8 ss g.1)
 segments_utf8 : (ss : List SegmentRow) → AreSegments ss → IsUtf8 (segments_text ss)
 segments_utf8 [] g = printed (codes "-") refl
 segments_utf8 (s ∷ ss) g = joined_utf8 59 (printed (codes ";") refl) (map segment_text (s ∷ ss)) (each_segment_utf8 (s ∷ ss) g)
+
+-- ---- bicycles by type
+
+-- its type is an identifier, and its counts are numbers of 64 bits
+abbrev pub IsWritten : CountedType → Type 0
+IsWritten c = (is_ident c.type_id ≡ true) × (c.counts.available < 2 ^ 64) × (c.counts.disabled < 2 ^ 64)
+
+counted_utf8 : (c : CountedType) → IsWritten c → IsUtf8 (counted_text c)
+counted_utf8 c g =
+    joined_utf8 58 (printed (codes ":") refl) (c.type_id ∷ decimal c.counts.available ∷ decimal c.counts.disabled ∷ [])
+    (IsUtf8-from_is_utf8 c.type_id (ident_utf8 c.type_id g.0), (decimal_utf8 c.counts.available g.1, (decimal_utf8 c.counts.disabled g.2, tt)))
+
+each_counted_utf8 : (cs : List CountedType) → AllByRecursion IsWritten cs → AllUtf8 (map counted_text cs)
+each_counted_utf8 [] g = tt
+each_counted_utf8 (c ∷ cs) g = (counted_utf8 c g.0, each_counted_utf8 cs g.1)
+
+pub by_type_utf8 : (cs : List CountedType) → AllByRecursion IsWritten cs → is_utf8 (by_type_text cs) ≡ true
+by_type_utf8 [] g = word_utf8 (codes "-") refl
+by_type_utf8 (c ∷ cs) g = is_utf8-from_IsUtf8 (by_type_text (c ∷ cs)) (joined_utf8 59 (printed (codes ";") refl) (map counted_text (c ∷ cs)) (each_counted_utf8 (c ∷ cs) g))
 
 -- ---- texts with escapes
 

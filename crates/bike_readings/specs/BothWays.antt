@@ -13,14 +13,13 @@ use Rattle.bike_operator.specs.Operator.{Station, Truck, Rider, name_key}
 use Rattle.bike_book.specs.Stored.{stored_request}
 use Rattle.bike_book.specs.Rows.{meta_row, system_row, plan_row, segment_row, type_row, region_row, station_row}
 use Rattle.bike_book.specs.Rows.{dock_row, bike_row, truck_row, rider_row, rental_row, order_row, entry_row}
-use Rattle.bike_book.specs.Rows.{count_row, name_row}
+use Rattle.bike_book.specs.Rows.{name_row}
 use Rattle.bike_readings.specs.Readings.{meta_read, system_read, plan_read, segment_read, type_read, region_read}
 use Rattle.bike_readings.specs.Readings.{station_read, dock_read, bike_read, truck_read, rider_read, rental_read}
-use Rattle.bike_readings.specs.Readings.{order_read, entry_read, request_read, count_read, name_read}
+use Rattle.bike_readings.specs.Readings.{order_read, entry_read, request_read, name_read}
 use Rattle.bike_readings.specs.Bounds.{IsNumbered, IsStoredMeta, IsStoredPlan, IsStoredSegment, IsStoredType}
 use Rattle.bike_readings.specs.Bounds.{IsStoredRegion, IsStoredStation, IsStoredDock, IsStoredBike, IsStoredTruck}
-use Rattle.bike_readings.specs.Bounds.{IsStoredRental, IsStoredOrder, IsStoredEntry, IsStoredRequest, IsStoredCount}
-use Rattle.bike_readings.specs.Bounds.{IsStoredName}
+use Rattle.bike_readings.specs.Bounds.{IsStoredRental, IsStoredOrder, IsStoredEntry, IsStoredRequest, IsStoredName}
 
 -- The reader gives exactly the values within their bounds of which rows are made.
 pub record IsReading {X : Type 0} (read : Row → Option X) (row_of : X → Row) (Good : X → Type 0) : Type 0 where
@@ -50,8 +49,8 @@ RegionReading = IsReading region_read (λ (x : List ℕ × RegionRow). region_ro
 
 abbrev pub StationReading : Type 0
 StationReading =
-    IsReading station_read (λ (x : List ℕ × Station × ℤ × ℕ). station_row x.0 x.1 x.2 x.3)
-    (λ x. IsStoredStation x.0 x.1 x.3)
+    IsReading station_read (λ (x : List ℕ × Station × ℤ × ℕ × List ℕ). station_row x.0 x.1 x.2 x.3 x.4)
+    (λ x. IsStoredStation x.0 x.1 x.3 x.4)
 
 abbrev pub DockReading : Type 0
 DockReading = IsReading dock_read (λ (x : List ℕ × ℕ × Bool). dock_row x.0 x.1 x.2) (λ x. IsStoredDock x.0 x.1)
@@ -77,11 +76,6 @@ EntryReading = IsReading entry_read (λ (e : Entry). entry_row e.number e) IsSto
 -- an accepted request with its number
 abbrev pub RequestReading : Type 0
 RequestReading = IsReading request_read stored_request IsStoredRequest
-
-abbrev pub CountReading : Type 0
-CountReading =
-    IsReading count_read (λ (x : List ℕ × List ℕ × ℕ × ℕ). count_row x.0 x.1 x.2 x.3)
-    (λ x. IsStoredCount x.0 x.1 x.2 x.3)
 
 -- a name under what has it and its language
 abbrev pub NameReading : Type 0

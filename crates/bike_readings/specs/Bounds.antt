@@ -1,5 +1,6 @@
 -- The bounds that the records of stored rows keep, each of which the row alone tells.
 use Rattle.std.specs.Prelude.{◌≡◌, ℕ, ℤ, pos, ◌≤◌, ◌≤ℤ◌, List, true, false, Option, Some, None}
+use Rattle.std.specs.Str.{is_utf8}
 use Rattle.bike_fixed.specs.Whole.{last_moment}
 use Rattle.bike_fields.specs.declared.numbers.TheConstants.{GREATEST_NUMBER, GREATEST_SERIAL, MOST_CARRIED, MOST_DOCKS}
 use Rattle.bike_fields.specs.Bytes.{is_ident}
@@ -76,12 +77,13 @@ pub record IsStoredRegion (id : List ℕ) (r : RegionRow) : Type 0 where
   pub id_is : id ≡ r.region_id
   pub good : IsRegion r
 
-pub record IsStoredStation (id : List ℕ) (x : Station) (broken : ℕ) : Type 0 where
+pub record IsStoredStation (id : List ℕ) (x : Station) (broken : ℕ) (by_type : List ℕ) : Type 0 where
   pub id_is : id ≡ x.row.station_id
   pub good : IsStation x.row
   pub reported : IsMoment x.reported
   pub good_broken : IsCount broken
   pub region : IsIdentOrNone x.region
+  pub good_by_type : is_utf8 by_type ≡ true
 
 pub record IsStoredDock (station : List ℕ) (dock : ℕ) : Type 0 where
   pub good_station : is_ident station ≡ true
@@ -153,12 +155,6 @@ pub record IsStoredRequest (e : ℕ × AcceptedRequest) : Type 0 where
   pub request : IsRequest e.1.request
   pub reply : IsReply e.1.reply
   pub accepted : is_refused e.1.reply ≡ false
-
-pub record IsStoredCount (station type_id : List ℕ) (available disabled : ℕ) : Type 0 where
-  pub good_station : is_ident station ≡ true
-  pub good_type : is_ident type_id ≡ true
-  pub good_available : IsCount available
-  pub good_disabled : IsCount disabled
 
 pub record IsStoredName (id : List ℕ) (m : MoreNameRow) : Type 0 where
   pub good_id : is_ident id ≡ true

@@ -22,6 +22,7 @@
 --   a request after now, or of a moment before the last         the request
 --   two requests of one caller and key                          the later request
 --   a number stored beside a record that isn't the figure       the row that has it
+--   a text of bicycles by type that isn't the station's         the row that has it
 use Rattle.std.specs.Prelude.{◌≡◌, ℕ, ℤ, ◌+◌, ◌<◌, ◌≤◌, ◌≤ℤ◌, pos, List, Bool, true, false, filter, length, Option}
 use Rattle.std.specs.Prelude.{Some, None, is_some, IfSome, take}
 use Rattle.std.specs.Ordering.{is_lt}
@@ -45,12 +46,12 @@ use Rattle.bike_operator.specs.declared.records.Closing.{Closing}
 use Rattle.bike_operator.specs.declared.records.Order.{Order}
 use Rattle.bike_operator.specs.Operator.{Operator, Station, Truck, Rider, AcceptedRequest, text_cmp, item_numbered}
 use Rattle.bike_operator.specs.Operator.{key_in, kept_under}
-use Rattle.bike_operator.specs.Counts.{is_open, is_retired, open_rentals, docks_available, docks_broken, available_of}
+use Rattle.bike_operator.specs.Counts.{is_open, is_retired, open_rentals, docks_available, docks_broken}
 use Rattle.bike_operator.specs.Names.{has_named, is_own_language, further_names}
 use Rattle.bike_operator.specs.Sound.{IsTypeAt, IsStationAt, HasDock, IsTruckAt, IsOrderAt, IsOpenOrClosed}
 use Rattle.bike_operator.specs.Sound.{most_refunded, fares_of, IsRiderNumber, IsEntryAt}
-use Rattle.bike_laws.specs.SingleSteps.Numbers.{disabled_of}
 use Rattle.bike_book.specs.declared.version.TheConstants.{NEWEST}
+use Rattle.bike_book.specs.ByType.{types_at, by_type_text}
 use Rattle.bike_book.specs.Tables.{Tables}
 use Rattle.bike_readings.specs.ReadOff.{rental_at, order_at}
 
@@ -156,11 +157,12 @@ module _ (s : Operator) (below : ℕ) where
   pub record IsGoodRegion (e : List ℕ × RegionRow) : Type 0 where
     pub room : below < MOST_REGIONS
 
-  pub record IsGoodStation (e : List ℕ × Station × ℤ × ℕ) : Type 0 where
+  pub record IsGoodStation (e : List ℕ × Station × ℤ × ℕ × List ℕ) : Type 0 where
     pub room : below < MOST_STATIONS
     pub good : IsStationAt s e.0 e.1
     pub free_is : e.2 ≡ pos (docks_available s e.0 e.1.row.docks)
     pub broken_is : e.3 ≡ docks_broken s e.0 e.1.row.docks
+    pub by_type_is : e.4 ≡ by_type_text (types_at s e.0)
 
   abbrev pub IsGoodDock : List ℕ × ℕ × Bool → Type 0
   IsGoodDock e = HasDock s e.0 e.1
@@ -203,7 +205,7 @@ module _ (s : Operator) (below : ℕ) where
     pub room : below < MOST_ORDERS
     pub good : IsOrderAt s e.0 e.1
 
-  -- ---- entries, accepted requests and counts
+  -- ---- entries and accepted requests
 
   pub record IsGoodEntry (e : Entry) : Type 0 where
     pub number_is : e.number ≡ below + 1
@@ -217,9 +219,3 @@ module _ (s : Operator) (below : ℕ) where
     pub by_now : e.1.moment ≤ s.now
     pub in_order : IfSome (item_numbered below s.history) (λ a. a.moment ≤ e.1.moment)
     pub anew : kept_under (key_in e.1.request) (take below s.history) ≡ None
-
-  pub record IsGoodCount (e : List ℕ × List ℕ × ℕ × ℕ) : Type 0 where
-    pub has_station : fin.contains_key s.stations e.0 ≡ true
-    pub has_type : fin.contains_key s.types e.1 ≡ true
-    pub available_is : e.2 ≡ available_of s e.0 e.1
-    pub disabled_is : e.3 ≡ disabled_of s e.0 e.1

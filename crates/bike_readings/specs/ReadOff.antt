@@ -1,5 +1,5 @@
--- The operator that is read off tables, and which docks and counts have
--- a row there: what the rows spell. A row that spells nothing is absent.
+-- The operator that is read off tables, and which docks have a row
+-- there: what the rows spell. A row that spells nothing is absent.
 -- No sum and no count is read: they are figures of the records.
 use Rattle.std.specs.Prelude.{ℕ, zero, suc, List, [], ◌∷◌, map, if◌then◌else◌, Option, Some, None, option_map}
 use Rattle.std.specs.Prelude.{option_and_then, unwrap_or}
@@ -18,7 +18,7 @@ use Rattle.bike_operator.specs.declared.records.Place.TheVariants as place
 use Rattle.bike_operator.specs.declared.records.Bike.{Bike}
 use Rattle.bike_operator.specs.declared.records.Rental.{Rental}
 use Rattle.bike_operator.specs.declared.records.Order.{Order}
-use Rattle.bike_operator.specs.Operator.{Operator, Station, Rider, Key, NameKey, DockKey, key_of, name_key, dock_key}
+use Rattle.bike_operator.specs.Operator.{Operator, Station, Rider, NameKey, DockKey, name_key, dock_key}
 use Rattle.bike_sql.specs.View.{row_with}
 use Rattle.bike_book.specs.Tables.{Tables}
 use Rattle.bike_book.specs.Rows.{number_value}
@@ -27,7 +27,7 @@ use Rattle.bike_schema.specs.Columns.{ident_in, state_in, or_none}
 use Rattle.bike_readings.specs.ColumnReaders.{where_wide, numbered_in, serial_in, dock_in as dock_number_in}
 use Rattle.bike_readings.specs.Readings.{meta_read, system_read, plan_read, segment_read, type_read, region_read}
 use Rattle.bike_readings.specs.Readings.{station_read, dock_read, bike_read, truck_read, rider_read, rental_read}
-use Rattle.bike_readings.specs.Readings.{order_read, entry_read, request_read, count_read, name_read}
+use Rattle.bike_readings.specs.Readings.{order_read, entry_read, request_read, name_read}
 
 abbrev pub first : {A : Type 0} → List A → Option A
 first [] = None
@@ -141,7 +141,7 @@ rental_at t n = option_map (λ e. e.1) (option_and_then rental_in (row_with 1 (n
 abbrev pub order_at : Tables → ℕ → Option Order
 order_at t n = option_map (λ e. e.1) (option_and_then order_read (row_with 1 (number_value n ∷ []) t.orders))
 
--- ---- docks and counts
+-- ---- docks
 
 -- the dock that has the row
 abbrev pub dock_in : Row → Option (DockKey × Unit {0})
@@ -150,10 +150,6 @@ dock_in row = option_map (λ e. (dock_key e.0 e.1, tt)) (dock_read row)
 -- .. where it is broken
 abbrev pub broken_in : Row → Option DockKey
 broken_in row = option_and_then (λ e. if e.2 then Some (dock_key e.0 e.1) else None) (dock_read row)
-
--- the station and the type that have the row
-abbrev pub count_in : Row → Option (Key × Unit {0})
-count_in row = option_map (λ e. (key_of e.0 e.1, tt)) (count_read row)
 
 -- ---- the operator
 
@@ -181,10 +177,6 @@ operator_of t = record {
   now = moment_of t.meta;
 }
 
--- which docks and which counts have a row
+-- which docks have a row
 abbrev pub listed_of : Tables → Listed
-listed_of t =
-    record {
-      docks = fin.from_sorted (filter_map dock_in t.docks);
-      counts = fin.from_sorted (filter_map count_in t.counts);
-    }
+listed_of t = record { docks = fin.from_sorted (filter_map dock_in t.docks) }

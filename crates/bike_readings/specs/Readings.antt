@@ -15,8 +15,8 @@ use Rattle.bike_operator.specs.declared.records.Bike.{Bike}
 use Rattle.bike_operator.specs.declared.records.Rental.{Rental}
 use Rattle.bike_operator.specs.declared.records.Order.{Order}
 use Rattle.bike_operator.specs.Operator.{Station, Truck, Rider, AcceptedRequest}
-use Rattle.bike_schema.specs.Columns.{number_in, moment_in, flag_in, state_in, whole_in, ident_in, name_in, or_none}
-use Rattle.bike_schema.specs.Columns.{request_count_in}
+use Rattle.bike_schema.specs.Columns.{number_in, moment_in, flag_in, state_in, whole_in, text_in, ident_in, name_in}
+use Rattle.bike_schema.specs.Columns.{or_none, request_count_in}
 use Rattle.bike_readings.specs.ColumnReaders.{where_wide, language_in, currency_in, ascii_in, key_in, caller_in}
 use Rattle.bike_readings.specs.ColumnReaders.{form_in, propulsion_in, named_kind_in, end_in, word_in, command_in}
 use Rattle.bike_readings.specs.ColumnReaders.{reply_in, rate_in, latitude_in, longitude_in, greatest_count, count_in}
@@ -116,9 +116,9 @@ region_read row = where_wide 2 row (do
   name ← name_in (column row 1)
   Some (region_id, record { region_id = region_id; name = name }))
 
--- with its numbers of docks that are available and that are broken
-abbrev pub station_read : Row → Option (List ℕ × Station × ℤ × ℕ)
-station_read row = where_wide 12 row (do
+-- with its numbers of docks that are available and that are broken, and the text that stands for its bicycles by type
+abbrev pub station_read : Row → Option (List ℕ × Station × ℤ × ℕ × List ℕ)
+station_read row = where_wide 13 row (do
   station_id ← ident_in (column row 0)
   name ← name_in (column row 1)
   lat ← latitude_in (column row 2)
@@ -131,6 +131,7 @@ station_read row = where_wide 12 row (do
   free ← whole_in (column row 9)
   broken ← count_in (column row 10)
   region ← or_none ident_in (column row 11)
+  by_type ← text_in (column row 12)
   Some (
     station_id,
     record {
@@ -143,6 +144,7 @@ station_read row = where_wide 12 row (do
     },
     free,
     broken,
+    by_type,
   ))
 
 -- the station, the dock and whether it is broken
@@ -245,15 +247,6 @@ request_read row = where_wide 6 row (do
     number,
     record { moment = moment; request = record { caller = caller; key = key; command = command }; reply = reply },
   ))
-
--- a station, a type, and how many of its bicycles there can be rented and how many can't
-abbrev pub count_read : Row → Option (List ℕ × List ℕ × ℕ × ℕ)
-count_read row = where_wide 4 row (do
-  station ← ident_in (column row 0)
-  type_id ← ident_in (column row 1)
-  available ← count_in (column row 2)
-  disabled ← count_in (column row 3)
-  Some (station, type_id, available, disabled))
 
 -- what has the name, by its kind and its identifier; the language and the name
 abbrev pub name_read : Row → Option (NameKind × List ℕ × MoreNameRow)

@@ -1,27 +1,25 @@
 -- The rules of the audit: when a key of a table is good, and the verdict on tables.
-use Rattle.std.specs.Prelude.{◌≡◌, ℕ, ◌<◌, List, [], ◌∷◌, take, Option, Some, None, IfSome, IsSomeAnd}
+use Rattle.std.specs.Prelude.{◌≡◌, ℕ, ◌<◌, [], ◌∷◌, take, Option, Some, None, IfSome, IsSomeAnd}
 use Rattle.std.specs.Ordering.{is_lt}
 use Rattle.std.specs.declared.cmp.Ordering.TheVariants.{Less}
-use Rattle.sqlite_value.specs.declared.value.Value.TheVariants.{Text}
 use Rattle.sqlite_value.specs.Order.{Row, row_cmp}
 use Rattle.sqlite_trees.specs.Tree.{IsAscending}
 use Rattle.bike_sql.specs.View.{by_key, row_with}
 use Rattle.bike_operator.specs.Operator.{Operator}
-use Rattle.bike_operator.specs.Counts.{count, available_of}
+use Rattle.bike_operator.specs.Counts.{count}
 use Rattle.bike_operator.specs.Sound.{IsSound}
-use Rattle.bike_laws.specs.SingleSteps.Numbers.{disabled_of}
 use Rattle.bike_book.specs.Tables.{TableName, Tables, rows_in, keys_of, table_place, Meta, System, Plans, Segments}
 use Rattle.bike_book.specs.Tables.{Types, Regions, Stations, Docks, Bikes, Trucks, Riders, Rentals, Orders, Entries}
-use Rattle.bike_book.specs.Tables.{History, Counts, MoreNames}
+use Rattle.bike_book.specs.Tables.{History, MoreNames}
 use Rattle.bike_book.specs.Rows.{number_value}
 use Rattle.bike_book.specs.Stored.{Listed, IsListing, tables_for}
 use Rattle.bike_readings.specs.Readings.{meta_read, system_read, plan_read, segment_read, type_read, region_read}
 use Rattle.bike_readings.specs.Readings.{station_read, dock_read, bike_read, truck_read, rider_read, rental_read}
-use Rattle.bike_readings.specs.Readings.{order_read, entry_read, request_read, count_read, name_read}
+use Rattle.bike_readings.specs.Readings.{order_read, entry_read, request_read, name_read}
 use Rattle.bike_readings.specs.ReadOff.{operator_of}
 use Rattle.bike_readings.specs.Demands.{IsGoodMeta, IsGoodPlan, IsGoodSegment, IsGoodType, IsGoodRegion, IsGoodStation}
 use Rattle.bike_readings.specs.Demands.{IsGoodDock, IsGoodBike, IsGoodTruck, IsGoodRider, IsGoodRental, IsGoodOrder}
-use Rattle.bike_readings.specs.Demands.{IsGoodEntry, IsGoodRequest, IsGoodCount, IsGoodName}
+use Rattle.bike_readings.specs.Demands.{IsGoodEntry, IsGoodRequest, IsGoodName}
 
 -- ---- tables
 
@@ -55,21 +53,15 @@ IsGoodRow t s below Rentals row = IsSomeAnd (rental_read row) (IsGoodRental s be
 IsGoodRow t s below Orders row = IsSomeAnd (order_read row) (IsGoodOrder s below)
 IsGoodRow t s below Entries row = IsSomeAnd (entry_read row) (IsGoodEntry s below)
 IsGoodRow t s below History row = IsSomeAnd (request_read row) (IsGoodRequest s below)
-IsGoodRow t s below Counts row = IsSomeAnd (count_read row) (IsGoodCount s below)
 IsGoodRow t s below MoreNames row = IsSomeAnd (name_read row) (IsGoodName s below)
 
--- the station has no bicycle of the type
-abbrev pub HasNone : Operator → List ℕ → List ℕ → Type 0
-HasNone s station type_id = (available_of s station type_id ≡ 0) × (disabled_of s station type_id ≡ 0)
-
--- There need be no row under the key: only row 1 of meta has to be there, and counts that aren't 0 and 0.
-abbrev pub MayLack : Operator → TableName → Row → Type 0
-MayLack s Meta key = key ≡ number_value 1 ∷ [] → ⊥
-MayLack s Counts key = (station type_id : List ℕ) → key ≡ Text station ∷ Text type_id ∷ [] → HasNone s station type_id
-MayLack s _ key = Unit {0}
+-- There need be no row under the key: only row 1 of meta has to be there.
+abbrev pub MayLack : TableName → Row → Type 0
+MayLack Meta key = key ≡ number_value 1 ∷ [] → ⊥
+MayLack _ key = Unit {0}
 
 abbrev pub IsGoodAt : Tables → Operator → TableName → Row → ℕ → Option Row → Type 0
-IsGoodAt t s name key below None = MayLack s name key
+IsGoodAt t s name key below None = MayLack name key
 IsGoodAt t s name key below (Some row) = IsGoodRow t s below name row
 
 -- A KEY OF A TABLE IS GOOD.
@@ -94,7 +86,7 @@ abbrev pub IsVerdict : Tables → Option (TableName × Row) → Type 0
 IsVerdict t None = AllGood t
 IsVerdict t (Some bad) = IsFirstBad t bad.0 bad.1
 
--- The tables are those of the operator, who is sound, with rows for these docks and counts.
+-- The tables are those of the operator, who is sound, with rows for these docks.
 pub record AreOf (t : Tables) (s : Operator) (m : Listed) : Type 0 where
   pub sound : IsSound s
   pub listing : IsListing s m

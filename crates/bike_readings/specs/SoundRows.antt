@@ -1,5 +1,5 @@
 -- Which bounds the records of a sound operator keep as rows.
-use Rattle.std.specs.Prelude.{◌≡◌, ℕ, ◌+◌, List, true, Some}
+use Rattle.std.specs.Prelude.{◌≡◌, ℕ, ◌+◌, List, Some}
 use Rattle.std.specs.FinMap as fin
 use Rattle.bike_fields.specs.Values.{SegmentRow}
 use Rattle.bike_catalogue.specs.Rows.{PlanRow, TypeRow, RegionRow, SystemRow, IsSystem}
@@ -10,14 +10,13 @@ use Rattle.bike_operator.specs.declared.records.Rental.{Rental}
 use Rattle.bike_operator.specs.declared.records.Order.{Order}
 use Rattle.bike_operator.specs.Operator.{Operator, Station, Truck, Rider, AcceptedRequest, name_key, item_at}
 use Rattle.bike_operator.specs.Operator.{item_numbered}
-use Rattle.bike_operator.specs.Counts.{docks_broken, available_of}
+use Rattle.bike_operator.specs.Counts.{docks_broken}
 use Rattle.bike_operator.specs.Sound.{HasDock}
-use Rattle.bike_laws.specs.SingleSteps.Numbers.{disabled_of}
 use Rattle.bike_book.specs.declared.version.TheConstants.{NEWEST}
+use Rattle.bike_book.specs.ByType.{types_at, by_type_text}
 use Rattle.bike_readings.specs.Bounds.{IsNumbered, IsStoredMeta, IsStoredPlan, IsStoredSegment, IsStoredType}
 use Rattle.bike_readings.specs.Bounds.{IsStoredRegion, IsStoredStation, IsStoredDock, IsStoredBike, IsStoredTruck}
-use Rattle.bike_readings.specs.Bounds.{IsStoredRental, IsStoredOrder, IsStoredEntry, IsStoredRequest, IsStoredCount}
-use Rattle.bike_readings.specs.Bounds.{IsStoredName}
+use Rattle.bike_readings.specs.Bounds.{IsStoredRental, IsStoredOrder, IsStoredEntry, IsStoredRequest, IsStoredName}
 
 -- Each record keeps the bounds of its row. The segment at position n of its plan, from 0, has the number n + 1.
 pub record HasBounds (s : Operator) : Type 0 where
@@ -29,7 +28,7 @@ pub record HasBounds (s : Operator) : Type 0 where
   pub types : (id : List ℕ) (t : TypeRow) → fin.get s.types id ≡ Some t → IsStoredType id t
   pub regions : (id : List ℕ) (r : RegionRow) → fin.get s.regions id ≡ Some r → IsStoredRegion id r
   pub stations : (id : List ℕ) (x : Station) → fin.get s.stations id ≡ Some x
-      → IsStoredStation id x (docks_broken s id x.row.docks)
+      → IsStoredStation id x (docks_broken s id x.row.docks) (by_type_text (types_at s id))
   pub docks : (station : List ℕ) (dock : ℕ) → HasDock s station dock → IsStoredDock station dock
   pub bikes : (number : ℕ) (b : Bike) → fin.get s.bikes number ≡ Some b → IsStoredBike number b
   pub trucks : (number : ℕ) (t : Truck) → fin.get s.trucks number ≡ Some t → IsStoredTruck number t
@@ -39,9 +38,6 @@ pub record HasBounds (s : Operator) : Type 0 where
   pub entries : (number : ℕ) (e : Entry) → item_numbered number s.entries ≡ Some e → IsStoredEntry e
   pub requests : (number : ℕ) (a : AcceptedRequest) → item_numbered number s.history ≡ Some a
       → IsStoredRequest (number, a)
-  pub counts : (station type_id : List ℕ) → fin.contains_key s.stations station ≡ true
-      → fin.contains_key s.types type_id ≡ true
-      → IsStoredCount station type_id (available_of s station type_id) (disabled_of s station type_id)
   pub more_names : (kind : NameKind) (id language name : List ℕ)
       → fin.get s.more_names (name_key kind id language) ≡ Some name
       → IsStoredName id (record { language = language; name = name })

@@ -22,7 +22,6 @@ use Rattle.bike_readings.specs.declared.names.StoredName.{StoredName}
 use Rattle.bike_readings.specs.declared.network.StoredRegion.{StoredRegion}
 use Rattle.bike_readings.specs.declared.network.StoredStation.{StoredStation}
 use Rattle.bike_readings.specs.declared.network.StoredDock.{StoredDock}
-use Rattle.bike_readings.specs.declared.network.StoredCounts.{StoredCounts}
 use Rattle.bike_readings.specs.declared.fleet.StoredPlace.{StoredPlace}
 use Rattle.bike_readings.specs.declared.fleet.StoredPlace.TheVariants as stored
 use Rattle.bike_readings.specs.declared.fleet.StoredBike.{StoredBike}
@@ -85,7 +84,7 @@ type_of x = (
 abbrev pub region_of : StoredRegion → List ℕ × RegionRow
 region_of x = (x.region_id.now, record { region_id = x.region_id.now; name = x.name.now })
 
-abbrev pub station_of : StoredStation → List ℕ × Station × ℤ × ℕ
+abbrev pub station_of : StoredStation → List ℕ × Station × ℤ × ℕ × List ℕ
 station_of x = (
   x.station_id.now,
   record {
@@ -98,13 +97,11 @@ station_of x = (
   },
   x.free,
   x.broken,
+  x.by_type.now,
 )
 
 abbrev pub dock_of : StoredDock → List ℕ × ℕ × Bool
 dock_of x = (x.station.now, x.dock, x.is_broken)
-
-abbrev pub counts_of : StoredCounts → List ℕ × List ℕ × ℕ × ℕ
-counts_of x = (x.station.now, x.type_id.now, x.available, x.disabled)
 
 abbrev pub name_of : StoredName → NameKind × List ℕ × MoreNameRow
 name_of x = (x.kind, x.id.now, record { language = x.language.now; name = x.name.now })

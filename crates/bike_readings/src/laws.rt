@@ -5,7 +5,7 @@ ghost use Rattle.bike_operator.specs.Sound.{IsSound};
 ghost use Rattle.bike_readings.specs.BothWays.{MetaReading, SystemReading, PlanReading, SegmentReading, TypeReading};
 ghost use Rattle.bike_readings.specs.BothWays.{RegionReading, StationReading, DockReading, BikeReading, TruckReading};
 ghost use Rattle.bike_readings.specs.BothWays.{RiderReading, RentalReading, OrderReading, EntryReading, RequestReading};
-ghost use Rattle.bike_readings.specs.BothWays.{CountReading, NameReading};
+ghost use Rattle.bike_readings.specs.BothWays.{NameReading};
 ghost use Rattle.bike_readings.specs.SoundRows.{HasBounds};
 
 /// The law of readings: what a row spells is that of which it is made, and each record within its bounds is spelled by
@@ -29,8 +29,7 @@ pub fn reads_both_ways()
     ensures orders { OrderReading }
     ensures entries { EntryReading }
     ensures history { RequestReading }
-    // Counts at stations, and names in further languages.
-    ensures counts { CountReading }
+    // Names in further languages.
     ensures more_names { NameReading }
 {}
 

@@ -34,9 +34,6 @@ pub use ledger::{
     StoredClosing, StoredEntry, StoredRental, StoredRider, read_entry, read_rental, read_rider,
 };
 pub use names::{StoredName, read_name};
-pub use network::{
-    StoredCounts, StoredDock, StoredRegion, StoredStation, read_counts, read_dock, read_region,
-    read_station,
-};
+pub use network::{StoredDock, StoredRegion, StoredStation, read_dock, read_region, read_station};
 pub use part::Part;
 pub use rules::{rules_law, stored_law, verdict_law};

@@ -1,14 +1,15 @@
-//! The rows of regions, stations, docks and counts.
+//! The rows of regions, stations and docks.
 
 ghost use Rattle.std.specs.Prelude.{◌≡◌, option_map};
-ghost use Rattle.bike_readings.specs.Readings.{region_read, station_read, dock_read, count_read};
-ghost use Rattle.bike_readings.specs.Views.{region_of, station_of, dock_of, counts_of};
+ghost use Rattle.bike_readings.specs.Readings.{region_read, station_read, dock_read};
+ghost use Rattle.bike_readings.specs.Views.{region_of, station_of, dock_of};
 
 use crate::columns::{
     cents_in, flag_in, ident_in, ident_or_none_in, moment_in, name_in, number_in, signed_in,
+    text_in,
 };
 use crate::part::Part;
-use bike_book::columns::{counts, docks, regions, stations};
+use bike_book::columns::{docks, regions, stations};
 use bike_fields::{DockCount, DockNumber, GREATEST_LATITUDE};
 use bike_fixed::{GREATEST_COORDINATE, Moment, Within};
 
@@ -19,7 +20,7 @@ pub struct StoredRegion<'a> {
     pub name: &'a str,
 }
 
-/// A row of `stations_3`.
+/// A row of `stations_4`.
 #[derive(Clone, Copy)]
 pub struct StoredStation<'a> {
     pub station_id: &'a str,
@@ -41,6 +42,8 @@ pub struct StoredStation<'a> {
     pub broken: Within<0, 4_294_967_295>,
     /// The region in which it stands, if any.
     pub region: Option<&'a str>,
+    /// Its bicycles by type, as the row has them.
+    pub by_type: &'a str,
 }
 
 /// A row of `docks`.
@@ -51,17 +54,6 @@ pub struct StoredDock<'a> {
     /// Its number there.
     pub dock: DockNumber,
     pub is_broken: bool,
-}
-
-/// A row of `counts`.
-#[derive(Clone, Copy)]
-pub struct StoredCounts<'a> {
-    pub station: &'a str,
-    pub type_id: &'a str,
-    /// How many of the type's bicycles at the station can be rented, as the row has it.
-    pub available: Within<0, 4_294_967_295>,
-    /// How many of them can't.
-    pub disabled: Within<0, 4_294_967_295>,
 }
 
 /// What a row of `regions` spells.
@@ -76,7 +68,7 @@ pub fn read_region(part: Part<'_>) -> Option<StoredRegion<'_>>
     Some(StoredRegion { region_id, name })
 }
 
-/// What a row of `stations_3` spells.
+/// What a row of `stations_4` spells.
 pub fn read_station(part: Part<'_>) -> Option<StoredStation<'_>>
     ensures { option_map station_of result ≡ station_read part.entry }
 {
@@ -105,6 +97,7 @@ pub fn read_station(part: Part<'_>) -> Option<StoredStation<'_>>
     let free = cents_in(&part, stations::FREE)?;
     let broken = number_in(&part, stations::BROKEN)?;
     let region = ident_or_none_in(&part, stations::REGION_ID)?;
+    let by_type = text_in(&part, stations::BY_TYPE)?;
     Some(StoredStation {
         station_id,
         name,
@@ -118,6 +111,7 @@ pub fn read_station(part: Part<'_>) -> Option<StoredStation<'_>>
         free: free.hundredths(),
         broken,
         region,
+        by_type,
     })
 }
 
@@ -135,24 +129,5 @@ pub fn read_dock(part: Part<'_>) -> Option<StoredDock<'_>>
         station,
         dock,
         is_broken,
-    })
-}
-
-/// What a row of `counts` spells.
-pub fn read_counts(part: Part<'_>) -> Option<StoredCounts<'_>>
-    ensures { option_map counts_of result ≡ count_read part.entry }
-{
-    if part.column_count() != counts::COLUMNS {
-        return None;
-    }
-    let station = ident_in(&part, counts::STATION_ID)?;
-    let type_id = ident_in(&part, counts::TYPE_ID)?;
-    let available = number_in(&part, counts::AVAILABLE)?;
-    let disabled = number_in(&part, counts::DISABLED)?;
-    Some(StoredCounts {
-        station,
-        type_id,
-        available,
-        disabled,
     })
 }

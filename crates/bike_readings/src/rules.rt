@@ -4,7 +4,7 @@ ghost use Rattle.bike_readings.specs.Laws.{GoodAreOf, OfAreGood, OfIsReadOff, Ba
 ghost use Rattle.bike_readings.specs.Laws.{StoredGood, StoredReadOff, StoredBad};
 
 /// The law of the rules: tables in the order of their keys are those of a sound operator exactly where all their keys
-/// are good. Then what is read off them is the operator, and which docks and counts have a row.
+/// are good. Then what is read off them is the operator, and which docks have a row.
 pub fn rules_law()
     ensures sound { GoodAreOf }
     ensures complete { OfAreGood }

@@ -1,4 +1,4 @@
-pub mod StationsTexts
+pub mod OldTexts
 pub mod KeptTexts
 pub mod KeptLemmas
 pub mod StandsLemmas

@@ -14,7 +14,7 @@ use Rattle.bike_sql.specs.Reads.{draft_of, of_query, one_select, IsDraft}
 use Rattle.bike_sql.proofs.ReadLaws.{select_is}
 use Rattle.bike_sql.specs.Layout.{Layout, table_of}
 use Rattle.bike_sql.proofs.TextLemmas.{IsSelect, Drafts, alone, select_means}
-use Rattle.bike_book.specs.Tables.{Meta, System, Plans, Segments, Types, Regions, Stations, Docks, Bikes, Trucks, Riders, Rentals, Orders, Entries, History, Counts, MoreNames}
+use Rattle.bike_book.specs.Tables.{Meta, System, Plans, Segments, Types, Regions, Stations, Docks, Bikes, Trucks, Riders, Rentals, Orders, Entries, History, MoreNames}
 use Rattle.bike_schema.specs.Layouts.{layout_of}
 use Rattle.bike_recognition.specs.Rowids.{rowids_query}
 use Rattle.bike_recognition.specs.Wanted.{AsksRowidsOf}
@@ -133,7 +133,7 @@ regions_asked = (λ tree low. rw (low, low) refl, refl)
 pub regions_rowids : AsksRowidsOf (layout_of Regions) (codes "SELECT rowid FROM regions ORDER BY rowid")
 regions_rowids = by_rowid (layout_of Regions) (codes "SELECT rowid FROM regions ORDER BY rowid") regions_parsed regions_asked
 
-stations_parsed : IsParsed (codes "SELECT rowid FROM stations_3 ORDER BY rowid")
+stations_parsed : IsParsed (codes "SELECT rowid FROM stations_4 ORDER BY rowid")
 unfolding everything
 stations_parsed = (_, refl)
 
@@ -141,8 +141,8 @@ stations_asked : AsksAlone (layout_of Stations) stations_parsed.0
 unfolding everything stations_parsed
 stations_asked = (λ tree low. rw (low, low) refl, refl)
 
-pub stations_rowids : AsksRowidsOf (layout_of Stations) (codes "SELECT rowid FROM stations_3 ORDER BY rowid")
-stations_rowids = by_rowid (layout_of Stations) (codes "SELECT rowid FROM stations_3 ORDER BY rowid") stations_parsed stations_asked
+pub stations_rowids : AsksRowidsOf (layout_of Stations) (codes "SELECT rowid FROM stations_4 ORDER BY rowid")
+stations_rowids = by_rowid (layout_of Stations) (codes "SELECT rowid FROM stations_4 ORDER BY rowid") stations_parsed stations_asked
 
 docks_parsed : IsParsed (codes "SELECT rowid FROM docks ORDER BY rowid")
 unfolding everything
@@ -154,17 +154,6 @@ docks_asked = (λ tree low. rw (low, low) refl, refl)
 
 pub docks_rowids : AsksRowidsOf (layout_of Docks) (codes "SELECT rowid FROM docks ORDER BY rowid")
 docks_rowids = by_rowid (layout_of Docks) (codes "SELECT rowid FROM docks ORDER BY rowid") docks_parsed docks_asked
-
-counts_parsed : IsParsed (codes "SELECT rowid FROM counts ORDER BY rowid")
-unfolding everything
-counts_parsed = (_, refl)
-
-counts_asked : AsksAlone (layout_of Counts) counts_parsed.0
-unfolding everything counts_parsed
-counts_asked = (λ tree low. rw (low, low) refl, refl)
-
-pub counts_rowids : AsksRowidsOf (layout_of Counts) (codes "SELECT rowid FROM counts ORDER BY rowid")
-counts_rowids = by_rowid (layout_of Counts) (codes "SELECT rowid FROM counts ORDER BY rowid") counts_parsed counts_asked
 
 more_names_parsed : IsParsed (codes "SELECT rowid FROM more_names ORDER BY rowid")
 unfolding everything

@@ -35,6 +35,6 @@ abbrev pub is_hindered : Schema → Table → Bool
 is_hindered schema table = is_product_name table.name && has_added schema table
 
 -- SOMEBODY ADDED a UNIQUE index to a table of the product's. Earlier versions have these tables too, but for that of
--- stations, whose rows are only read and which goes when the database is raised.
+-- stations: theirs is only read, and goes when the database is raised.
 abbrev pub has_added_unique : Schema → Bool
 has_added_unique schema = list_any (is_hindered schema) schema.tables

@@ -3,7 +3,7 @@ use Rattle.bike_book.specs.Tables as book
 use Rattle.bike_recognition.specs.declared.table.TableName.{TableName}
 use Rattle.bike_recognition.specs.declared.table.TableName.TheVariants.{Meta, System, Plans, Segments, Types, Regions}
 use Rattle.bike_recognition.specs.declared.table.TableName.TheVariants.{Stations, Docks, Bikes, Trucks, Riders, Rentals}
-use Rattle.bike_recognition.specs.declared.table.TableName.TheVariants.{Orders, Entries, History, Counts, MoreNames}
+use Rattle.bike_recognition.specs.declared.table.TableName.TheVariants.{Orders, Entries, History, MoreNames}
 
 abbrev pub table_named : TableName → book.TableName
 table_named Meta = book.Meta
@@ -21,5 +21,4 @@ table_named Rentals = book.Rentals
 table_named Orders = book.Orders
 table_named Entries = book.Entries
 table_named History = book.History
-table_named Counts = book.Counts
 table_named MoreNames = book.MoreNames

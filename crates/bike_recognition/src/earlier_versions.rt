@@ -1,13 +1,14 @@
 //! Earlier versions of the schema: how a database holds an operator's tables at each, and which version one is of.
 //!
 //! There is one operator and one family of tables. A version is a way in which a database holds them: the first has no
-//! regions and no further names, the second no further names, and both have their stations, of at most 200 docks, in a
-//! table of another name. The first three have the accepted requests in a table `kept`, which tells no moments and no
-//! order but that of its rowids.
+//! regions and no further names, the second no further names, and both have stations of at most 200 docks. The first
+//! three have their stations in tables of other names, and a table `counts` of the bicycles there by type. They have
+//! the accepted requests in a table `kept`, which tells no moments and no order but that of its rowids.
 
 mod earlier;
 mod found;
 mod kept;
+mod old_table;
 mod stands;
 
 pub use earlier::{Earlier, MOST_DOCKS_BEFORE};

@@ -13,7 +13,7 @@ use sqlite::{Alter, Connection};
 use std::alloc::Global;
 
 /// The tables in the order of the schema.
-pub const EVERY_TABLE: [TableName; 17] = [
+pub const EVERY_TABLE: [TableName; 16] = [
     TableName::Meta,
     TableName::System,
     TableName::Plans,
@@ -29,7 +29,6 @@ pub const EVERY_TABLE: [TableName; 17] = [
     TableName::Orders,
     TableName::Entries,
     TableName::History,
-    TableName::Counts,
     TableName::MoreNames,
 ];
 

@@ -31,7 +31,6 @@ pub enum TableName {
     Orders,
     Entries,
     History,
-    Counts,
     MoreNames,
 }
 
@@ -56,7 +55,6 @@ impl TableName {
             TableName::Orders => table!(name orders),
             TableName::Entries => table!(name entries),
             TableName::History => table!(name history),
-            TableName::Counts => table!(name counts),
             TableName::MoreNames => table!(name more_names),
         }
     }
@@ -81,7 +79,6 @@ impl TableName {
             TableName::Orders => table!(create orders),
             TableName::Entries => table!(create entries),
             TableName::History => table!(create history),
-            TableName::Counts => table!(create counts),
             TableName::MoreNames => table!(create more_names),
         }
     }
@@ -97,7 +94,7 @@ impl TableName {
             TableName::Segments => "SELECT rowid FROM segments ORDER BY rowid",
             TableName::Types => "SELECT rowid FROM types ORDER BY rowid",
             TableName::Regions => "SELECT rowid FROM regions ORDER BY rowid",
-            TableName::Stations => "SELECT rowid FROM stations_3 ORDER BY rowid",
+            TableName::Stations => "SELECT rowid FROM stations_4 ORDER BY rowid",
             TableName::Docks => "SELECT rowid FROM docks ORDER BY rowid",
             TableName::Bikes => "SELECT bike FROM bikes ORDER BY bike",
             TableName::Trucks => "SELECT truck FROM trucks ORDER BY truck",
@@ -106,7 +103,6 @@ impl TableName {
             TableName::Orders => "SELECT ord FROM orders ORDER BY ord",
             TableName::Entries => "SELECT entry FROM entries ORDER BY entry",
             TableName::History => "SELECT number FROM history ORDER BY number",
-            TableName::Counts => "SELECT rowid FROM counts ORDER BY rowid",
             TableName::MoreNames => "SELECT rowid FROM more_names ORDER BY rowid",
         }
     }

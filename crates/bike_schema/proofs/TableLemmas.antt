@@ -6,7 +6,7 @@ use Rattle.sqlite_value.specs.Order.{Row}
 use Rattle.bike_sql.specs.Stands.{is_same_text}
 use Rattle.bike_sql.proofs.RowListLemmas.{same_some, all_at}
 use Rattle.bike_book.specs.Tables.{TableName, table_place, is_table, rows_in, tables_by, Meta, System, Plans, Segments, Types, Regions, Stations, Docks, Bikes, Trucks, Riders, Rentals, Orders}
-use Rattle.bike_book.specs.Tables.{Entries, History, Counts, MoreNames}
+use Rattle.bike_book.specs.Tables.{Entries, History, MoreNames}
 use Rattle.bike_schema.specs.Layouts.{name_of, every_table}
 
 -- ---- a line for each table
@@ -27,7 +27,6 @@ at_place Rentals = refl
 at_place Orders = refl
 at_place Entries = refl
 at_place History = refl
-at_place Counts = refl
 at_place MoreNames = refl
 
 pub rows_in_by : (rows : TableName → List Row) (t : TableName) → rows_in (tables_by rows) t ≡ rows t
@@ -46,7 +45,6 @@ rows_in_by rows Rentals = refl
 rows_in_by rows Orders = refl
 rows_in_by rows Entries = refl
 rows_in_by rows History = refl
-rows_in_by rows Counts = refl
 rows_in_by rows MoreNames = refl
 
 -- ---- what follows

@@ -5,7 +5,7 @@ use Rattle.sqlite_schema.specs.declared.schema.Column.{Column}
 use Rattle.sqlite_schema.specs.declared.schema.Kind.TheVariants.{Integer, Text}
 use Rattle.bike_sql.specs.Layout.{Layout, strict}
 use Rattle.bike_book.specs.Tables.{TableName, Meta, System, Plans, Segments, Types, Regions, Stations, Docks}
-use Rattle.bike_book.specs.Tables.{Bikes, Trucks, Riders, Rentals, Orders, Entries, History, Counts, MoreNames}
+use Rattle.bike_book.specs.Tables.{Bikes, Trucks, Riders, Rentals, Orders, Entries, History, MoreNames}
 
 -- a column of whole numbers or of texts, NOT NULL
 abbrev pub number : List ℕ → Column
@@ -58,11 +58,11 @@ layout_of Types = keyed_layout (codes "types") (1 ∷ [])
     ∷ number (codes "range_m") ∷ text (codes "plan_id") ∷ [])
 layout_of Regions = keyed_layout (codes "regions") (1 ∷ [])
     (text (codes "region_id") ∷ text (codes "name") ∷ [])
-layout_of Stations = keyed_layout (codes "stations_3") (1 ∷ [])
+layout_of Stations = keyed_layout (codes "stations_4") (1 ∷ [])
     (text (codes "station_id") ∷ text (codes "name") ∷ number (codes "lat") ∷ number (codes "lon")
     ∷ number (codes "docks") ∷ number (codes "installed") ∷ number (codes "renting")
     ∷ number (codes "returning") ∷ number (codes "reported") ∷ number (codes "free") ∷ number (codes "broken")
-    ∷ text_or_null (codes "region_id") ∷ [])
+    ∷ text_or_null (codes "region_id") ∷ text (codes "by_type") ∷ [])
 layout_of Docks = keyed_layout (codes "docks") (1 ∷ 2 ∷ [])
     (text (codes "station_id") ∷ number (codes "dock") ∷ number (codes "broken") ∷ [])
 layout_of Bikes = numbered_layout (codes "bikes") (codes "bike")
@@ -85,8 +85,6 @@ layout_of Entries = numbered_layout (codes "entries") (codes "entry")
 layout_of History = numbered_layout (codes "history") (codes "number")
     (number (codes "moment") ∷ text (codes "caller") ∷ text (codes "req_key") ∷ text (codes "command")
     ∷ text (codes "reply") ∷ [])
-layout_of Counts = keyed_layout (codes "counts") (1 ∷ 2 ∷ [])
-    (text (codes "station_id") ∷ text (codes "type_id") ∷ number (codes "available") ∷ number (codes "disabled") ∷ [])
 layout_of MoreNames = keyed_layout (codes "more_names") (1 ∷ 2 ∷ 3 ∷ [])
     (text (codes "kind") ∷ text (codes "id") ∷ text (codes "language") ∷ text (codes "name") ∷ [])
 
@@ -97,4 +95,4 @@ name_of t = (layout_of t).name
 abbrev pub every_table : List TableName
 every_table =
     Meta ∷ System ∷ Plans ∷ Segments ∷ Types ∷ Regions ∷ Stations ∷ Docks ∷ Bikes ∷ Trucks ∷ Riders ∷ Rentals ∷ Orders
-    ∷ Entries ∷ History ∷ Counts ∷ MoreNames ∷ []
+    ∷ Entries ∷ History ∷ MoreNames ∷ []

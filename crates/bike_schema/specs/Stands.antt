@@ -9,7 +9,7 @@ use Rattle.bike_book.specs.Sound.{IsSound}
 use Rattle.bike_book.specs.Stored.{Listed, IsListing, tables_for}
 use Rattle.bike_schema.specs.Tables.{tables_of, HasTables, HasNone}
 
--- The tables are those of the operator, who is sound, with rows for these docks and counts.
+-- The tables are those of the operator, who is sound, with rows for these docks.
 pub record Stores (db : Database) (s : Operator) : Type 0 where
   pub has : HasTables db
   pub sound : IsSound s

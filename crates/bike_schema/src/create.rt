@@ -21,7 +21,7 @@ pub type OpenTransaction<'conn, S> = Transaction<'conn, S>;
 pub const APP: &str = "bikeshare";
 
 /// The statements that make the tables, in the order of the schema.
-pub const TABLES: [&str; 17] = [
+pub const TABLES: [&str; 16] = [
     table!(create meta),
     table!(create system),
     table!(create plans),
@@ -37,7 +37,6 @@ pub const TABLES: [&str; 17] = [
     table!(create orders),
     table!(create entries),
     table!(create history),
-    table!(create counts),
     table!(create more_names),
 ];
 

@@ -67,24 +67,24 @@ module _ (t : Tables) (up : AreInOrder t) (wide : AreWide t) where
       (ap dock_read (sym made) ∙ is)
       ∙ ap (has_dock (Some d)) (read_partner station_read stations.COLUMNS refl at (station_wide d.0))
 
-  dock_true : (d : List ℕ × ℕ × Bool) (o : Option (List ℕ × Station × ℤ × ℕ)) → has_dock (Some d) o ≡ true → (x : List ℕ × Station × ℤ × ℕ) × (o ≡ Some x) × (d.1 ≤ x.1.row.docks)
+  dock_true : (d : List ℕ × ℕ × Bool) (o : Option (List ℕ × Station × ℤ × ℕ × List ℕ)) → has_dock (Some d) o ≡ true → (x : List ℕ × Station × ℤ × ℕ × List ℕ) × (o ≡ Some x) × (d.1 ≤ x.1.row.docks)
   dock_true d None is = absurd cc
   dock_true d (Some x) is = (x, refl, leb-true d.1 x.1.row.docks is)
 
-  stands : (id : List ℕ) (x : List ℕ × Station × ℤ × ℕ) → option_and_then station_read (row_with 1 (Text id ∷ []) t.stations) ≡ Some x → fin.get (operator_of t).stations id ≡ Some x.1
+  stands : (id : List ℕ) (x : List ℕ × Station × ℤ × ℕ × List ℕ) → option_and_then station_read (row_with 1 (Text id ∷ []) t.stations) ≡ Some x → fin.get (operator_of t).stations id ≡ Some x.1
   stands id x is = station_found id ∙ go (row_with 1 (Text id ∷ []) t.stations) is where
     go : (o : Option Row) → option_and_then station_read o ≡ Some x → option_map (λ e. e.1) (option_and_then station_in o) ≡ Some x.1
     go None e = absurd cc
-    go (Some r) e = ap (λ (q : Option (List ℕ × Station × ℤ × ℕ)). option_map (λ (y : List ℕ × Station). y.1) (option_map (λ (y : List ℕ × Station × ℤ × ℕ). (y.0, y.1)) q)) e
+    go (Some r) e = ap (λ (q : Option (List ℕ × Station × ℤ × ℕ × List ℕ)). option_map (λ (y : List ℕ × Station). y.1) (option_map (λ (y : List ℕ × Station × ℤ × ℕ × List ℕ). (y.0, y.1)) q)) e
 
   read_of_found : (id : List ℕ) (x : Station) → fin.get (operator_of t).stations id ≡ Some x
-      → (e : List ℕ × Station × ℤ × ℕ) × (option_and_then station_read (row_with 1 (Text id ∷ []) t.stations) ≡ Some e) × (e.1 ≡ x)
+      → (e : List ℕ × Station × ℤ × ℕ × List ℕ) × (option_and_then station_read (row_with 1 (Text id ∷ []) t.stations) ≡ Some e) × (e.1 ≡ x)
   read_of_found id x found = go (row_with 1 (Text id ∷ []) t.stations) (sym (station_found id) ∙ found) where
-    go : (o : Option Row) → option_map (λ (y : List ℕ × Station). y.1) (option_and_then station_in o) ≡ Some x → (e : List ℕ × Station × ℤ × ℕ) × (option_and_then station_read o ≡ Some e) × (e.1 ≡ x)
+    go : (o : Option Row) → option_map (λ (y : List ℕ × Station). y.1) (option_and_then station_in o) ≡ Some x → (e : List ℕ × Station × ℤ × ℕ × List ℕ) × (option_and_then station_read o ≡ Some e) × (e.1 ≡ x)
     go None e = absurd cc
     go (Some r) e = by (station_read r) refl e where
-      by : (q : Option (List ℕ × Station × ℤ × ℕ)) → station_read r ≡ q → option_map (λ (y : List ℕ × Station). y.1) (option_map (λ (y : List ℕ × Station × ℤ × ℕ). (y.0, y.1)) q) ≡ Some x
-          → (e : List ℕ × Station × ℤ × ℕ) × (q ≡ Some e) × (e.1 ≡ x)
+      by : (q : Option (List ℕ × Station × ℤ × ℕ × List ℕ)) → station_read r ≡ q → option_map (λ (y : List ℕ × Station). y.1) (option_map (λ (y : List ℕ × Station × ℤ × ℕ × List ℕ). (y.0, y.1)) q) ≡ Some x
+          → (e : List ℕ × Station × ℤ × ℕ × List ℕ) × (q ≡ Some e) × (e.1 ≡ x)
       by None is same = absurd cc
       by (Some y) is same = (y, refl, cc)
 

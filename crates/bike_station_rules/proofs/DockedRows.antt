@@ -1,6 +1,6 @@
 -- The dock that a bicycle's row names first is in the columns of a dock, where those of other places keep their bounds.
 use Rattle.std.proofs.Common.{◌≡◌, ℕ, ◌+◌, ◌<◌, List, [], ◌∷◌, length, Bool, true, false, cond, ◌&&◌, ◌==◌, ◌-◌, min, Option, Some, None, is_some, refl, sym, ap, ◌∙◌, subst, arith}
-use Rattle.std.specs.Prelude.{drop, nat_le, option_and_then, option_map, unwrap_or}
+use Rattle.std.specs.Prelude.{take, drop, nat_le, option_and_then, option_map, unwrap_or}
 use Rattle.sqlite_value.specs.declared.value.Value.{Value}
 use Rattle.sqlite_value.specs.declared.value.Value.TheVariants.{Null, Int, Real, Text, Blob}
 use Rattle.sqlite_value.specs.Order.{Row, column}
@@ -9,14 +9,15 @@ use Rattle.bike_operator.specs.declared.records.Bike.{Bike}
 use Rattle.bike_operator.specs.declared.records.BikeState.{BikeState}
 use Rattle.bike_operator.specs.declared.records.Place.{Place}
 use Rattle.bike_operator.specs.declared.records.Place.TheVariants as place
+use Rattle.bike_book.specs.Rows.{number_value}
 use Rattle.bike_schema.specs.Columns.{ident_in, state_in, or_none}
 use Rattle.bike_readings.specs.ColumnReaders.{numbered_in, dock_in, serial_in, in_dock, in_rental, on_truck, place_in, are_null}
-use Rattle.bike_readings.proofs.ColumnLaws.{ident_column}
+use Rattle.bike_readings.proofs.ColumnLaws.{ident_column, number_column}
 use Rattle.std.proofs.lemmas.List.{get_or-take, get_or-drop, length-take, length-drop}
 use Rattle.std.proofs.lemmas.Bool.Decides.{nat_tests}
 use Rattle.bike_readings.specs.ReadOff.{bike_in, first_of, dock_place, truck_place, first_place, first_place_in}
 use Rattle.bike_judges.specs.Lines.{part}
-use Rattle.bike_station_rules.specs.Docked.{dock_of, docked_in, keep_bounds, dock_named, docked_columns}
+use Rattle.bike_station_rules.specs.Docked.{dock_of, docked_with, docked, docked_in, keep_bounds, dock_named, docked_parts, docked_columns}
 
 -- The place is the dock that is named, which stands at the station of the column, or no dock.
 pub record IsNamed (station : Value) (named : Option ℕ) (p : Place) : Type 0 where
@@ -185,7 +186,7 @@ of_parts wide n t s p = cond wide (option_and_then (λ bike. option_and_then (λ
 
 -- where there is a bicycle, of which the place is named; and it is in the dock just where its first three columns are read
 pub record IsBikeOf (wide : Bool) (n : Option ℕ) (t : Option (List ℕ)) (s : Option BikeState) (station : Value) (dock : Option ℕ) (o : Option (ℕ × Bike)) : Type 0 where
-  pub docked_is : option_and_then (λ (e : ℕ × Bike). dock_of e.1.place) o ≡ cond (wide && (is_some n && (is_some t && is_some s))) dock None
+  pub docked_is : option_and_then (λ (e : ℕ × Bike). docked e.1) o ≡ cond (wide && is_some n) (docked_parts t s dock) None
   pub named : (e : ℕ × Bike) → o ≡ Some e → IsNamed station dock e.1.place
   pub number_is : (e : ℕ × Bike) → o ≡ Some e → (wide ≡ true) × (n ≡ Some e.0)
 
@@ -196,18 +197,18 @@ bike_is false n t s station dock p first each it = record { docked_is = refl; na
 bike_is true None t s station dock p first each it = record { docked_is = refl; named = λ e is. absurd cc; number_is = λ e is. absurd cc }
 bike_is true (Some n) None s station dock p first each it = record { docked_is = refl; named = λ e is. absurd cc; number_is = λ e is. absurd cc }
 bike_is true (Some n) (Some t) None station dock p first each it = record { docked_is = refl; named = λ e is. absurd cc; number_is = λ e is. absurd cc }
-bike_is true (Some n) (Some t) (Some s) station dock None None each it = record { docked_is = it.dock_is; named = λ e is. absurd cc; number_is = λ e is. absurd cc }
+bike_is true (Some n) (Some t) (Some s) station dock None None each it = record { docked_is = ap (docked_with t s) it.dock_is; named = λ e is. absurd cc; number_is = λ e is. absurd cc }
 bike_is true (Some n) (Some t) (Some s) station dock None (Some first) each it =
     let here : IsNamed station dock first = record { dock_is = it.dock_is; text_is = λ at m is. it.text_is at m (ap (λ (p : Place). Some p) is) } in
     record {
-      docked_is = it.dock_is;
+      docked_is = ap (docked_with t s) it.dock_is;
       named = λ e is. let same : made n t s first ≡ e = cc in subst (λ (x : ℕ × Bike). IsNamed station dock x.1.place) same here;
       number_is = λ e is. (refl, let same : made n t s first ≡ e = cc in ap (λ (x : ℕ × Bike). Some x.0) same);
     }
 bike_is true (Some n) (Some t) (Some s) station dock (Some p) first each it =
     let here = each p refl in
     record {
-      docked_is = here.dock_is;
+      docked_is = ap (docked_with t s) here.dock_is;
       named = λ e is. let same : made n t s p ≡ e = cc in subst (λ (x : ℕ × Bike). IsNamed station dock x.1.place) same here;
       number_is = λ e is. (refl, let same : made n t s p ≡ e = cc in ap (λ (x : ℕ × Bike). Some x.0) same);
     }
@@ -240,6 +241,17 @@ docked_is line =
     let c5 : column row 5 ≡ column line 8 = at 5 (omega arith) in
     let c6 : column row 6 ≡ column line 9 = at 6 (omega arith) in
     let c7 : column row 7 ≡ column line 10 = at 7 (omega arith) in
-    (λ i. cond (wide i && (is_some (numbered_in (sym c0 i)) && (is_some (ident_in (sym c1 i)) && is_some (state_in (sym c2 i)))))
-    (dock_named (sym c3 i) (sym c4 i) (sym c5 i) (sym c6 i) (sym c7 i)) None)
+    (λ i. cond (wide i && is_some (numbered_in (sym c0 i)))
+    (docked_parts (ident_in (sym c1 i)) (state_in (sym c2 i)) (dock_named (sym c3 i) (sym c4 i) (sym c5 i) (sym c6 i) (sym c7 i))) None)
     ∙ sym (row_is row).docked_is
+
+-- ---- bicycles by their numbers
+
+first_of_eight : (r : Row) → (length r == 8) ≡ true → take 1 r ≡ column r 0 ∷ []
+first_of_eight [] wide = absurd cc
+first_of_eight (v ∷ r) wide = refl
+
+pub bike_own : (r : Row) (e : ℕ × Bike) → bike_in r ≡ Some e → (take 1 r ≡ number_value e.0 ∷ []) × Unit {0}
+bike_own r e is =
+    let it = (row_is r).number_is e is in
+    (first_of_eight r it.0 ∙ ap (λ (v : Value). v ∷ []) ((number_column 1 999999).sound (column r 0) e.0 it.1).0, tt)

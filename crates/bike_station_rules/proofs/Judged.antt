@@ -1,5 +1,5 @@
 -- What the queries of docks and stations tell of their tables.
-use Rattle.std.proofs.Common.{◌≡◌, ℕ, ℤ, List, false, Option, Some, None, refl, sym, ap, subst, ◌∙◌}
+use Rattle.std.proofs.Common.{◌≡◌, ℕ, ℤ, List, [], false, Option, Some, None, refl, sym, ap, subst, ◌∙◌}
 use Rattle.std.specs.Prelude.{take, replicate, option_map}
 use Rattle.sqlite_value.specs.Order.{Row, column}
 use Rattle.bike_operator.specs.Operator.{Station}
@@ -27,7 +27,7 @@ use Rattle.bike_station_rules.specs.Stations.{begins, more, good, key, owner, st
 use Rattle.bike_station_rules.specs.StationVerdicts.{FindsByRow, FindsByNumber, meta_in, now_in, with_region, is_good_row, is_accounted}
 use Rattle.bike_station_rules.specs.declared.account.StationAccount.{StationAccount}
 use Rattle.bike_station_rules.specs.declared.dock_set.TheConstants.{PLACES}
-use Rattle.bike_station_rules.proofs.Folds.{others_same, in_any_order}
+use Rattle.bike_station_rules.proofs.Folds.{others_same}
 use Rattle.bike_station_rules.proofs.RegionLines.{station_key}
 use Rattle.bike_station_rules.proofs.StationVerdict.{now_known, station_verdict}
 use Rattle.bike_station_rules.specs.Docks.{is_good_dock}
@@ -68,17 +68,24 @@ are_accounts = record {
   key_is = λ a. refl;
   keeps = λ a x. refl;
   others = others_same;
-  commutes = in_any_order;
 }
   where
-    not_item : (row : Row) (o : Option (List ℕ × Station × ℤ × ℕ)) → station_opening (station_line row) o ≡ Item → ⊥
+    not_item : (row : Row) (o : Option (List ℕ × Station × ℤ × ℕ × List ℕ)) → station_opening (station_line row) o ≡ Item → ⊥
     not_item row None e = cc
     not_item row (Some x) e = cc
 
-    opens : (row : Row) (o : Option (List ℕ × Station × ℤ × ℕ)) (a : StationAccount) → station_opening (station_line row) o ≡ Head a → owner a ≡ column row 0
+    opens : (row : Row) (o : Option (List ℕ × Station × ℤ × ℕ × List ℕ)) (a : StationAccount) → station_opening (station_line row) o ≡ Head a → owner a ≡ column row 0
     opens row None a e = absurd cc
     opens row (Some x) a e =
-        let same : a ≡ record { head = station_line row; docks = x.1.row.docks; free = x.2; broken = x.3; is_broken = replicate PLACES false; is_taken = replicate PLACES false } = cc in
+        let same : a ≡ record {
+          head = station_line row;
+          docks = x.1.row.docks;
+          free = x.2;
+          broken = x.3;
+          is_broken = replicate PLACES false;
+          is_taken = replicate PLACES false;
+          by_type = record { text = x.4; types = [] };
+        } = cc in
         ap owner same
 
 dock_items : AreItems begins more good key owner station_dock_line

@@ -6,16 +6,8 @@ pub mod DockedRows
 pub mod Bits
 pub mod Folds
 pub mod Judged
+pub mod TypesTest
 pub mod StationTest
 pub mod RegionLines
 mod MetaText
 pub mod StationVerdict
-pub mod Groups
-pub mod Pass
-pub mod Steps
-pub mod Totals
-pub mod Apart
-pub mod LinesAre
-pub mod NamesLaw
-pub mod Figures
-pub mod CountsJudged

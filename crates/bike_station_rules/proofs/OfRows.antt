@@ -15,7 +15,7 @@ module _ (t : Tables) (name : TableName) where
     pub good : (below : ℕ) (row : Row) → Has (rows_in t name) row → test below row ≡ true → IsGoodRow t (operator_of t) below name row
     pub passes : (below : ℕ) (row : Row) → Has (rows_in t name) row → IsGoodRow t (operator_of t) below name row → test below row ≡ true
 
-  module _ (test : ℕ → Row → Bool) (it : IsTestOf test) (lacks : (key : Row) → MayLack (operator_of t) name key) where
+  module _ (test : ℕ → Row → Bool) (it : IsTestOf test) (lacks : (key : Row) → MayLack name key) where
     pub demands_good : (key : Row) → Demands t name test key → IsGoodKey t name key
     demands_good key demands = go (row_under t name key) refl demands where
       go : (o : Option Row) → row_under t name key ≡ o → OfRow test (rows_below t name key) o → IsGoodAt t (operator_of t) name key (rows_below t name key) o

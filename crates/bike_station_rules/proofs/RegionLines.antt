@@ -49,7 +49,7 @@ module _ (t : Tables) (up : AreInOrder t) (wide : AreWide t) where
   station_key row has = take-append-le 1 row (or_nulls regions.COLUMNS (partner 1 (column row 11 ∷ []) t.regions)) (let row_wide = wide Stations row has in omega (arith, row_wide))
 
   -- the region that a station names is read of its line just where the operator has it
-  pub region_is : (row : Row) (x : List ℕ × Station × ℤ × ℕ) → Has t.stations row → station_read row ≡ Some x
+  pub region_is : (row : Row) (x : List ℕ × Station × ℤ × ℕ × List ℕ) → Has t.stations row → station_read row ≡ Some x
       → has_region x.1.region (region_read (part stations.COLUMNS regions.COLUMNS (with_region t row))) ≡ has_region_in (operator_of t) x.1.region
   region_is row x has e = by x.1.region refl where
     found : (o : Option (List ℕ × RegionRow)) → is_some o ≡ is_some (option_map (λ (e : List ℕ × RegionRow). e.1) o)

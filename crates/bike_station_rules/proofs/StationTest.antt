@@ -1,7 +1,7 @@
 -- The account of a station with all lines of docks and bicycles says what is demanded of its numbers.
 use Rattle.std.proofs.Common.{◌≡◌, inl, inr, ℕ, ◌-◌, ℤ, pos, List, [], ◌∷◌, ◌++◌, length, map, fold, Bool, true, false, cond, not, ◌&&◌, ◌||◌, ◌==◌, Option, Some, None, is_none, find, refl, sym, ap}
 use Rattle.std.proofs.Common.{◌∙◌}
-use Rattle.std.specs.Prelude.{take, replicate, option_and_then}
+use Rattle.std.specs.Prelude.{take, replicate, option_map, option_and_then}
 use Rattle.std.specs.List.{filter_map, list_any}
 use Rattle.std.specs.Option.{IsSomeAnd}
 use Rattle.std.specs.Ordering.{int_eq, eq_by_cmp}
@@ -18,13 +18,14 @@ use Rattle.sqlite_value.specs.declared.value.Value.TheVariants.{Text}
 use Rattle.sqlite_value.specs.Order.{Row, column}
 use Rattle.sqlite_rules.specs.Lists.{Has}
 use Rattle.bike_operator.specs.declared.records.Bike.{Bike}
+use Rattle.bike_operator.specs.declared.records.BikeState.{BikeState}
 use Rattle.bike_operator.specs.declared.records.Place.{Place}
 use Rattle.bike_operator.specs.declared.records.Place.TheVariants as place
 use Rattle.bike_operator.specs.Operator.{Operator, Station, DockKey, texts_cmp, dock_key}
 use Rattle.bike_operator.specs.Counts.{is_dock, docked_at, is_broken, docks_available, docks_broken, docks_up_to}
 use Rattle.bike_laws.proofs.SingleSteps.MapLemmas.{texts_order, tied}
 use Rattle.bike_laws.proofs.SingleSteps.StoredCountLemmas.{count_same}
-use Rattle.bike_book.specs.Rows.{number_value}
+use Rattle.bike_book.specs.ByType.{types_at, by_type_text}
 use Rattle.bike_book.specs.Tables.{Tables, Stations, Docks, Bikes}
 use Rattle.bike_book.specs.declared.columns.stations.TheConstants as stations
 use Rattle.bike_book.specs.declared.columns.docks.TheConstants as docks
@@ -32,32 +33,21 @@ use Rattle.bike_book.specs.declared.columns.bikes.TheConstants as bikes
 use Rattle.bike_book.proofs.Keys.{numbers}
 use Rattle.bike_readings.specs.Readings.{dock_read, station_read}
 use Rattle.bike_readings.proofs.CatalogueRows.{dock_reading, station_reading}
-use Rattle.bike_readings.proofs.ColumnLaws.{number_column}
 use Rattle.bike_readings.specs.ReadOff.{operator_of, broken_in, bike_in}
 use Rattle.bike_readings.specs.Rules.{AreInOrder}
 use Rattle.bike_judges.specs.Lines.{part, nulls, station_line, station_dock_line, station_bike_line}
 use Rattle.bike_judges.specs.Passes.{is_good_with}
 use Rattle.bike_station_rules.specs.DockSets.{has_bit, many_in, many_in_neither}
-use Rattle.bike_station_rules.specs.Docked.{dock_of, docked_in}
+use Rattle.bike_station_rules.specs.Docked.{Docked, dock_of, docked_with, docked, docked_in}
 use Rattle.bike_station_rules.specs.Stations.{is_same_text, broken_dock, broken_at, taken_at, owner, of_owner, station_opening, begins, more, good, key}
 use Rattle.bike_station_rules.specs.declared.account.StationAccount.{StationAccount}
 use Rattle.bike_station_rules.specs.declared.dock_set.TheConstants.{PLACES}
 use Rattle.bike_judges.proofs.Lookups.{entries_read}
 use Rattle.bike_station_rules.proofs.DockTest.{AreWide, take_front}
-use Rattle.bike_station_rules.proofs.DockedRows.{row_is}
+use Rattle.bike_station_rules.proofs.DockedRows.{row_is, bike_own}
 use Rattle.bike_station_rules.proofs.Bits.{is_bit, or_false, none_set, any_map, of_read, any_read, any_same, any_none, none_found}
-use Rattle.bike_station_rules.proofs.Folds.{broken_after, taken_after, same_docks, same_free, same_broken}
-
--- ---- bicycles by their numbers
-
-first_of_eight : (r : Row) → (length r == 8) ≡ true → take 1 r ≡ column r 0 ∷ []
-first_of_eight [] wide = absurd cc
-first_of_eight (v ∷ r) wide = refl
-
-pub bike_own : (r : Row) (e : ℕ × Bike) → bike_in r ≡ Some e → (take 1 r ≡ number_value e.0 ∷ []) × Unit {0}
-bike_own r e is =
-    let it = (row_is r).number_is e is in
-    (first_of_eight r it.0 ∙ ap (λ (v : Value). v ∷ []) ((number_column 1 999999).sound (column r 0) e.0 it.1).0, tt)
+use Rattle.bike_station_rules.proofs.TypesTest.{types_now}
+use Rattle.bike_station_rules.proofs.Folds.{broken_after, taken_after, same_docks, same_free, same_broken, same_told}
 
 -- ---- what one line says
 
@@ -131,24 +121,35 @@ module _ (id : List ℕ) (n : ℕ) where
   and_by true c m is = is
   and_by false c m is = refl
 
+  -- the dock that a bicycle of this type and state at this place is in
+  abbrev taken_by : List ℕ → BikeState → Place → Option ℕ
+  taken_by type_id state p = option_map (λ (b : Docked). b.dock) (docked_with type_id state (dock_of p))
+
+  abbrev taken_in : Row → Option ℕ
+  taken_in r = option_map (λ (b : Docked). b.dock) (docked_in r)
+
   -- a row of bicycles says that the dock holds one
   bike_says : (r : Row) → length r ≡ bikes.COLUMNS → says_taken id n (station_bike_line r) ≡ of_read is_in (bike_in r)
   bike_says r wide =
-      ap (λ (x : Row). is_bit n (of_owner (Text id) (station_bike_line r) (docked_in x))) (take_front bikes.COLUMNS r (nulls (stations.COLUMNS - bikes.COLUMNS)) wide) ∙ go (bike_in r) refl where
-        go : (o : Option (ℕ × Bike)) → bike_in r ≡ o → is_bit n (of_owner (Text id) (station_bike_line r) (docked_in r)) ≡ of_read is_in (bike_in r)
+      ap (λ (x : Row). is_bit n (of_owner (Text id) (station_bike_line r) (taken_in x))) (take_front bikes.COLUMNS r (nulls (stations.COLUMNS - bikes.COLUMNS)) wide) ∙ go (bike_in r) refl where
+        go : (o : Option (ℕ × Bike)) → bike_in r ≡ o → is_bit n (of_owner (Text id) (station_bike_line r) (taken_in r)) ≡ of_read is_in (bike_in r)
         go None e =
-            none_of_owner (Text id) (station_bike_line r) n (docked_in r) (ap (λ (q : Option (ℕ × Bike)). option_and_then (λ (x : ℕ × Bike). dock_of x.1.place) q) e) ∙ sym (ap (of_read is_in) e)
+            none_of_owner (Text id) (station_bike_line r) n (taken_in r)
+            (ap (λ (q : Option (ℕ × Bike)). option_map (λ (b : Docked). b.dock) (option_and_then (λ (x : ℕ × Bike). docked x.1) q)) e)
+            ∙ sym (ap (of_read is_in) e)
         go (Some x) e = by x.1.place refl ∙ sym (ap (of_read is_in) e) where
-          said : docked_in r ≡ dock_of x.1.place
-          said = ap (λ (q : Option (ℕ × Bike)). option_and_then (λ (y : ℕ × Bike). dock_of y.1.place) q) e
+          said : (p : Place) → x.1.place ≡ p → taken_in r ≡ taken_by x.1.type_id x.1.state p
+          said p is =
+              ap (λ (q : Option (ℕ × Bike)). option_map (λ (b : Docked). b.dock) (option_and_then (λ (y : ℕ × Bike). docked y.1) q)) e ∙ ap (taken_by x.1.type_id x.1.state) is
 
-          elsewhere : (p : Place) → x.1.place ≡ p → dock_of p ≡ None → is_dock id n p ≡ false → is_bit n (of_owner (Text id) (station_bike_line r) (docked_in r)) ≡ is_in x
-          elsewhere p is none out = none_of_owner (Text id) (station_bike_line r) n (docked_in r) (said ∙ ap dock_of is ∙ none) ∙ sym (ap (is_dock id n) is ∙ out)
+          elsewhere : (p : Place) → x.1.place ≡ p → taken_by x.1.type_id x.1.state p ≡ None → is_dock id n p ≡ false
+              → is_bit n (of_owner (Text id) (station_bike_line r) (taken_in r)) ≡ is_in x
+          elsewhere p is none out = none_of_owner (Text id) (station_bike_line r) n (taken_in r) (said p is ∙ none) ∙ sym (ap (is_dock id n) is ∙ out)
 
-          by : (p : Place) → x.1.place ≡ p → is_bit n (of_owner (Text id) (station_bike_line r) (docked_in r)) ≡ is_in x
+          by : (p : Place) → x.1.place ≡ p → is_bit n (of_owner (Text id) (station_bike_line r) (taken_in r)) ≡ is_in x
           by (place.Dock at m) is =
               let station : column r 3 ≡ Text at = ((row_is r).named x e).text_is at m is in
-              let dock : docked_in r ≡ Some m = said ∙ ap dock_of is in
+              let dock : taken_in r ≡ Some m = said (place.Dock at m) is in
               (λ i. is_bit n (cond (is_same_text (station i) (Text id)) (dock i) None)) ∙ and_by (bytes_eq at id) (m == n) m refl ∙ sym (ap (is_dock id n) is)
           by (place.Rental rental) is = elsewhere (place.Rental rental) is refl refl
           by (place.Truck truck order) is = elsewhere (place.Truck truck order) is refl refl
@@ -202,15 +203,24 @@ module _ (t : Tables) (up : AreInOrder t) (wide : AreWide t) where
         ∙ none_found (is_in id n) (filter_map bike_in t.bikes)
         ∙ ap (λ (es : List (ℕ × Bike)). is_none (find (is_in id n) es)) (sym (entries_read numbers bike_in bike_own t.bikes (up Bikes)))
 
-  -- the numbers that are demanded of a station
-  pub record HasNumbers (e : List ℕ × Station × ℤ × ℕ) : Type 0 where
+  -- the numbers and the text that are demanded of a station
+  pub record HasNumbers (e : List ℕ × Station × ℤ × ℕ × List ℕ) : Type 0 where
     pub free_is : e.2 ≡ pos (docks_available s e.0 e.1.row.docks)
     pub broken_is : e.3 ≡ docks_broken s e.0 e.1.row.docks
+    pub by_type_is : e.4 ≡ by_type_text (types_at s e.0)
 
-  abbrev begun : Row → List ℕ × Station × ℤ × ℕ → StationAccount
-  begun line e = record { head = line; docks = e.1.row.docks; free = e.2; broken = e.3; is_broken = replicate PLACES false; is_taken = replicate PLACES false }
+  abbrev begun : Row → List ℕ × Station × ℤ × ℕ × List ℕ → StationAccount
+  begun line e = record {
+    head = line;
+    docks = e.1.row.docks;
+    free = e.2;
+    broken = e.3;
+    is_broken = replicate PLACES false;
+    is_taken = replicate PLACES false;
+    by_type = record { text = e.4; types = [] };
+  }
 
-  module _ (row : Row) (e : List ℕ × Station × ℤ × ℕ) (read : station_read row ≡ Some e) where
+  module _ (row : Row) (e : List ℕ × Station × ℤ × ℕ × List ℕ) (read : station_read row ≡ Some e) where
     abbrev closed : StationAccount
     closed = fold more (begun (station_line row) e) all_items
 
@@ -225,26 +235,42 @@ module _ (t : Tables) (up : AreInOrder t) (wide : AreWide t) where
         count_same (λ n. not (has_bit closed.is_taken n) && not (has_bit closed.is_broken n)) (λ n. is_none (docked_at s e.0 n) && not (is_broken s e.0 n)) (docks_up_to e.1.row.docks)
         (λ n has. λ i. (taken_now (begun (station_line row) e) e.0 n own refl i && not (broken_now (begun (station_line row) e) e.0 n own refl i)))
 
+    types_all : closed.by_type.types ≡ types_at s e.0
+    types_all = types_now t up wide (begun (station_line row) e) e.0 own refl (λ n. broken_now (begun (station_line row) e) e.0 n own refl)
+
+    abbrev is_free : Bool
+    is_free = int_eq e.2 (pos (docks_available s e.0 e.1.row.docks))
+
+    abbrev is_so_broken : Bool
+    is_so_broken = e.3 == docks_broken s e.0 e.1.row.docks
+
+    abbrev is_by_type : Bool
+    is_by_type = bytes_eq e.4 (by_type_text (types_at s e.0))
+
     -- what the closed account is asked
-    asked : (before : ℕ) → good before closed ≡ (int_eq e.2 (pos (docks_available s e.0 e.1.row.docks)) && (e.3 == docks_broken s e.0 e.1.row.docks))
+    asked : (before : ℕ) → good before closed ≡ (is_free && (is_so_broken && is_by_type))
     asked before =
         (λ i. (int_eq (same_free all_items (begun (station_line row) e) i) (pos (many_in_neither closed.is_taken closed.is_broken (same_docks all_items (begun (station_line row) e) i)))
-        && (same_broken all_items (begun (station_line row) e) i == many_in closed.is_broken (same_docks all_items (begun (station_line row) e) i))))
-        ∙ (λ i. (int_eq e.2 (pos (free_many i)) && (e.3 == broken_many i)))
+        && ((same_broken all_items (begun (station_line row) e) i == many_in closed.is_broken (same_docks all_items (begun (station_line row) e) i))
+        && bytes_eq (same_told all_items (begun (station_line row) e) i) (by_type_text (types_all i)))))
+        ∙ (λ i. (int_eq e.2 (pos (free_many i)) && ((e.3 == broken_many i) && is_by_type)))
 
     numbers_good : (before : ℕ) → good before closed ≡ true → HasNumbers e
     numbers_good before is =
-        let both = and_parts (int_eq e.2 (pos (docks_available s e.0 e.1.row.docks))) (e.3 == docks_broken s e.0 e.1.row.docks) (sym (asked before) ∙ is) in
+        let both = and_parts is_free (is_so_broken && is_by_type) (sym (asked before) ∙ is) in
+        let rest = and_parts is_so_broken is_by_type both.1 in
         record {
           free_is = (Decides-int_eq e.2 (pos (docks_available s e.0 e.1.row.docks))).0 both.0;
-          broken_is = elim (eqb_tells e.3 (docks_broken s e.0 e.1.row.docks)) [ inl is ↦ is.1 | inr other ↦ absurd (let no = other.0 in let yes = both.1 in cc) ];
+          broken_is = elim (eqb_tells e.3 (docks_broken s e.0 e.1.row.docks)) [ inl is ↦ is.1 | inr other ↦ absurd (let no = other.0 in let yes = rest.0 in cc) ];
+          by_type_is = (bytes_eq-Decides e.4 (by_type_text (types_at s e.0))).0 rest.1;
         }
 
     good_numbers : (before : ℕ) → HasNumbers e → good before closed ≡ true
     good_numbers before has =
-        let free : int_eq e.2 (pos (docks_available s e.0 e.1.row.docks)) ≡ true = (Decides-int_eq e.2 (pos (docks_available s e.0 e.1.row.docks))).1 has.free_is in
-        let broken : (e.3 == docks_broken s e.0 e.1.row.docks) ≡ true = elim (eqb_tells e.3 (docks_broken s e.0 e.1.row.docks)) [ inl is ↦ is.0 | inr other ↦ absurd (other.1 has.broken_is) ] in
-        asked before ∙ (λ i. (free i && broken i))
+        let free : is_free ≡ true = (Decides-int_eq e.2 (pos (docks_available s e.0 e.1.row.docks))).1 has.free_is in
+        let broken : is_so_broken ≡ true = elim (eqb_tells e.3 (docks_broken s e.0 e.1.row.docks)) [ inl is ↦ is.0 | inr other ↦ absurd (other.1 has.broken_is) ] in
+        let told : is_by_type ≡ true = (bytes_eq-Decides e.4 (by_type_text (types_at s e.0))).1 has.by_type_is in
+        asked before ∙ (λ i. (free i && (broken i && told i)))
 
   -- the test of a head with all these lines
   abbrev pub with_all : ℕ → Row → Bool
@@ -258,12 +284,12 @@ module _ (t : Tables) (up : AreInOrder t) (wide : AreWide t) where
 
   pub with_all_good : (row : Row) → Has t.stations row → (n : ℕ) → with_all n row ≡ true → IsSomeAnd (station_read row) HasNumbers
   with_all_good row has n is = go (station_read row) refl (sym (opens row has n) ∙ is) where
-    go : (o : Option (List ℕ × Station × ℤ × ℕ)) → station_read row ≡ o → is_good_with begins more good key (take 1) all_items n (station_opening (station_line row) o) ≡ true → IsSomeAnd o HasNumbers
+    go : (o : Option (List ℕ × Station × ℤ × ℕ × List ℕ)) → station_read row ≡ o → is_good_with begins more good key (take 1) all_items n (station_opening (station_line row) o) ≡ true → IsSomeAnd o HasNumbers
     go None e g = absurd cc
     go (Some x) e g = numbers_good row x e n g
 
   pub good_with_all : (row : Row) → Has t.stations row → (n : ℕ) → IsSomeAnd (station_read row) HasNumbers → with_all n row ≡ true
   good_with_all row has n numbers = opens row has n ∙ go (station_read row) refl numbers where
-    go : (o : Option (List ℕ × Station × ℤ × ℕ)) → station_read row ≡ o → IsSomeAnd o HasNumbers → is_good_with begins more good key (take 1) all_items n (station_opening (station_line row) o) ≡ true
+    go : (o : Option (List ℕ × Station × ℤ × ℕ × List ℕ)) → station_read row ≡ o → IsSomeAnd o HasNumbers → is_good_with begins more good key (take 1) all_items n (station_opening (station_line row) o) ≡ true
     go None e h = absurd h
     go (Some x) e h = good_numbers row x e n h

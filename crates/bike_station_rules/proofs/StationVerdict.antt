@@ -81,7 +81,7 @@ module _ (t : Tables) (up : AreInOrder t) (wide : AreWide t) (now : Option ℕ) 
       let parts = and_parts (is_good_row now t below row) (is_accounted t below row) is in
       go (station_read row) refl (sym (asked below row has) ∙ parts.0) (with_all_good t up wide row has below parts.1)
     where
-      go : (o : Option (List ℕ × Station × ℤ × ℕ)) → station_read row ≡ o → stands_well now below o (region_beside row) ≡ true → IsSomeAnd o (HasNumbers t up wide)
+      go : (o : Option (List ℕ × Station × ℤ × ℕ × List ℕ)) → station_read row ≡ o → stands_well now below o (region_beside row) ≡ true → IsSomeAnd o (HasNumbers t up wide)
           → IsSomeAnd o (IsGoodStation (operator_of t) below)
       go None e room numbers = absurd cc
       go (Some x) e room numbers =
@@ -95,19 +95,20 @@ module _ (t : Tables) (up : AreInOrder t) (wide : AreWide t) (now : Option ℕ) 
             good = record { id_is = law.id_is; good = law.good; by_now = leb-true x.1.reported (moment_of t.meta) by; region = sym (region_is t up wide row x has e) ∙ there.1 };
             free_is = numbers.free_is;
             broken_is = numbers.broken_is;
+            by_type_is = numbers.by_type_is;
           }
 
   good_station : (below : ℕ) (row : Row) → Has t.stations row → IsSomeAnd (station_read row) (IsGoodStation (operator_of t) below) → both below row ≡ true
   good_station below row has good = go (station_read row) refl good where
-    go : (o : Option (List ℕ × Station × ℤ × ℕ)) → station_read row ≡ o → IsSomeAnd o (IsGoodStation (operator_of t) below) → both below row ≡ true
+    go : (o : Option (List ℕ × Station × ℤ × ℕ × List ℕ)) → station_read row ≡ o → IsSomeAnd o (IsGoodStation (operator_of t) below) → both below row ≡ true
     go None e g = absurd g
     go (Some x) e g =
         let room = g.room in
         let fits : nat_lt below MOST_STATIONS ≡ true = grind (arith, nat_tests, room) in
         let by : is_by now x.1.reported ≡ true = ap (λ (o : Option ℕ). is_by o x.1.reported) now_is ∙ le-leb x.1.reported (moment_of t.meta) g.good.by_now in
         let there = region_is t up wide row x has e ∙ g.good.region in
-        let alone : is_good_row now t below row ≡ true = asked below row has ∙ ap (λ (o : Option (List ℕ × Station × ℤ × ℕ)). stands_well now below o (region_beside row)) e ∙ (λ i. ((fits i && by i) && there i)) in
-        let numbers : IsSomeAnd (station_read row) (HasNumbers t up wide) = subst (λ (o : Option (List ℕ × Station × ℤ × ℕ)). IsSomeAnd o (HasNumbers t up wide)) (sym e) (record { free_is = g.free_is; broken_is = g.broken_is }) in
+        let alone : is_good_row now t below row ≡ true = asked below row has ∙ ap (λ (o : Option (List ℕ × Station × ℤ × ℕ × List ℕ)). stands_well now below o (region_beside row)) e ∙ (λ i. ((fits i && by i) && there i)) in
+        let numbers : IsSomeAnd (station_read row) (HasNumbers t up wide) = subst (λ (o : Option (List ℕ × Station × ℤ × ℕ × List ℕ)). IsSomeAnd o (HasNumbers t up wide)) (sym e) (record { free_is = g.free_is; broken_is = g.broken_is; by_type_is = g.by_type_is }) in
         let accounted : is_accounted t below row ≡ true = good_with_all t up wide row has below numbers in
         (λ i. (alone i && accounted i))
 

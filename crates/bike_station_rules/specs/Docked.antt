@@ -1,11 +1,13 @@
 -- Bicycles in docks, of whatever rows: the dock that a row names first.
-use Rattle.std.specs.Prelude.{ℕ, ◌+◌, Bool, ◌&&◌, nat_le, length, if◌then◌else◌, Option, Some, None, is_some}
-use Rattle.std.specs.Prelude.{option_and_then}
+use Rattle.std.specs.Prelude.{ℕ, ◌+◌, List, Bool, ◌&&◌, nat_le, length, if◌then◌else◌, Option, Some, None, is_some}
+use Rattle.std.specs.Prelude.{option_map, option_and_then}
 use Rattle.sqlite_value.specs.declared.value.Value.{Value}
 use Rattle.sqlite_value.specs.Order.{Row, column}
 use Rattle.bike_operator.specs.declared.records.Bike.{Bike}
+use Rattle.bike_operator.specs.declared.records.BikeState.{BikeState}
 use Rattle.bike_operator.specs.declared.records.Place.{Place}
 use Rattle.bike_operator.specs.declared.records.Place.TheVariants as place
+use Rattle.bike_operator.specs.Counts.{is_fit}
 use Rattle.bike_book.specs.declared.columns.bikes.TheConstants as bikes
 use Rattle.bike_schema.specs.Columns.{state_in, ident_in, or_none}
 use Rattle.bike_readings.specs.ColumnReaders.{numbered_in, dock_in, serial_in}
@@ -18,9 +20,21 @@ dock_of (place.Rental rental) = None
 dock_of (place.Truck truck order) = None
 dock_of place.Depot = None
 
--- the number of the dock that the bicycle of a row is in
-abbrev pub docked_in : Row → Option ℕ
-docked_in row = option_and_then (λ (e : ℕ × Bike). dock_of e.1.place) (bike_in row)
+-- A bicycle in a dock: the number of that, its type, and whether it can be rented where the dock works.
+pub record Docked : Type 0 where
+  pub dock : ℕ
+  pub type_id : List ℕ
+  pub is_fit : Bool
+
+abbrev pub docked_with : List ℕ → BikeState → Option ℕ → Option Docked
+docked_with type_id state dock = option_map (λ n. record { dock = n; type_id = type_id; is_fit = is_fit state }) dock
+
+abbrev pub docked : Bike → Option Docked
+docked b = docked_with b.type_id b.state (dock_of b.place)
+
+-- the bicycle of a row, where it is in a dock
+abbrev pub docked_in : Row → Option Docked
+docked_in row = option_and_then (λ (e : ℕ × Bike). docked e.1) (bike_in row)
 
 -- ---- by columns
 
@@ -34,10 +48,15 @@ abbrev pub dock_named : Value → Value → Value → Value → Value → Option
 dock_named station dock rental truck order =
     if is_some (ident_in station) && keep_bounds rental truck order then dock_in dock else None
 
--- the dock that the bicycle is in of the columns of a line from the fourth on
-abbrev pub docked_columns : Row → Option ℕ
+-- the bicycle in a dock of these parts, and none where one is missing
+abbrev pub docked_parts : Option (List ℕ) → Option BikeState → Option ℕ → Option Docked
+docked_parts type_id state dock =
+    option_and_then (λ ty. option_and_then (λ s. docked_with ty s dock) state) type_id
+
+-- the bicycle in a dock of the columns of a line from the fourth on
+abbrev pub docked_columns : Row → Option Docked
 docked_columns line =
-    if nat_le (3 + bikes.COLUMNS) (length line) && (is_some (numbered_in (column line (3 + bikes.BIKE)))
-    && (is_some (ident_in (column line (3 + bikes.TYPE_ID))) && is_some (state_in (column line (3 + bikes.STATE)))))
-    then dock_named (column line (3 + bikes.STATION_ID)) (column line (3 + bikes.DOCK)) (column line (3 + bikes.RENTAL))
-    (column line (3 + bikes.TRUCK)) (column line (3 + bikes.ORD)) else None
+    if nat_le (3 + bikes.COLUMNS) (length line) && is_some (numbered_in (column line (3 + bikes.BIKE)))
+    then docked_parts (ident_in (column line (3 + bikes.TYPE_ID))) (state_in (column line (3 + bikes.STATE)))
+    (dock_named (column line (3 + bikes.STATION_ID)) (column line (3 + bikes.DOCK)) (column line (3 + bikes.RENTAL))
+    (column line (3 + bikes.TRUCK)) (column line (3 + bikes.ORD))) else None

@@ -8,7 +8,7 @@ use Rattle.bike_readings.specs.Readings.{dock_read, station_read}
 use Rattle.bike_judges.specs.Lines.{part}
 
 -- the station that was read has so many docks
-abbrev pub has_dock : Option (List ℕ × ℕ × Bool) → Option (List ℕ × Station × ℤ × ℕ) → Bool
+abbrev pub has_dock : Option (List ℕ × ℕ × Bool) → Option (List ℕ × Station × ℤ × ℕ × List ℕ) → Bool
 has_dock (Some dock) (Some station) = leb dock.1 station.1.row.docks
 has_dock (Some dock) None = false
 has_dock None station = false

@@ -1,8 +1,8 @@
 pub mod Docks
 pub mod Docked
 pub mod DockSets
+pub mod Views
+pub mod Types
 pub mod Stations
 pub mod StationRows
 pub mod StationVerdicts
-pub mod Names
-pub mod Tallies

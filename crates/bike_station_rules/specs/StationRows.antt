@@ -19,7 +19,7 @@ abbrev pub has_region : Option (List ℕ) → Option (List ℕ × RegionRow) →
 has_region None region = true
 has_region (Some id) region = is_some region
 
-abbrev pub stands_well : Option ℕ → ℕ → Option (List ℕ × Station × ℤ × ℕ) → Option (List ℕ × RegionRow) → Bool
+abbrev pub stands_well : Option ℕ → ℕ → Option (List ℕ × Station × ℤ × ℕ × List ℕ) → Option (List ℕ × RegionRow) → Bool
 stands_well now before None region = false
 stands_well now before (Some e) region =
     (nat_lt before MOST_STATIONS && is_by now e.1.reported) && has_region e.1.region region

@@ -36,13 +36,14 @@ FindsByRow now db found =
     IsFirstFailing (tables_of db) Stations (Demands (tables_of db) Stations (is_good_row now (tables_of db)))
     (option_map key_row found)
 
--- the station's account with the lines of all docks and bicycles is good, where so many stations have lesser keys
+-- the station's account with the lines of all docks and then of all bicycles is good,
+-- where so many stations have lesser keys
 abbrev pub is_accounted : Tables → ℕ → Row → Bool
 is_accounted t n row =
     is_good_with begins more good key (take 1) (map station_dock_line t.docks ++ map station_bike_line t.bikes) n
     (begins (station_line row))
 
--- the first station whose numbers aren't those of its docks and bicycles
+-- the first station whose numbers and text aren't those of its docks and bicycles
 abbrev pub FindsByNumber : Database → Option BadKey → Type 0
 FindsByNumber db found =
     IsFirstFailing (tables_of db) Stations (Demands (tables_of db) Stations (is_accounted (tables_of db)))

@@ -1,10 +1,12 @@
 //! The account of a station.
 
-ghost use Rattle.std.specs.Prelude.{◌≡◌};
-ghost use Rattle.bike_station_rules.specs.Stations.{begins, more, good, key, broken_at, taken_at};
+ghost use Rattle.std.specs.Prelude.{◌≡◌, option_map};
+ghost use Rattle.bike_station_rules.specs.Stations.{begins, more, good, key, broken_at, docked_at};
+ghost use Rattle.bike_station_rules.specs.Views.{docked_of};
 
+use crate::by_type::ByType;
 use crate::dock_set::DockSet;
-use crate::lines::{HeadLine, ROW_AT, docked_at, is_of};
+use crate::lines::{DockedBike, HeadLine, ROW_AT, docked_bike, is_of};
 use bike_book::columns::{docks, stations};
 use bike_fields::{DockCount, DockNumber};
 use bike_fixed::Within;
@@ -12,6 +14,7 @@ use bike_judges::{Account, BadKey, Opening};
 use bike_readings::{Part, read_dock, read_station};
 use bike_schema::StatementFault;
 use sqlite::Row;
+use std::alloc::Global;
 
 /// What the lines of a station come to.
 #[derive(Drop)]
@@ -28,6 +31,8 @@ pub(crate) struct StationAccount {
     is_broken: DockSet,
     /// The docks that hold a bicycle.
     is_taken: DockSet,
+    /// Its bicycles by type.
+    by_type: ByType,
 }
 
 impl Account for StationAccount {
@@ -39,7 +44,7 @@ impl Account for StationAccount {
 
     ghost key = { key };
 
-    fn begin(line: &Row) -> Result<Opening<StationAccount>, StatementFault> {
+    fn begin(alloc: Global, line: &Row) -> Result<Opening<StationAccount>, StatementFault> {
         if !is_of(line, 0) {
             return Ok(Opening::Item);
         }
@@ -53,6 +58,7 @@ impl Account for StationAccount {
             broken: station.broken,
             is_broken: DockSet::new(),
             is_taken: DockSet::new(),
+            by_type: ByType::new(alloc, station.by_type)?,
         }))
     }
 
@@ -60,18 +66,22 @@ impl Account for StationAccount {
         if !self.head.owns(line) {
             return Ok(());
         }
+        if let Some(bike) = docked_at(line) {
+            let is_available = bike.is_fit && !self.is_broken.has(bike.dock);
+            self.is_taken.put(bike.dock);
+            self.by_type.add(bike.type_id, is_available)?;
+        }
         if let Some(dock) = broken_at(line) {
             self.is_broken.put(dock);
-        }
-        if let Some(dock) = taken_at(line) {
-            self.is_taken.put(dock);
         }
         Ok(())
     }
 
     fn is_good(&self, _before: u64) -> bool {
         let free = self.is_taken.count_others(&self.is_broken, self.docks);
-        self.free == i64::from(free) && self.broken.get() == self.is_broken.count(self.docks)
+        self.free == i64::from(free)
+            && self.broken.get() == self.is_broken.count(self.docks)
+            && self.by_type.is_told()
     }
 
     fn bad_key(self) -> BadKey {
@@ -92,12 +102,12 @@ fn broken_at(line: &Row) -> Option<DockNumber>
     }
 }
 
-/// The dock that the line says holds a bicycle.
-fn taken_at(line: &Row) -> Option<DockNumber>
-    ensures { result ≡ taken_at line.now }
+/// The bicycle that the line says is in a dock.
+fn docked_at(line: &Row) -> Option<DockedBike<'_>>
+    ensures { option_map docked_of result ≡ docked_at line.now }
 {
     if !is_of(line, 2) {
         return None;
     }
-    docked_at(line)
+    docked_bike(line)
 }

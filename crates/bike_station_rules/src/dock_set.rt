@@ -43,6 +43,13 @@ impl DockSet {
         self.has[at] = true;
     }
 
+    /// Whether the dock is in the set.
+    pub(crate) fn has(&self, dock: DockNumber) -> bool
+        ensures { result ≡ has_bit self.now dock }
+    {
+        has_dock(&self.has, dock.get())
+    }
+
     /// How many of so many first docks are in the set.
     pub(crate) fn count(&self, docks: DockCount) -> u32
         ensures { result ≡ many_in self.now docks }

@@ -16,6 +16,7 @@ use bike_readings::{Part, read_meta};
 use bike_schema::StatementFault;
 use bike_sql::lookup::first_row;
 use sqlite::{Alter, Connection, Row, params};
+use std::alloc::Global;
 
 /// The first bad key of `docks`, where all tables before it are good. The database stays as it was. `NoMemory` where
 /// memory is refused; every other fault is the database's.
@@ -67,20 +68,27 @@ fn judge_rows<S: Alter>(
     )
 }
 
-/// The first station whose numbers aren't those of its docks and bicycles.
-fn judge_numbers<S: Alter>(conn: &mut Connection<S>) -> Result<Option<BadKey>, StatementFault>
+/// The first station whose numbers and text aren't those of its docks and bicycles.
+fn judge_numbers<S: Alter>(
+    alloc: Global,
+    conn: &mut Connection<S>,
+) -> Result<Option<BadKey>, StatementFault>
     ensures { ReadsWhere S.Store IsOurs conn.old conn.new result FindsByNumber }
 {
-    judge_lines(conn, Query::Stations, StretchJudge::<StationAccount>::new())
+    let judge: StretchJudge<StationAccount> = StretchJudge::new(alloc);
+    judge_lines(conn, Query::Stations, judge)
 }
 
-/// The first bad key of `stations_3`, where all tables before it are good. The database stays as it was. `NoMemory`
+/// The first bad key of `stations_4`, where all tables before it are good. The database stays as it was. `NoMemory`
 /// where memory is refused; every other fault is the database's.
-pub fn judge_stations<S: Alter>(conn: &mut Connection<S>) -> Result<Option<BadKey>, StatementFault>
+pub fn judge_stations<S: Alter>(
+    alloc: Global,
+    conn: &mut Connection<S>,
+) -> Result<Option<BadKey>, StatementFault>
     ensures { ReadsWhere S.Store IsOurs conn.old conn.new result (JudgesTable Stations) }
 {
     let now = find_now(conn)?;
     let by_row = judge_rows(conn, now)?;
-    let by_number = judge_numbers(conn)?;
+    let by_number = judge_numbers(alloc, conn)?;
     Ok(least(by_row, by_number))
 }

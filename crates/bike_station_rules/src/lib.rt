@@ -1,16 +1,12 @@
-//! The audit's rules of stations, of docks and of counts by type.
+//! The audit's rules of stations and of docks.
 #![tactic(auto)]
 
 mod account;
-mod count_judge;
+mod by_type;
 mod dock_set;
 mod docks;
 mod judge;
 mod lines;
-mod marks;
-mod names;
 mod station_rows;
-mod tally;
 
-pub use count_judge::judge_counts;
 pub use judge::{judge_docks, judge_stations};

@@ -1,18 +1,23 @@
 //! Lines of tables that mix.
 
-ghost use Rattle.std.specs.Prelude.{◌≡◌, ◌≤◌, [], ◌∷◌, IfOk, pos, is_some, option_map};
+ghost use Rattle.std.specs.Prelude.{◌≡◌, ◌+◌, ◌&&◌, nat_le, length, [], ◌∷◌, IfOk, is_some, option_map};
 ghost use Rattle.sqlite_value.specs.Order.{column};
 ghost use Rattle.bike_book.specs.declared.columns.bikes.TheConstants as bikes;
 ghost use Rattle.bike_judges.specs.Judging.{key_row};
 ghost use Rattle.bike_judges.specs.Lines.{part};
 ghost use Rattle.bike_station_rules.specs.Stations.{is_same_text, is_place};
-ghost use Rattle.bike_station_rules.specs.declared.lines.TheConstants.{ROW_AT, PLACE, DOCK, RENTAL, TRUCK, ORDER};
-ghost use Rattle.bike_schema.specs.Columns.{text_in, ident_in};
+ghost use Rattle.bike_station_rules.specs.declared.lines.TheConstants.{ROW_AT, BIKE, PLACE, DOCK, RENTAL, TRUCK};
+ghost use Rattle.bike_station_rules.specs.declared.lines.TheConstants.{ORDER};
+ghost use Rattle.bike_schema.specs.Columns.{text_in, ident_in, state_in};
+ghost use Rattle.bike_operator.specs.Counts.{is_fit};
+ghost use Rattle.bike_readings.specs.ColumnReaders.{numbered_in};
+ghost use Rattle.bike_station_rules.specs.Views.{docked_of};
 ghost use Rattle.bike_station_rules.specs.Docked.{docked_in, docked_columns, dock_named, keep_bounds};
 
 use bike_book::columns::bikes;
 use bike_fields::{BicycleNumber, DockNumber, Ident, OrderNumber, RentalNumber, TruckNumber};
 use bike_judges::BadKey;
+use bike_operator::BikeState;
 use bike_schema::{StatementFault, number_at, optional_number_at, state_at};
 use sqlite::Row;
 use sqlite::types::ValueRef;
@@ -120,13 +125,20 @@ fn text_in(line: &Row, at: usize) -> Option<&str>
     }
 }
 
-/// Whether the column holds an identifier.
-fn has_ident(line: &Row, at: usize) -> bool
-    ensures { result ≡ is_some (ident_in (column line.now at)) }
+/// The identifier.
+fn ident_in(line: &Row, at: usize) -> Option<&str>
+    ensures { option_map (λ text. text.now) result ≡ ident_in (column line.now at) }
 {
-    match text_in(line, at) {
-        Some(text) => Ident::checked(text).is_some(),
-        None => false,
+    Ident::checked(text_in(line, at)?)
+}
+
+/// The state of a bicycle.
+fn state_in(line: &Row, at: usize) -> Option<BikeState>
+    ensures { result ≡ state_in (column line.now at) }
+{
+    match state_at(line, at) {
+        Ok(state) => Some(state),
+        Err(_) => None,
     }
 }
 
@@ -145,7 +157,7 @@ fn dock_named(line: &Row) -> Option<DockNumber>
     ensures { result ≡ dock_named (column line.now PLACE) (column line.now DOCK)
         (column line.now RENTAL) (column line.now TRUCK) (column line.now ORDER) }
 {
-    if !has_ident(line, PLACE) || !keep_bounds(line) {
+    if ident_in(line, PLACE).is_none() || !keep_bounds(line) {
         return None;
     }
     match number_at(line, DOCK) {
@@ -154,24 +166,55 @@ fn dock_named(line: &Row) -> Option<DockNumber>
     }
 }
 
-/// The dock in the columns of a bicycle from the fourth on, where the line has them all and they name it.
-fn dock_in_columns(line: &Row) -> Option<DockNumber>
-    ensures { result ≡ docked_columns line.now }
-{
-    if line.column_count() < COLUMNS {
-        return None;
-    }
-    let bike: Result<BicycleNumber, StatementFault> = number_at(line, BIKE);
-    if bike.is_err() || !has_ident(line, TYPE_ID) || state_at(line, STATE).is_err() {
-        return None;
-    }
-    dock_named(line)
+/// A bicycle in a dock.
+#[derive(Clone, Copy)]
+pub(crate) struct DockedBike<'a> {
+    pub(crate) dock: DockNumber,
+    pub(crate) type_id: &'a str,
+    /// Whether it can be rented where its dock works.
+    pub(crate) is_fit: bool,
 }
 
-/// The dock that the bicycle of the line is in: its row stands from the fourth column on.
-#[tactic(auto, using(crate::proofs::DockedRows::docked_is))]
-pub(crate) fn docked_at(line: &Row) -> Option<DockNumber>
-    ensures { result ≡ docked_in (part ROW_AT bikes.COLUMNS line.now) }
+/// Whether a bicycle of that state can be rented where its dock works.
+fn is_fit(state: BikeState) -> bool
+    ensures { result ≡ is_fit state }
 {
-    dock_in_columns(line)
+    match state {
+        BikeState::Fit => true,
+        BikeState::Disabled | BikeState::Retired => false,
+    }
+}
+
+/// Whether the line has the columns of a bicycle from the fourth on, of which the first is its number.
+fn has_bike(line: &Row) -> bool
+    ensures { result ≡ (nat_le (ROW_AT + bikes.COLUMNS) (length line.now)
+        && is_some (numbered_in (column line.now BIKE))) }
+{
+    let bike: Result<BicycleNumber, StatementFault> = number_at(line, BIKE);
+    COLUMNS <= line.column_count() && bike.is_ok()
+}
+
+/// The bicycle in the columns of a line from the fourth on, where they name a dock that it is in.
+fn docked_in_columns(line: &Row) -> Option<DockedBike<'_>>
+    ensures { option_map docked_of result ≡ docked_columns line.now }
+{
+    if !has_bike(line) {
+        return None;
+    }
+    let type_id = ident_in(line, TYPE_ID)?;
+    let state = state_in(line, STATE)?;
+    let dock = dock_named(line)?;
+    Some(DockedBike {
+        dock,
+        type_id,
+        is_fit: is_fit(state),
+    })
+}
+
+/// The bicycle of the line, where it is in a dock: its row stands from the fourth column on.
+#[tactic(auto, using(crate::proofs::DockedRows::docked_is))]
+pub(crate) fn docked_bike(line: &Row) -> Option<DockedBike<'_>>
+    ensures { option_map docked_of result ≡ docked_in (part ROW_AT bikes.COLUMNS line.now) }
+{
+    docked_in_columns(line)
 }

@@ -7,7 +7,7 @@ use Rattle.sqlite.specs.Held.{Held, state}
 use Rattle.sqlite.specs.State.{HasCleanDisk}
 use Rattle.sqlite.proofs.StateLemmas.{unchanged}
 use Rattle.bike_sql.specs.Calls.{IsQuiet, ReadsWhere}
-use Rattle.bike_sql.proofs.ChainLaws.{quiet_then, reads_as, reads_both, reads_failed}
+use Rattle.bike_sql.proofs.ChainLaws.{quiet_then, reads_as, reads_both, reads_failed, reads_refused}
 use Rattle.bike_operator.specs.Operator.{Operator}
 use Rattle.bike_operator.specs.Sound.{IsSound}
 use Rattle.bike_book.specs.Stored.{Listed}
@@ -74,6 +74,12 @@ module _ {S : Type 0} {g : Ghosts S} where
       → AnswersOpen g old new {A = A} (Err e) says → IsErr result → AnswersOpen g old new result told
   open_failed {result = Ok y} it is = absurd (let e = is in cc)
   open_failed {result = Err f} it is = record { answers = λ is_open. reads_failed (it.answers is_open) is; quiet = it.quiet; ours = λ clean has. tt }
+
+  -- its caller failed with what it had read
+  pub open_refused : {A B E F : Type 0} {old new : Held S} {x : A} {result : Result B F} {says : Operator → Listed → A → Type 0} {told : Operator → Listed → B → Type 0}
+      → AnswersOpen g old new {E = E} (Ok x) says → IsErr result → AnswersOpen g old new result told
+  open_refused {result = Ok y} it is = absurd (let e = is in cc)
+  open_refused {result = Err f} it is = record { answers = λ is_open. reads_refused (it.answers is_open) is; quiet = it.quiet; ours = λ clean has. tt }
 
   -- After a read the connection is open, and both values are so of the database before the first.
   pub open_both : {X Y E F : Type 0} {old mid new : Held S} {x : X} {result : Result Y F} {says : Database → X → Type 0} {told : Operator → Listed → Y → Type 0}

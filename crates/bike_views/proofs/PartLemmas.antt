@@ -10,10 +10,10 @@ use Rattle.bike_operator.specs.declared.records.Rental.{Rental}
 use Rattle.bike_operator.specs.Operator.{Operator, dock_key}
 use Rattle.bike_operator.specs.View.{planned_rental, typed_bike}
 use Rattle.bike_book.specs.Stored.{Listed}
-use Rattle.bike_fleet_reads.specs.declared.stations.DockNumbers.{DockNumbers}
-use Rattle.bike_fleet_reads.specs.Fleet.{dock_numbers_at}
+use Rattle.bike_fleet_reads.specs.declared.stations.StationNumbers.{StationNumbers}
+use Rattle.bike_fleet_reads.specs.Fleet.{AreNumbersAt}
 use Rattle.bike_views.specs.declared.view_and_docks.StationDocks.{StationDocks}
-use Rattle.bike_views.specs.ViewAndDocks.{listed_docks, station_docks}
+use Rattle.bike_views.specs.ViewAndDocks.{listed_docks, station_docks, told_of}
 
 -- ---- the bicycle in a dock
 
@@ -28,14 +28,15 @@ typed_some b (Some t) {plan = plan} read some = let same : plan ≡ t.plan_id = 
 
 -- ---- the docks of a station
 
-pub docks_read : (s : Operator) (station : List ℕ) {numbers : Option DockNumbers} {d : StationDocks} → d ≡ record { station = station; numbers = numbers; listing = None }
-    → numbers ≡ dock_numbers_at s station → Some d ≡ Some (station_docks s station)
-docks_read s station is numbers = ap Some is ∙ ap (λ (n : Option DockNumbers). let d : StationDocks = record { station = station; numbers = n; listing = None } in Some d) numbers
+pub docks_read : (s : Operator) (station : List ℕ) {numbers : Option StationNumbers} {d : StationDocks} → d ≡ record { station = station; numbers = numbers; listing = None }
+    → AreNumbersAt s station numbers → told_of (Some d) ≡ Some (station_docks s station)
+docks_read s station is numbers = ap (λ (e : StationDocks). told_of (Some e)) is ∙ (λ i. Some (record { station = station; numbers = numbers i; listing = None }))
 
-pub listed_read : (s : Operator) (m : Listed) (station : List ℕ) (dock : ℕ) {numbers : Option DockNumbers} {listed : Bool} {d : StationDocks}
+pub listed_read : (s : Operator) (m : Listed) (station : List ℕ) (dock : ℕ) {numbers : Option StationNumbers} {listed : Bool} {d : StationDocks}
     → d ≡ record { station = station; numbers = numbers; listing = Some (record { dock = dock; is_listed = listed }) }
-    → numbers ≡ dock_numbers_at s station → listed ≡ map.contains_key m.docks (dock_key station dock) → Some d ≡ Some (listed_docks s m station dock)
-listed_read s m station dock is numbers listed = ap Some is ∙ (λ i. Some (record { station = station; numbers = numbers i; listing = Some (record { dock = dock; is_listed = listed i }) }))
+    → AreNumbersAt s station numbers → listed ≡ map.contains_key m.docks (dock_key station dock) → told_of (Some d) ≡ Some (listed_docks s m station dock)
+listed_read s m station dock is numbers listed =
+    ap (λ (e : StationDocks). told_of (Some e)) is ∙ (λ i. Some (record { station = station; numbers = numbers i; listing = Some (record { dock = dock; is_listed = listed i }) }))
 
 -- ---- a rental
 

@@ -6,6 +6,6 @@ pub use Rattle.bike_booking.specs.Stored
 pub use Rattle.bike_booking.specs.declared.stored.StoredCounts
 pub use Rattle.bike_booking.specs.declared.stored.StoredDock
 pub use Rattle.bike_fleet_reads.specs.Fleet
-pub use Rattle.bike_fleet_reads.specs.declared.counts.TypeCounts
 pub use Rattle.bike_fleet_reads.specs.declared.stations.DockNumbers
+pub use Rattle.bike_fleet_reads.specs.declared.stations.StationNumbers
 pub mod StoredParts

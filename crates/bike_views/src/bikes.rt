@@ -7,7 +7,7 @@ ghost use Rattle.bike_operator.specs.Counts.{is_broken};
 ghost use Rattle.bike_operator.specs.View.{bike_view, is_in_broken_dock, view_of};
 ghost use Rattle.bike_schema.specs.Answers.{Answers};
 ghost use Rattle.bike_views.specs.Open.{AnswersOpen};
-ghost use Rattle.bike_views.specs.ViewAndDocks.{bike_docks, station_docks};
+ghost use Rattle.bike_views.specs.ViewAndDocks.{bike_docks, station_docks, told_of};
 
 use crate::docks::is_marked;
 use crate::empty::empty_view;
@@ -44,9 +44,9 @@ fn find_dock<S: Alter>(
     dock: u32,
 ) -> Result<BikeDock, StatementFault>
     ensures { Answers S.Store conn.old conn.new result (λ s m x.
-        x ≡ record { is_broken = is_broken s station.now dock; docks = Some (station_docks s station.now) }) }
+        (x.is_broken ≡ is_broken s station.now dock) × (told_of x.docks ≡ Some (station_docks s station.now))) }
 {
-    let numbers = find_dock_numbers(conn, station)?;
+    let numbers = find_dock_numbers(alloc, conn, station)?;
     let is_broken = is_marked(conn, station, dock, &numbers)?;
     let docks = StationDocks::new(alloc, station, numbers, None)?;
     Ok(BikeDock {
@@ -62,7 +62,7 @@ fn find_dock_of<S: Alter>(
     bike: &Option<Bike>,
 ) -> Result<BikeDock, StatementFault>
     ensures { AnswersOpen S.Store conn.old conn.new result (λ s m x.
-        x ≡ record { is_broken = is_in_broken_dock s bike.now; docks = bike_docks s bike.now }) }
+        (x.is_broken ≡ is_in_broken_dock s bike.now) × (told_of x.docks ≡ bike_docks s bike.now)) }
 {
     match bike {
         None => Ok(no_dock()),
@@ -80,7 +80,7 @@ pub(crate) fn find_bike_view<S: Alter>(
     bike: BicycleNumber,
 ) -> Result<ViewAndDocks, StatementFault>
     ensures { Answers S.Store conn.old conn.new result
-        (λ s m x. (x.view ≡ bike_view s bike) × (x.docks ≡ bike_docks s (map.get s.bikes bike))) }
+        (λ s m x. (x.view ≡ bike_view s bike) × (told_of x.docks ≡ bike_docks s (map.get s.bikes bike))) }
 {
     let found = find_bike(alloc, conn, bike)?;
     let dock = find_dock_of(alloc, conn, &found)?;

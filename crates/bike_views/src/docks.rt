@@ -6,15 +6,15 @@ ghost use Rattle.bike_commands.specs.declared.command.Command.TheVariants as com
 ghost use Rattle.bike_operator.specs.Counts.{docked_at, is_broken};
 ghost use Rattle.bike_operator.specs.View.{dock_view, docked_view, typed_bike};
 ghost use Rattle.bike_schema.specs.Answers.{Answers};
-ghost use Rattle.bike_fleet_reads.specs.Fleet.{dock_numbers_at, numbered_pair};
+ghost use Rattle.bike_fleet_reads.specs.Fleet.{AreNumbersAt, numbered_pair};
 ghost use Rattle.bike_views.specs.Open.{AnswersOpen};
-ghost use Rattle.bike_views.specs.ViewAndDocks.{IsFoundFor, station_docks};
+ghost use Rattle.bike_views.specs.ViewAndDocks.{IsFoundFor, station_docks, told_of};
 
 use crate::empty::empty_view;
 use crate::view_and_docks::{DockListing, StationDocks, ViewAndDocks};
 use bike_fields::{DockNumber, Ident};
 use bike_fleet_reads::{
-    DockNumbers, NumberedBike, find_default_plan, find_docked, find_mark, find_station_row,
+    NumberedBike, StationNumbers, find_default_plan, find_docked, find_mark, find_station_row,
     has_broken,
 };
 use bike_operator::{DockedBike, View};
@@ -22,16 +22,16 @@ use bike_schema::StatementFault;
 use sqlite::{Alter, Connection};
 use std::alloc::Global;
 
-/// Whether a dock is broken, where these are the numbers of its station's docks. Where none of them is broken, the
+/// Whether a dock is broken, where these are its station's numbers. Where none of them is broken, the
 /// dock's row isn't read. A dock with no row works.
 pub(crate) fn is_marked<S: Alter>(
     conn: &mut Connection<S>,
     station: &Ident,
     dock: u32,
-    numbers: &Option<DockNumbers>,
+    numbers: &Option<StationNumbers>,
 ) -> Result<bool, StatementFault>
     ensures { AnswersOpen S.Store conn.old conn.new result
-        (λ s m broken. numbers.now ≡ dock_numbers_at s station.now → broken ≡ is_broken s station.now dock) }
+        (λ s m broken. AreNumbersAt s station.now numbers.now → broken ≡ is_broken s station.now dock) }
 {
     if !has_broken(numbers) {
         return Ok(false);
@@ -84,9 +84,9 @@ pub(crate) fn find_dock_view<S: Alter>(
     dock: u32,
 ) -> Result<ViewAndDocks, StatementFault>
     ensures { Answers S.Store conn.old conn.new result
-        (λ s m x. (x.view ≡ dock_view s station.now dock) × (x.docks ≡ Some (station_docks s station.now))) }
+        (λ s m x. (x.view ≡ dock_view s station.now dock) × (told_of x.docks ≡ Some (station_docks s station.now))) }
 {
-    let row = find_station_row(conn, station)?;
+    let row = find_station_row(alloc, conn, station)?;
     let is_dock_broken = is_marked(conn, station, dock, &row.numbers)?;
     let docked = find_docked_bike(alloc, conn, station, dock)?;
     let docks = StationDocks::new(alloc, station, row.numbers, None)?;
@@ -113,7 +113,7 @@ pub(crate) fn view_to_mark_dock<S: Alter>(
         (λ s m x. (broken : Bool) → IsFoundFor s m (command.MarkDock station.now dock broken) x) }
 {
     let dock = dock.get();
-    let row = find_station_row(conn, station)?;
+    let row = find_station_row(alloc, conn, station)?;
     let mark = find_mark(conn, station, dock)?;
     let docked = find_docked_bike(alloc, conn, station, dock)?;
     let listing = DockListing {

@@ -8,7 +8,7 @@ ghost use Rattle.bike_operator.specs.View.{end_at as end_of_order, end_view, has
 ghost use Rattle.bike_schema.specs.Answers.{Answers};
 ghost use Rattle.bike_fleet_reads.specs.Fleet.{IsTruckLoad};
 ghost use Rattle.bike_views.specs.Open.{AnswersOpen};
-ghost use Rattle.bike_views.specs.ViewAndDocks.{IsFoundFor, end_docks, side_docks};
+ghost use Rattle.bike_views.specs.ViewAndDocks.{IsFoundFor, end_docks, side_docks, told_of};
 
 use crate::bikes::find_bike_view;
 use crate::docks::find_dock_view;
@@ -158,7 +158,7 @@ fn find_end_view<S: Alter>(
     dock: u32,
 ) -> Result<ViewAndDocks, StatementFault>
     ensures { AnswersOpen S.Store conn.old conn.new result
-        (λ s m x. (x.view ≡ end_view s end.now dock) × (x.docks ≡ end_docks s end.now)) }
+        (λ s m x. (x.view ≡ end_view s end.now dock) × (told_of x.docks ≡ end_docks s end.now)) }
 {
     match end {
         OrderEnd::Depot => Ok(ViewAndDocks::plain(empty_view())),
@@ -175,7 +175,7 @@ fn find_side_view<S: Alter>(
     dock: u32,
 ) -> Result<ViewAndDocks, StatementFault>
     ensures { AnswersOpen S.Store conn.old conn.new result
-        (λ s m x. (x.view ≡ side_view s order.now side dock) × (x.docks ≡ side_docks s order.now side)) }
+        (λ s m x. (x.view ≡ side_view s order.now side dock) × (told_of x.docks ≡ side_docks s order.now side)) }
 {
     match order {
         None => Ok(ViewAndDocks::plain(empty_view())),

@@ -58,7 +58,7 @@ pub(crate) fn view_to_add_docks<S: Alter>(
     ensures { Answers S.Store conn.old conn.new result
         (λ s m x. (count : ℕ) → IsFoundFor s m (command.AddDocks station.now count) x) }
 {
-    let row = find_station_row(conn, station)?;
+    let row = find_station_row(alloc, conn, station)?;
     let docks = StationDocks::new(alloc, station, row.numbers, None)?;
     Ok(ViewAndDocks {
         view: View {

@@ -1,48 +1,72 @@
 //! What the tables store of the station whose numbers an accepted command touches.
 
-ghost use Rattle.std.specs.Prelude.{◌≡◌, IfOk, IfSome, IsTrue, option_map};
+ghost use Rattle.std.specs.Prelude.{◌≡◌, IfOk, IfSome, IsTrue, Some};
 ghost use Rattle.std.specs.FinMap as map;
 ghost use Rattle.bike_commands.specs.declared.command.Command.{Command};
 ghost use Rattle.bike_operator.specs.Operator.{Operator, dock_key};
+ghost use Rattle.bike_book.specs.ByType.{counts_of};
 ghost use Rattle.bike_book.specs.Stored.{Listed};
-ghost use Rattle.bike_schema.specs.Answers.{Answers};
-ghost use Rattle.bike_views.specs.Fleet.{dock_numbers_at};
-ghost use Rattle.bike_views.specs.Stored.{AreCountsStored, AreHeldStored, IsDockStored, IsListedAt, IsMovedStored};
+ghost use Rattle.bike_views.specs.Fleet.{AreNumbersAt};
+ghost use Rattle.bike_views.specs.Stored.{IsMovedStored};
 ghost use Rattle.bike_views.specs.Open.{AnswersOpen};
-ghost use Rattle.bike_views.specs.ViewAndDocks.{docks_for};
+ghost use Rattle.bike_views.specs.ViewAndDocks.{docks_for, told_of};
 ghost use Rattle.bike_views.specs.StoredParts.{AreDocks, counts_read, dock_read};
 
 use crate::StationDocks;
 use bike_accepted::{DockAt, DockOccupant, Movement};
+use bike_book::{CountedType, counts_by_type, counts_of};
 use bike_booking::{Stored, StoredCounts, StoredDock, Sums};
-use bike_fields::Ident;
-use bike_fleet_reads::{DockNumbers, TypeCounts, find_counts, find_dock_numbers, find_mark};
+use bike_fields::{DockTotal, Ident};
+use bike_fleet_reads::{DockNumbers, StationNumbers, find_dock_numbers, find_mark, no_docks};
 use bike_schema::StatementFault;
 use sqlite::{Alter, Connection};
+use std::alloc::Global;
 
-/// The numbers of a station's docks, all 0 where it has none.
-fn stored_dock(numbers: &Option<DockNumbers>, is_listed: bool) -> StoredDock
-    ensures { result ≡ dock_read numbers.now is_listed }
+/// The numbers of a station's docks.
+fn stored_dock(docks: DockNumbers, is_listed: bool) -> StoredDock
+    ensures { result ≡ dock_read docks is_listed }
 {
-    let numbers = match numbers {
-        Some(numbers) => *numbers,
-        None => DockNumbers::none(),
-    };
     StoredDock {
-        free: numbers.free,
-        broken: numbers.broken,
+        free: docks.free,
+        broken: docks.broken,
         is_listed,
     }
 }
 
-/// The counts of a type, where they have a row.
-fn stored_counts(counts: Option<TypeCounts>) -> Option<StoredCounts>
-    ensures { result ≡ option_map counts_read counts }
+/// The counts of a type at a station, of which these are the bicycles by type. `StoreFailed` where they are more than a
+/// station has docks.
+fn counts_at(by_type: &[CountedType], type_id: &Ident) -> Result<StoredCounts, StatementFault>
+    ensures { IfOk result (λ counts. counts ≡ counts_read (counts_of type_id.now by_type.now)) }
 {
-    counts.map(|counts| StoredCounts {
-        available: counts.available,
-        disabled: counts.disabled,
+    let counts = counts_of(by_type, type_id.as_str());
+    let available = DockTotal::new(counts.available).ok_or(StatementFault::StoreFailed)?;
+    let disabled = DockTotal::new(counts.disabled).ok_or(StatementFault::StoreFailed)?;
+    Ok(StoredCounts {
+        available,
+        disabled,
     })
+}
+
+/// The counts of no type.
+fn no_counts() -> StoredCounts {
+    StoredCounts {
+        available: no_docks(),
+        disabled: no_docks(),
+    }
+}
+
+/// The counts of the type of the bicycle in a dock, where there is one. It fails as `counts_at` does.
+fn held_counts(
+    by_type: &[CountedType],
+    held: &Option<DockOccupant<'_>>,
+) -> Result<StoredCounts, StatementFault>
+    ensures { IfOk result (λ counts. IfSome held.now
+        (λ h. counts ≡ counts_read (counts_of h.type_id.now by_type.now))) }
+{
+    match held {
+        None => Ok(no_counts()),
+        Some(held) => counts_at(by_type, held.type_id),
+    }
 }
 
 /// Whether the docks are the station's.
@@ -70,21 +94,39 @@ fn listing_of(docks: &Option<StationDocks>, at: &DockAt<'_>) -> Option<bool>
     }
 }
 
-/// The numbers of a station's docks, as they were read with the view, or by one more read.
-fn find_numbers<S: Alter>(
+/// The numbers of a station, as they were read with the view, or by one more read.
+fn find_numbers_any<S: Alter>(
+    alloc: Global,
     conn: &mut Connection<S>,
-    docks: &Option<StationDocks>,
+    docks: Option<StationDocks>,
     station: &Ident,
-) -> Result<Option<DockNumbers>, StatementFault>
+) -> Result<Option<StationNumbers>, StatementFault>
     ensures { AnswersOpen S.Store conn.old conn.new result
-        (λ s m numbers. AreDocks s m docks.now → numbers ≡ dock_numbers_at s station.now) }
+        (λ s m numbers. AreDocks s m docks → AreNumbersAt s station.now numbers) }
 {
     if let Some(docks) = docks {
-        if is_station(docks, station) {
+        if is_station(&docks, station) {
             return Ok(docks.numbers);
         }
     }
-    find_dock_numbers(conn, station)
+    find_dock_numbers(alloc, conn, station)
+}
+
+/// The numbers of a station, as they were read with the view, or by one more read. `StoreFailed` also where there is no
+/// such station, as there is where a command is accepted that touches its docks.
+fn find_numbers<S: Alter>(
+    alloc: Global,
+    conn: &mut Connection<S>,
+    docks: Option<StationDocks>,
+    station: &Ident,
+) -> Result<StationNumbers, StatementFault>
+    ensures { AnswersOpen S.Store conn.old conn.new result
+        (λ s m numbers. AreDocks s m docks → AreNumbersAt s station.now (Some numbers)) }
+{
+    match find_numbers_any(alloc, conn, docks, station)? {
+        Some(numbers) => Ok(numbers),
+        None => Err(StatementFault::StoreFailed),
+    }
 }
 
 /// Whether a dock has a row, as it was read with the view, or by one more read.
@@ -103,123 +145,93 @@ fn find_listing<S: Alter>(
     Ok(mark.is_some())
 }
 
-/// What is stored of the docks of a station.
-fn find_station_docks<S: Alter>(
-    conn: &mut Connection<S>,
-    docks: &Option<StationDocks>,
-    station: &Ident,
-) -> Result<StoredDock, StatementFault>
-    ensures { AnswersOpen S.Store conn.old conn.new result
-        (λ s m dock. AreDocks s m docks.now → IsDockStored s m station.now dock) }
-{
-    let numbers = find_numbers(conn, docks, station)?;
-    Ok(stored_dock(&numbers, false))
-}
-
-/// What is stored of the docks of a dock's station, and whether the dock has a row.
-fn find_listed_dock<S: Alter>(
-    conn: &mut Connection<S>,
-    docks: &Option<StationDocks>,
-    at: &DockAt<'_>,
-) -> Result<StoredDock, StatementFault>
-    ensures { AnswersOpen S.Store conn.old conn.new result (λ s m dock. AreDocks s m docks.now
-        → IsDockStored s m at.now.station.now dock × IsListedAt s m at.now dock) }
-{
-    let numbers = find_numbers(conn, docks, at.station)?;
-    let is_listed = find_listing(conn, docks, at)?;
-    Ok(stored_dock(&numbers, is_listed))
-}
-
-/// The counts of a type at a dock's station.
-fn find_counts_at<S: Alter>(
-    conn: &mut Connection<S>,
-    at: &DockAt<'_>,
-    type_id: &Ident,
-) -> Result<Option<StoredCounts>, StatementFault>
-    ensures { Answers S.Store conn.old conn.new result (λ s m counts. AreCountsStored s m at.now type_id.now counts) }
-{
-    let counts = find_counts(conn, at.station, type_id)?;
-    Ok(stored_counts(counts))
-}
-
-/// The counts of the type of the bicycle in a dock, where there is one.
-fn find_held_counts<S: Alter>(
-    conn: &mut Connection<S>,
-    at: &DockAt<'_>,
-    held: &Option<DockOccupant<'_>>,
-) -> Result<Option<StoredCounts>, StatementFault>
-    ensures { AnswersOpen S.Store conn.old conn.new result (λ s m counts. AreHeldStored s m at.now held.now counts) }
-{
-    match held {
-        None => Ok(None),
-        Some(held) => find_counts_at(conn, at, held.type_id),
-    }
-}
-
 /// What is stored where no dock is touched.
-fn untouched(sums: Sums) -> Stored
+fn untouched(alloc: Global, sums: Sums) -> Stored
     ensures { result.sums ≡ sums }
 {
     Stored {
-        dock: stored_dock(&None, false),
-        counts: None,
+        dock: StoredDock {
+            free: no_docks(),
+            broken: no_docks(),
+            is_listed: false,
+        },
+        by_type: Vec::new(alloc),
+        counts: no_counts(),
+        sums,
+    }
+}
+
+/// What is stored of a station's docks and bicycles, and of the type that is touched.
+fn stored_at(numbers: StationNumbers, is_listed: bool, counts: StoredCounts, sums: Sums) -> Stored
+    ensures { result ≡ record {
+      dock = dock_read numbers.docks is_listed;
+      by_type = numbers.by_type;
+      counts = counts;
+      sums = sums;
+    } }
+{
+    Stored {
+        dock: stored_dock(numbers.docks, is_listed),
+        by_type: numbers.by_type,
+        counts,
         sums,
     }
 }
 
 /// What is stored of what is put or marked. Where that touches no dock, nothing is read, and the numbers are 0.
 fn find_moved<S: Alter>(
+    alloc: Global,
     conn: &mut Connection<S>,
-    docks: &Option<StationDocks>,
+    docks: Option<StationDocks>,
     moved: &Movement<'_>,
     sums: Sums,
 ) -> Result<Stored, StatementFault>
     ensures stored { AnswersOpen S.Store conn.old conn.new result
-        (λ s m stored. AreDocks s m docks.now → IsMovedStored s m stored moved.now) }
+        (λ s m stored. AreDocks s m docks → IsMovedStored s m stored moved.now) }
     ensures sums { IfOk result (λ stored. stored.sums ≡ sums) }
 {
+    counts_by_type();
     match moved {
-        Movement::Away { .. } => Ok(untouched(sums)),
+        Movement::Away { .. } => Ok(untouched(alloc, sums)),
         Movement::AtDock { at, type_id, .. } => {
-            let dock = find_station_docks(conn, docks, at.station)?;
-            let counts = find_counts_at(conn, at, type_id)?;
-            Ok(Stored { dock, counts, sums })
+            let numbers = find_numbers(alloc, conn, docks, at.station)?;
+            let counts = counts_at(numbers.by_type.as_slice(), type_id)?;
+            Ok(stored_at(numbers, false, counts, sums))
         }
         Movement::AddDocks { station, .. } => {
-            let dock = find_station_docks(conn, docks, station)?;
-            Ok(Stored {
-                dock,
-                counts: None,
-                sums,
-            })
+            let numbers = find_numbers(alloc, conn, docks, station)?;
+            Ok(stored_at(numbers, false, no_counts(), sums))
         }
         Movement::Marked { at, held, .. } => {
-            let dock = find_listed_dock(conn, docks, at)?;
-            let counts = find_held_counts(conn, at, held)?;
-            Ok(Stored { dock, counts, sums })
+            let is_listed = find_listing(conn, &docks, at)?;
+            let numbers = find_numbers(alloc, conn, docks, at.station)?;
+            let counts = held_counts(numbers.by_type.as_slice(), held)?;
+            Ok(stored_at(numbers, is_listed, counts, sums))
         }
     }
 }
 
 /// What the tables store of what an accepted command puts or marks, beside the operator's sums: the numbers of the
-/// dock's station, the counts there of the bicycle's type, and of a dock that is marked whether it has a row. `docks`
-/// came with the view of a command: what it tells of the dock isn't read again. Where no dock is touched, nothing is
-/// read.
+/// dock's station, its bicycles by type, the counts there of the bicycle's type, and of a dock that is marked whether
+/// it has a row. `docks` came with the view of a command: what it tells of the dock isn't read again, and its list of
+/// the bicycles by type goes into what is answered. Where no dock is touched, nothing is read.
 ///
-/// `NoMemory` comes where the engine wants memory that is refused, and `StoreFailed` where it fails otherwise, or a row
-/// holds what the product never writes. In each case the tables are as before the call, or as before the transaction.
+/// `NoMemory` comes where memory is refused, and `StoreFailed` where the engine fails otherwise, a row holds what the
+/// product never writes, or the station isn't there. In each case the tables are as before the call, or as before the
+/// transaction.
 pub fn find_stored<S: Alter>(
+    alloc: Global,
     conn: &mut Connection<S>,
-    docks: &Option<StationDocks>,
+    docks: Option<StationDocks>,
     moved: &Option<Movement<'_>>,
     sums: Sums,
 ) -> Result<Stored, StatementFault>
     ensures stored { AnswersOpen S.Store conn.old conn.new result (λ s m stored. (c : Command)
-        → docks.now ≡ docks_for s m c → IfSome moved.now (IsMovedStored s m stored)) }
+        → told_of docks ≡ docks_for s m c → IfSome moved.now (IsMovedStored s m stored)) }
     ensures sums { IfOk result (λ stored. stored.sums ≡ sums) }
 {
     match moved {
-        None => Ok(untouched(sums)),
-        Some(moved) => find_moved(conn, docks, moved, sums),
+        None => Ok(untouched(alloc, sums)),
+        Some(moved) => find_moved(alloc, conn, docks, moved, sums),
     }
 }

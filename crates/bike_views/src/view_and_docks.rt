@@ -4,7 +4,7 @@ ghost use Rattle.std.specs.Prelude.{◌≡◌, IfOk, None};
 ghost use Rattle.bike_views.specs.ViewAndDocks.{IsPlain};
 
 use bike_fields::Ident;
-use bike_fleet_reads::DockNumbers;
+use bike_fleet_reads::StationNumbers;
 use bike_operator::View;
 use bike_schema::StatementFault;
 use std::alloc::Global;
@@ -23,8 +23,9 @@ pub struct DockListing {
 pub struct StationDocks {
     /// The station.
     pub station: Ident,
-    /// How many of its docks are available and how many are broken, where there is such a station.
-    pub numbers: Option<DockNumbers>,
+    /// How many of its docks are available and how many are broken, and its bicycles by type, where there is such a
+    /// station.
+    pub numbers: Option<StationNumbers>,
     /// Whether one of its docks has a row, where that was read.
     pub listing: Option<DockListing>,
 }
@@ -34,7 +35,7 @@ impl StationDocks {
     pub(crate) fn new(
         alloc: Global,
         station: &Ident,
-        numbers: Option<DockNumbers>,
+        numbers: Option<StationNumbers>,
         listing: Option<DockListing>,
     ) -> Result<StationDocks, StatementFault>
         ensures { IfOk result (λ docks.

@@ -21,7 +21,7 @@ pub sets_system_name : (id name : Bor (List ℕ)) → Makes (codes "UPDATE syste
 unfolding everything
 sets_system_name id name = sets_columns System _ _ (row_updated (unique_key System) 0 ((3, 1) ∷ []) _ (λ tree. (refl, refl, refl), refl) refl refl refl (λ r. refl) (λ r. refl))
 
-pub sets_station_name : (id name : Bor (List ℕ)) → Makes (codes "UPDATE stations_3 SET name = ?2 WHERE station_id = ?1") (Text id.now ∷ Text name.now ∷ [])
+pub sets_station_name : (id name : Bor (List ℕ)) → Makes (codes "UPDATE stations_4 SET name = ?2 WHERE station_id = ?1") (Text id.now ∷ Text name.now ∷ [])
     (record_write (change.SetOwnName named.Station id name))
 unfolding everything
 sets_station_name id name = sets_columns Stations _ _ (row_updated (unique_key Stations) 0 ((1, 1) ∷ []) _ (λ tree. (refl, refl, refl), refl) refl refl refl (λ r. refl) (λ r. refl))

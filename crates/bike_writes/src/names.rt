@@ -27,7 +27,7 @@ pub(crate) fn set_own_name<S: Alter>(
             let sql = "UPDATE system SET name = ?2 WHERE one = ?1";
             return run(tx, sql, params![1_i64, name]);
         }
-        NameKind::Station => "UPDATE stations_3 SET name = ?2 WHERE station_id = ?1",
+        NameKind::Station => "UPDATE stations_4 SET name = ?2 WHERE station_id = ?1",
         NameKind::Type => "UPDATE types SET name = ?2 WHERE type_id = ?1",
         NameKind::Plan => "UPDATE plans SET name = ?2 WHERE plan_id = ?1",
         NameKind::Description => "UPDATE plans SET description = ?2 WHERE plan_id = ?1",

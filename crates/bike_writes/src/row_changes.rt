@@ -1,7 +1,9 @@
 //! Row changes.
 
+ghost use Rattle.std.specs.Prelude.{◌≡◌, IfOk, string_bytes};
 ghost use Rattle.bike_book.specs.Writes.{record_write, write_of};
 ghost use Rattle.bike_schema.specs.Calls.{Writes};
+ghost use Rattle.bike_writes.specs.RowChanges.{sent_text, PutsRow};
 
 use crate::catalogue::{
     add_plan, add_region, add_segment, add_type, change_system, set_plan, set_system,
@@ -13,13 +15,14 @@ use crate::orders::{add_order, set_order};
 use crate::rentals::{add_rental, close_rental, set_refunded};
 use crate::riders::{add_rider, set_balance, set_rider};
 use crate::stations::{
-    add_count, add_dock, add_station, move_station, set_count, set_dock, set_dock_count,
+    add_dock, add_station, move_station, set_bikes_reported, set_dock, set_dock_count,
     set_docks_reported, set_region, set_station,
 };
 use bike_accepted::Change;
-use bike_book::RowChange;
+use bike_book::{RowChange, by_type_with};
 use bike_schema::{OpenTransaction, StatementFault};
 use sqlite::Alter;
+use std::alloc::{AllocError, Global};
 
 /// Puts, adds or removes the row of one record.
 fn put_record<S: Alter>(
@@ -100,14 +103,29 @@ fn put_record<S: Alter>(
     }
 }
 
-/// Makes one row change, inside the transaction. The key of a row that is added has to be free; columns that are set
-/// in a row that isn't there change nothing, nor does the removal of such a row. `NoMemory` comes where the database
-/// wanted memory that was refused, and `StoreFailed` for all else that it refused. After an error the tables are as
-/// before the call, or the transaction is undone.
-pub fn put<S: Alter>(
+/// The text that a row change's statement is sent and that the change doesn't have: that of a station's bicycles by
+/// type. Else it is empty.
+fn text_sent(alloc: Global, change: &RowChange<'_>) -> Result<String, AllocError>
+    ensures { IfOk result (λ text. string_bytes text ≡ sent_text change.now) }
+{
+    match *change {
+        RowChange::SetBikesReported {
+            by_type,
+            type_id,
+            counts,
+            ..
+        } => by_type_with(alloc, by_type, type_id, counts),
+        _ => Ok(String::new(alloc)),
+    }
+}
+
+/// Makes one row change, for which this text is sent.
+fn put_with<S: Alter>(
     tx: &mut OpenTransaction<'_, S>,
     change: &RowChange<'_>,
+    text: &str,
 ) -> Result<(), StatementFault>
+    requires { text.now ≡ sent_text change.now }
     ensures { Writes S.Store tx.old.conn tx.new.conn result (write_of change.now) }
 {
     match *change {
@@ -124,6 +142,13 @@ pub fn put<S: Alter>(
             broken,
             reported,
         } => set_docks_reported(tx, station, free, broken, reported),
+        RowChange::SetBikesReported {
+            station,
+            free,
+            broken,
+            reported,
+            ..
+        } => set_bikes_reported(tx, station, free, broken, text, reported),
         RowChange::AddDock {
             station,
             dock,
@@ -146,18 +171,21 @@ pub fn put<S: Alter>(
             command,
             reply,
         } => add_request(tx, number, moment, caller, key, command, reply),
-        RowChange::AddCount {
-            station,
-            type_id,
-            available,
-            disabled,
-        } => add_count(tx, station, type_id, available, disabled),
-        RowChange::SetCount {
-            station,
-            type_id,
-            available,
-            disabled,
-        } => set_count(tx, station, type_id, available, disabled),
         RowChange::SetMeta { now, cash, revenue } => set_meta(tx, now, cash, revenue),
     }
+}
+
+/// Makes one row change, inside the transaction. The key of a row that is added has to be free; columns that are set
+/// in a row that isn't there change nothing, nor does the removal of such a row. `NoMemory` comes where the database,
+/// or the text of a station's bicycles by type, wanted memory that was refused, and `StoreFailed` for all else that the
+/// database refused. After an error the tables are as before the call, or the transaction is undone.
+pub fn put<S: Alter>(
+    alloc: Global,
+    tx: &mut OpenTransaction<'_, S>,
+    change: &RowChange<'_>,
+) -> Result<(), StatementFault>
+    ensures { PutsRow S.Store tx.old.conn tx.new.conn result (write_of change.now) }
+{
+    let text = text_sent(alloc, change)?;
+    put_with(tx, change, text.as_str())
 }

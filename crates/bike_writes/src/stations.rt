@@ -1,9 +1,10 @@
-//! The statements on `stations_3`, `docks` and `counts`.
+//! The statements on `stations_4` and `docks`.
 
 ghost use Rattle.bike_accepted.specs.declared.change.Change.TheVariants as change;
 ghost use Rattle.bike_book.specs.declared.row_change.RowChange.TheVariants as row;
 ghost use Rattle.bike_book.specs.Writes.{record_write, write_of};
 ghost use Rattle.bike_schema.specs.Calls.{Writes};
+ghost use Rattle.bike_writes.specs.RowChanges.{bikes_write};
 
 use crate::columns::{seconds_of, text_in};
 use bike_book::table;
@@ -14,7 +15,7 @@ use bike_schema::{OpenTransaction, StatementFault};
 use bike_sql::write::run;
 use sqlite::{Alter, params};
 
-/// Adds a station: installed, renting, returning, with all docks available, and in no region.
+/// Adds a station: installed, renting, returning, with all docks available, in no region, and with no bicycles.
 pub(crate) fn add_station<S: Alter>(
     tx: &mut OpenTransaction<'_, S>,
     station: &Station,
@@ -38,7 +39,8 @@ pub(crate) fn add_station<S: Alter>(
             seconds_of(reported),
             station.docks().get(),
             0_i64,
-            None::<i64>
+            None::<i64>,
+            "-"
         ],
     )
 }
@@ -57,7 +59,7 @@ pub(crate) fn set_station<S: Alter>(
 {
     run(
         tx,
-        "UPDATE stations_3 SET installed = ?2, renting = ?3, \"returning\" = ?4, reported = ?5 WHERE station_id = ?1",
+        "UPDATE stations_4 SET installed = ?2, renting = ?3, \"returning\" = ?4, reported = ?5 WHERE station_id = ?1",
         params![
             station.as_str(),
             is_installed,
@@ -81,8 +83,34 @@ pub(crate) fn set_docks_reported<S: Alter>(
 {
     run(
         tx,
-        "UPDATE stations_3 SET free = ?2, broken = ?3, reported = ?4 WHERE station_id = ?1",
+        "UPDATE stations_4 SET free = ?2, broken = ?3, reported = ?4 WHERE station_id = ?1",
         params![station.as_str(), free, broken, seconds_of(reported)],
+    )
+}
+
+/// Sets how many docks of a station are available, how many are broken, the text of its bicycles by type, and when the
+/// station reported last.
+pub(crate) fn set_bikes_reported<S: Alter>(
+    tx: &mut OpenTransaction<'_, S>,
+    station: &Ident,
+    free: u32,
+    broken: u32,
+    by_type: &str,
+    reported: Moment,
+) -> Result<(), StatementFault>
+    ensures { Writes S.Store tx.old.conn tx.new.conn result
+        (bikes_write station.now free broken by_type.now reported) }
+{
+    run(
+        tx,
+        "UPDATE stations_4 SET free = ?2, broken = ?3, by_type = ?4, reported = ?5 WHERE station_id = ?1",
+        params![
+            station.as_str(),
+            free,
+            broken,
+            by_type,
+            seconds_of(reported)
+        ],
     )
 }
 
@@ -97,7 +125,7 @@ pub(crate) fn move_station<S: Alter>(
 {
     run(
         tx,
-        "UPDATE stations_3 SET lat = ?2, lon = ?3 WHERE station_id = ?1",
+        "UPDATE stations_4 SET lat = ?2, lon = ?3 WHERE station_id = ?1",
         params![
             station.as_str(),
             position.lat().microdegrees(),
@@ -117,7 +145,7 @@ pub(crate) fn set_dock_count<S: Alter>(
 {
     run(
         tx,
-        "UPDATE stations_3 SET docks = ?2, free = ?3 WHERE station_id = ?1",
+        "UPDATE stations_4 SET docks = ?2, free = ?3 WHERE station_id = ?1",
         params![station.as_str(), docks, free],
     )
 }
@@ -133,7 +161,7 @@ pub(crate) fn set_region<S: Alter>(
 {
     run(
         tx,
-        "UPDATE stations_3 SET region_id = ?2 WHERE station_id = ?1",
+        "UPDATE stations_4 SET region_id = ?2 WHERE station_id = ?1",
         params![station.as_str(), text_in(region)],
     )
 }
@@ -167,41 +195,5 @@ pub(crate) fn set_dock<S: Alter>(
         tx,
         "UPDATE docks SET broken = ?3 WHERE station_id = ?1 AND dock = ?2",
         params![station.as_str(), dock, is_broken],
-    )
-}
-
-/// Adds the counts of a type at a station.
-pub(crate) fn add_count<S: Alter>(
-    tx: &mut OpenTransaction<'_, S>,
-    station: &Ident,
-    type_id: &Ident,
-    available: u32,
-    disabled: u32,
-) -> Result<(), StatementFault>
-    ensures { Writes S.Store tx.old.conn tx.new.conn result
-        (write_of (row.AddCount station.entry type_id.entry available disabled)) }
-{
-    run(
-        tx,
-        table!(insert counts),
-        params![station.as_str(), type_id.as_str(), available, disabled],
-    )
-}
-
-/// Sets the counts of a type at a station.
-pub(crate) fn set_count<S: Alter>(
-    tx: &mut OpenTransaction<'_, S>,
-    station: &Ident,
-    type_id: &Ident,
-    available: u32,
-    disabled: u32,
-) -> Result<(), StatementFault>
-    ensures { Writes S.Store tx.old.conn tx.new.conn result
-        (write_of (row.SetCount station.entry type_id.entry available disabled)) }
-{
-    run(
-        tx,
-        "UPDATE counts SET available = ?3, disabled = ?4 WHERE station_id = ?1 AND type_id = ?2",
-        params![station.as_str(), type_id.as_str(), available, disabled],
     )
 }

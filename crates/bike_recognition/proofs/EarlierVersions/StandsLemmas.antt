@@ -8,27 +8,31 @@ use Rattle.bike_sql.specs.Found.{IsPlainTable}
 use Rattle.bike_sql.specs.Layout.{table_of}
 use Rattle.bike_sql.specs.Stands.{Stands}
 use Rattle.bike_sql.proofs.KeyLemmas.{IsKeyOf, columns_unique_at}
-use Rattle.bike_book.specs.Tables.{TableName, keys_of, is_table, Regions, Stations, MoreNames}
+use Rattle.bike_book.specs.Tables.{TableName, keys_of, is_table, Stations}
 use Rattle.bike_schema.specs.Layouts.{layout_of, every_table}
 use Rattle.bike_schema.proofs.TableLemmas.{of_every}
 use Rattle.bike_recognition.specs.Recognition.{TableStands}
 use Rattle.bike_recognition.proofs.StandLemmas.{no_defaults_in}
 use Rattle.bike_recognition.specs.declared.earlier_versions.earlier.Earlier.{Earlier}
 use Rattle.bike_recognition.specs.declared.earlier_versions.earlier.Earlier.TheVariants.{First, Second, Third}
-use Rattle.bike_recognition.specs.EarlierVersions.Kept.{KeptLies}
-use Rattle.bike_recognition.specs.EarlierVersions.Earlier.{stations_layout, has_table, layout_at, StandsAt, IsWhether, HasTablesAt, AreNewerFree, IsAt}
+use Rattle.bike_recognition.specs.declared.earlier_versions.old_table.OldTable.{OldTable}
+use Rattle.bike_recognition.specs.declared.earlier_versions.old_table.OldTable.TheVariants as old
+use Rattle.bike_recognition.specs.EarlierVersions.Counts.{counts_layout, HasCounts}
+use Rattle.bike_recognition.specs.EarlierVersions.Earlier.{stations_layout, old_keys, old_layout, has_table, layout_at, StandsAt, IsWhether, HasTablesAt, IsKeptAlone, IsAt}
 
--- ---- the table of stations can be looked for
+-- ---- an old table can be looked for
 
-pub stations_plain : (e : Earlier) → IsPlainTable (table_of (stations_layout e) 0)
-stations_plain First = no_defaults_in (stations_layout First) refl
-stations_plain Second = no_defaults_in (stations_layout Second) refl
-stations_plain Third = no_defaults_in (stations_layout Third) refl
+pub old_plain : (t : OldTable) → IsPlainTable (table_of (old_layout t) 0)
+old_plain (old.Stations First) = no_defaults_in (stations_layout First) refl
+old_plain (old.Stations Second) = no_defaults_in (stations_layout Second) refl
+old_plain (old.Stations Third) = no_defaults_in (stations_layout Third) refl
+old_plain old.Counts = no_defaults_in counts_layout refl
 
-pub stations_key : (e : Earlier) → IsKeyOf 1 (stations_layout e)
-stations_key First = (columns_unique_at 1 (stations_layout First) 0 (1 ∷ []) refl refl refl (λ row. refl)).key
-stations_key Second = (columns_unique_at 1 (stations_layout Second) 0 (1 ∷ []) refl refl refl (λ row. refl)).key
-stations_key Third = (columns_unique_at 1 (stations_layout Third) 0 (1 ∷ []) refl refl refl (λ row. refl)).key
+pub old_key : (t : OldTable) → IsKeyOf (old_keys t) (old_layout t)
+old_key (old.Stations First) = (columns_unique_at 1 (stations_layout First) 0 (1 ∷ []) refl refl refl (λ row. refl)).key
+old_key (old.Stations Second) = (columns_unique_at 1 (stations_layout Second) 0 (1 ∷ []) refl refl refl (λ row. refl)).key
+old_key (old.Stations Third) = (columns_unique_at 1 (stations_layout Third) 0 (1 ∷ []) refl refl refl (λ row. refl)).key
+old_key old.Counts = (columns_unique_at 2 counts_layout 0 (1 ∷ 2 ∷ []) refl refl refl (λ row. refl)).key
 
 -- ---- a table
 
@@ -46,9 +50,7 @@ other_layout e t is = rw is refl
 
 pub stations_stand_at : (e : Earlier) (db : Database) (t : TableName) → is_table Stations t ≡ true → (stands : Bool) → (IsTrue stands ↔ Stands db 1 (stations_layout e))
     → IsTrue stands ↔ StandsAt e db t
-stations_stand_at First db t is stands h = subst (λ u. IsTrue stands ↔ StandsAt First db u) (sym (stations_is t is)) ((λ yes. record { stands = λ there. h.0 yes }), λ at. h.1 (at.stands refl))
-stations_stand_at Second db t is stands h = subst (λ u. IsTrue stands ↔ StandsAt Second db u) (sym (stations_is t is)) ((λ yes. record { stands = λ there. h.0 yes }), λ at. h.1 (at.stands refl))
-stations_stand_at Third db t is stands h = subst (λ u. IsTrue stands ↔ StandsAt Third db u) (sym (stations_is t is)) ((λ yes. record { stands = λ there. h.0 yes }), λ at. h.1 (at.stands refl))
+stations_stand_at e db t is stands h = subst (λ u. IsTrue stands ↔ StandsAt e db u) (sym (stations_is t is)) ((λ yes. record { stands = λ there. h.0 yes }), λ at. h.1 (at.stands refl))
 
 pub other_stands_at : (e : Earlier) (db : Database) (t : TableName) → is_table Stations t ≡ false → has_table e t ≡ true → (stands : Bool) → (IsTrue stands ↔ TableStands t db)
     → IsTrue stands ↔ StandsAt e db t
@@ -68,23 +70,23 @@ none_lacks e db has [] stand h = h
 none_lacks e db has (t ∷ ts) stand (inl lacking) = absurd (lacking.0 (has t))
 none_lacks e db has (t ∷ ts) stand (inr standing) = none_lacks e db has ts stand standing.1
 
--- ---- kept, and the names of later versions
+-- ---- counts, kept, and the names of later versions
 
-abbrev pub IsAlone : Earlier → Database → Type 0
-IsAlone e db = KeptLies db × AreNewerFree e db.schema
+-- the one is so, and the rest as well
+pub both_told : {A B : Type 0} (one rest : Bool) → one ≡ true → (IsTrue one ↔ A) → (IsTrue rest ↔ B) → IsTrue rest ↔ (A × B)
+both_told one rest is first others = ((λ f. (first.0 is, others.0 f)), λ it. others.1 it.1)
 
-pub alone_both : (e : Earlier) (db : Database) (kept free : Bool) → kept ≡ true → (IsTrue kept ↔ KeptLies db) → (IsTrue free ↔ AreNewerFree e db.schema) → IsTrue free ↔ IsAlone e db
-alone_both e db kept free is lies names = ((λ f. (lies.0 is, names.0 f)), λ it. names.1 it.1)
-
-pub not_alone : (e : Earlier) (db : Database) (kept : Bool) → kept ≡ false → (IsTrue kept ↔ KeptLies db) → IsTrue false ↔ IsAlone e db
-not_alone e db kept isnt lies = ((λ never. absurd (true≢false (sym never))), λ it. absurd (true≢false (sym (lies.1 it.0) ∙ isnt)))
+-- .. or it isn't
+pub never_told : {A B : Type 0} (one : Bool) → one ≡ false → (IsTrue one ↔ A) → IsTrue false ↔ (A × B)
+never_told one isnt first = ((λ never. absurd (true≢false (sym never))), λ it. absurd (true≢false (sym (first.1 it.0) ∙ isnt)))
 
 -- ---- the version
 
-pub is_at_both : (e : Earlier) (db : Database) (stand alone : Bool) → IsWhether e db every_table stand → stand ≡ true → (IsTrue alone ↔ IsAlone e db) → IsTrue alone ↔ IsAt e db
-is_at_both e db stand alone all stands rest = (
-  (λ f. let it = rest.0 f in record { has = of_every (StandsAt e db) (all_stand e db every_table stand all stands); kept = it.0; free = it.1 }),
-  λ at. rest.1 (at.kept, at.free),
+pub is_at_both : (e : Earlier) (db : Database) (stand others : Bool) → IsWhether e db every_table stand → stand ≡ true → (IsTrue others ↔ (HasCounts db × IsKeptAlone e db))
+    → IsTrue others ↔ IsAt e db
+is_at_both e db stand others all stands rest = (
+  (λ f. let it = rest.0 f in record { has = of_every (StandsAt e db) (all_stand e db every_table stand all stands); counts = it.0; kept = it.1.0; free = it.1.1 }),
+  λ at. rest.1 (at.counts, (at.kept, at.free)),
 )
 
 pub not_at : (e : Earlier) (db : Database) (stand : Bool) → IsWhether e db every_table stand → stand ≡ false → IsTrue false ↔ IsAt e db

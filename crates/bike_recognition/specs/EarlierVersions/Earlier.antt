@@ -1,19 +1,24 @@
 -- How a database holds the tables at an earlier version of the schema.
 use Rattle.std.specs.Prelude.{◌≡◌, ◌⊎◌, ℕ, Bool, true, false, if◌then◌else◌, List, [], ◌∷◌, ◌++◌, map, take, codes}
 use Rattle.std.specs.Prelude.{IsTrue}
-use Rattle.std.specs.List.{list_all}
-use Rattle.sqlite_value.specs.declared.value.Value.TheVariants.{Null}
-use Rattle.sqlite_value.specs.Order.{Row}
+use Rattle.std.specs.List.{list_all, range_with_len}
+use Rattle.sqlite_value.specs.declared.value.Value.TheVariants.{Text}
+use Rattle.sqlite_value.specs.Order.{Row, column}
+use Rattle.sqlite_schema.specs.declared.schema.Column.{Column}
 use Rattle.sqlite_schema.specs.declared.schema.Schema.{Schema}
 use Rattle.sqlite.specs.Effect.{Database}
 use Rattle.bike_sql.specs.Layout.{Layout}
 use Rattle.bike_sql.specs.Stands.{rows_of, Stands}
+use Rattle.bike_book.specs.declared.columns.stations.TheConstants as stations
 use Rattle.bike_book.specs.Tables.{TableName, Tables, is_table, Regions, Stations, History, MoreNames, keys_of}
 use Rattle.bike_book.specs.Tables.{tables_by}
-use Rattle.bike_schema.specs.Layouts.{layout_of, name_of}
+use Rattle.bike_schema.specs.Layouts.{layout_of, name_of, keyed_layout}
 use Rattle.bike_schema.specs.Tables.{is_unused}
 use Rattle.bike_recognition.specs.declared.earlier_versions.earlier.Earlier.{Earlier}
 use Rattle.bike_recognition.specs.declared.earlier_versions.earlier.Earlier.TheVariants.{First, Second, Third}
+use Rattle.bike_recognition.specs.declared.earlier_versions.old_table.OldTable.{OldTable}
+use Rattle.bike_recognition.specs.declared.earlier_versions.old_table.OldTable.TheVariants as old
+use Rattle.bike_recognition.specs.EarlierVersions.Counts.{counts_layout, HasCounts, old_counts, old_text}
 use Rattle.bike_recognition.specs.EarlierVersions.Kept.{KeptLies, kept_rows, history_rows}
 
 abbrev pub number_of : Earlier → ℕ
@@ -28,18 +33,32 @@ stations_name First = codes "stations"
 stations_name Second = codes "stations_2"
 stations_name Third = codes "stations_3"
 
--- its columns are those of today, at version 1 without the region
-abbrev pub stations_layout : Earlier → Layout
-stations_layout First =
-    record (layout_of Stations) { name = codes "stations"; columns = take 11 (layout_of Stations).columns }
-stations_layout Second = record (layout_of Stations) { name = codes "stations_2" }
-stations_layout Third = layout_of Stations
+-- its columns are those of today but for the last, and at version 1 without the region
+abbrev pub stations_columns : Earlier → List Column
+stations_columns First = take 11 (layout_of Stations).columns
+stations_columns Second = take 12 (layout_of Stations).columns
+stations_columns Third = take 12 (layout_of Stations).columns
 
--- its row as one of today: in no region at version 1
-abbrev pub completed : Earlier → Row → Row
-completed First row = row ++ Null ∷ []
-completed Second row = row
-completed Third row = row
+abbrev pub stations_layout : Earlier → Layout
+stations_layout e = keyed_layout (stations_name e) (1 ∷ []) (stations_columns e)
+
+-- its row as one of today, with this text. A column that it hasn't is NULL, so that it is in no region at version 1.
+abbrev pub with_text : List ℕ → Row → Row
+with_text text row = map (column row) (range_with_len 0 stations.BY_TYPE) ++ Text text ∷ []
+
+-- THE ROW OF A STATION AS ONE OF TODAY: with the text of its bicycles by type, as these rows of `counts` tell of them
+abbrev pub completed : List Row → Row → Row
+completed counts row = with_text (old_text counts row) row
+
+-- ---- the tables that the newest version doesn't have, but for `kept`
+
+abbrev pub old_layout : OldTable → Layout
+old_layout (old.Stations e) = stations_layout e
+old_layout old.Counts = counts_layout
+
+abbrev pub old_keys : OldTable → ℕ
+old_keys (old.Stations e) = 1
+old_keys old.Counts = 2
 
 -- whether a station had fewer docks at most than today
 abbrev pub bounds_docks : Earlier → Bool
@@ -49,17 +68,20 @@ bounds_docks Third = false
 
 -- ---- the tables
 
+abbrev pub has_regions : Earlier → Bool
+has_regions First = false
+has_regions _ = true
+
+abbrev pub has_names : Earlier → Bool
+has_names Third = true
+has_names _ = false
+
 -- the version has the table
 abbrev pub has_table : Earlier → TableName → Bool
-has_table First Regions = false
-has_table First MoreNames = false
-has_table First History = false
-has_table First _ = true
-has_table Second MoreNames = false
-has_table Second History = false
-has_table Second _ = true
-has_table Third History = false
-has_table Third _ = true
+has_table e Regions = has_regions e
+has_table e MoreNames = has_names e
+has_table e History = false
+has_table e t = true
 
 -- the table as it has to stand at the version: all but that of stations as at the newest
 abbrev pub layout_at : Earlier → TableName → Layout
@@ -71,7 +93,7 @@ rows_if_there e db t = if has_table e t then rows_of (keys_of t) (name_of t) db 
 
 -- THE ROWS that a database holds at the version, as those of today
 abbrev pub rows_at : Earlier → Database → TableName → List Row
-rows_at e db Stations = map (completed e) (rows_of 1 (stations_name e) db)
+rows_at e db Stations = map (completed (old_counts db)) (rows_of 1 (stations_name e) db)
 rows_at e db History = history_rows (kept_rows db)
 rows_at e db Regions = rows_if_there e db Regions
 rows_at e db MoreNames = rows_if_there e db MoreNames
@@ -95,17 +117,25 @@ IsWhether e db (t ∷ tables) stand =
 
 -- ---- the names of later versions
 
+abbrev pub newest_names : List (List ℕ)
+newest_names = codes "history" ∷ codes "stations_4" ∷ []
+
 abbrev pub newer_names : Earlier → List (List ℕ)
-newer_names First = codes "regions" ∷ codes "stations_3" ∷ codes "more_names" ∷ codes "history" ∷ []
-newer_names Second = codes "stations_3" ∷ codes "more_names" ∷ codes "history" ∷ []
-newer_names Third = codes "history" ∷ []
+newer_names First = codes "regions" ∷ codes "stations_3" ∷ codes "more_names" ∷ newest_names
+newer_names Second = codes "stations_3" ∷ codes "more_names" ∷ newest_names
+newer_names Third = newest_names
 
 -- none of them is used
 abbrev pub AreNewerFree : Earlier → Schema → Type 0
 AreNewerFree e schema = IsTrue (list_all (is_unused schema) (newer_names e))
 
+-- `kept` lies there, and they are free
+abbrev pub IsKeptAlone : Earlier → Database → Type 0
+IsKeptAlone e db = KeptLies db × AreNewerFree e db.schema
+
 -- The database is of this version: its tables stand there, `kept` lies there, and room is left for the newer ones.
 pub record IsAt (e : Earlier) (db : Database) : Type 0 where
   pub has : HasTablesAt e db
+  pub counts : HasCounts db
   pub kept : KeptLies db
   pub free : AreNewerFree e db.schema

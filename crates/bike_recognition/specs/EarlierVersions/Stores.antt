@@ -24,7 +24,7 @@ tables_for_at e s m =
 abbrev pub HasFewDocks : Operator → Type 0
 HasFewDocks s = (id : List ℕ) (x : Station) → fin.get s.stations id ≡ Some x → x.row.docks ≤ MOST_DOCKS_BEFORE
 
--- At an earlier version the tables are those of the operator, who is sound, with rows for these docks and counts.
+-- At an earlier version the tables are those of the operator, who is sound, with rows for these docks.
 -- Its requests were accepted at moment 0, as far as such a version tells, in the order in which they were kept.
 pub record StoresAt (e : Earlier) (db : Database) (s : Operator) : Type 0 where
   pub is_at : IsAt e db

@@ -5,8 +5,6 @@ ghost use Rattle.bike_recognition.specs.Wanted.{Defines, AsksRowidsOf};
 ghost use Rattle.bike_recognition.specs.EarlierVersions.Earlier.{number_of, stations_name, stations_layout};
 ghost use Rattle.bike_recognition.specs.EarlierVersions.Earlier.{bounds_docks};
 
-use bike_book::table;
-
 /// How many docks a station had at most at versions 1 and 2.
 pub const MOST_DOCKS_BEFORE: u32 = 200;
 
@@ -17,7 +15,7 @@ pub enum Earlier {
     First,
     /// Version 2: no further names.
     Second,
-    /// Version 3: as the newest, but that requests are kept without their moments.
+    /// Version 3: with both, and stations of as many docks as today.
     Third,
 }
 
@@ -40,7 +38,7 @@ impl Earlier {
         match self {
             Earlier::First => "stations",
             Earlier::Second => "stations_2",
-            Earlier::Third => table!(name stations),
+            Earlier::Third => "stations_3",
         }
     }
 
@@ -71,7 +69,12 @@ impl Earlier {
                  renting INTEGER NOT NULL, \"returning\" INTEGER NOT NULL, reported INTEGER NOT NULL, \
                  free INTEGER NOT NULL, broken INTEGER NOT NULL, region_id TEXT) STRICT"
             }
-            Earlier::Third => table!(create stations),
+            Earlier::Third => {
+                "CREATE TABLE stations_3 (station_id TEXT PRIMARY KEY NOT NULL, name TEXT NOT NULL, \
+                 lat INTEGER NOT NULL, lon INTEGER NOT NULL, docks INTEGER NOT NULL, installed INTEGER NOT NULL, \
+                 renting INTEGER NOT NULL, \"returning\" INTEGER NOT NULL, reported INTEGER NOT NULL, \
+                 free INTEGER NOT NULL, broken INTEGER NOT NULL, region_id TEXT) STRICT"
+            }
         }
     }
 

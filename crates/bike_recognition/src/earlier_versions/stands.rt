@@ -10,12 +10,13 @@ ghost use Rattle.bike_recognition.specs.Names.{table_named};
 ghost use Rattle.bike_recognition.specs.Recognition.{ReadsAny};
 ghost use Rattle.bike_recognition.specs.Wanted.{HasWanted};
 ghost use Rattle.bike_book.specs.Tables.{Stations, is_table};
-ghost use Rattle.bike_recognition.specs.EarlierVersions.Earlier.{stations_layout, has_table, newer_names};
-ghost use Rattle.bike_recognition.specs.EarlierVersions.Earlier.{StandsAt, IsWhether, AreNewerFree, IsAt};
-ghost use Rattle.bike_recognition.specs.EarlierVersions.Kept.{KeptLies};
+ghost use Rattle.bike_recognition.specs.EarlierVersions.Counts.{HasCounts};
+ghost use Rattle.bike_recognition.specs.EarlierVersions.Earlier.{old_keys, old_layout, has_table, newer_names};
+ghost use Rattle.bike_recognition.specs.EarlierVersions.Earlier.{StandsAt, IsWhether, IsKeptAlone, IsAt};
 
 use crate::earlier_versions::earlier::Earlier;
 use crate::earlier_versions::kept::kept_lies;
+use crate::earlier_versions::old_table::OldTable;
 use crate::{EVERY_TABLE, TableName, are_apart, check_open, has_wanted, table_stands};
 use bike_schema::{StatementFault, is_unused};
 use sqlite::{Alter, Connection};
@@ -23,43 +24,43 @@ use sqlite_resolve::define_table;
 use sqlite_schema::schema::{Schema, Table};
 use std::alloc::Global;
 
-/// The version's table of stations, in tree 0. Only memory can be refused.
-fn define_stations(alloc: Global, earlier: Earlier) -> Result<Table, StatementFault>
-    ensures table { IfOk result (λ table. table ≡ table_of (stations_layout earlier) 0) }
+/// The table, in tree 0. Only memory can be refused.
+fn define_old(alloc: Global, table: OldTable) -> Result<Table, StatementFault>
+    ensures table { IfOk result (λ x. x ≡ table_of (old_layout table) 0) }
     ensures memory { IfErr result (λ fault. fault ≡ NoMemory) }
 {
-    match define_table(alloc, earlier.stations_definition().as_bytes()) {
+    match define_table(alloc, table.definition().as_bytes()) {
         Ok(table) => Ok(table),
         Err(_) => Err(StatementFault::NoMemory),
     }
 }
 
-/// Whether the schema has the version's table of stations, and no foreign key refers to it. Only memory can be refused.
-fn has_stations(alloc: Global, schema: &Schema, earlier: Earlier) -> Result<bool, StatementFault>
-    ensures there { IfOk result (λ there. IsTrue there ↔ HasWanted schema.now (table_of (stations_layout earlier) 0)) }
+/// Whether the schema has the table, and no foreign key refers to it. Only memory can be refused.
+fn has_old(alloc: Global, schema: &Schema, table: OldTable) -> Result<bool, StatementFault>
+    ensures there { IfOk result (λ there. IsTrue there ↔ HasWanted schema.now (table_of (old_layout table) 0)) }
     ensures memory { IfErr result (λ fault. fault ≡ NoMemory) }
 {
-    let wanted = define_stations(alloc, earlier)?;
+    let wanted = define_old(alloc, table)?;
     let is_there = has_wanted(schema, &wanted);
     // It was made for the comparison alone.
     drop(wanted);
     Ok(is_there)
 }
 
-/// Whether the version's table of stations stands. It fails as `table_stands` does.
-fn stations_stand<S: Alter>(
+/// Whether the table stands. It fails as `table_stands` does.
+fn old_stands<S: Alter>(
     alloc: Global,
     conn: &mut Connection<S>,
-    earlier: Earlier,
+    table: OldTable,
 ) -> Result<bool, StatementFault>
     ensures { ReadsAny S.Store conn.old conn.new result
-        (λ db stands. IsTrue stands ↔ Stands db 1 (stations_layout earlier)) }
+        (λ db stands. IsTrue stands ↔ Stands db (old_keys table) (old_layout table)) }
 {
     check_open(conn)?;
-    if !has_stations(alloc, conn.schema(), earlier)? {
+    if !has_old(alloc, conn.schema(), table)? {
         return Ok(false);
     }
-    if are_apart(conn, earlier.stations_rowids())? {
+    if are_apart(conn, table.rowids_query())? {
         Ok(true)
     } else {
         Err(StatementFault::StoreFailed)
@@ -100,7 +101,7 @@ pub fn stands_at<S: Alter>(
         return Ok(true);
     }
     if is_stations(table) {
-        stations_stand(alloc, conn, earlier)
+        old_stands(alloc, conn, OldTable::Stations(earlier))
     } else {
         table_stands(alloc, conn, table)
     }
@@ -141,13 +142,15 @@ fn are_newer_free(schema: &Schema, earlier: Earlier) -> bool
                 && is_unused(schema, b"stations_3")
                 && is_unused(schema, b"more_names")
                 && is_unused(schema, b"history")
+                && is_unused(schema, b"stations_4")
         }
         Earlier::Second => {
             is_unused(schema, b"stations_3")
                 && is_unused(schema, b"more_names")
                 && is_unused(schema, b"history")
+                && is_unused(schema, b"stations_4")
         }
-        Earlier::Third => is_unused(schema, b"history"),
+        Earlier::Third => is_unused(schema, b"history") && is_unused(schema, b"stations_4"),
     }
 }
 
@@ -158,7 +161,7 @@ fn is_kept_alone<S: Alter>(
     earlier: Earlier,
 ) -> Result<bool, StatementFault>
     ensures { ReadsAny S.Store conn.old conn.new result
-        (λ db alone. IsTrue alone ↔ (KeptLies db × AreNewerFree earlier db.schema)) }
+        (λ db alone. IsTrue alone ↔ IsKeptAlone earlier db) }
 {
     if kept_lies(alloc, conn)? {
         Ok(are_newer_free(conn.schema(), earlier))
@@ -167,8 +170,24 @@ fn is_kept_alone<S: Alter>(
     }
 }
 
-/// Whether the database is of this version: its tables stand, `kept` lies there, and the names of later versions are
-/// free. It fails as `table_stands` does.
+/// Whether this is so, and `counts` stands. It fails as `table_stands` does.
+fn are_others_there<S: Alter>(
+    alloc: Global,
+    conn: &mut Connection<S>,
+    earlier: Earlier,
+) -> Result<bool, StatementFault>
+    ensures { ReadsAny S.Store conn.old conn.new result
+        (λ db there. IsTrue there ↔ (HasCounts db × IsKeptAlone earlier db)) }
+{
+    if old_stands(alloc, conn, OldTable::Counts)? {
+        is_kept_alone(alloc, conn, earlier)
+    } else {
+        Ok(false)
+    }
+}
+
+/// Whether the database is of this version: its tables stand, `counts` among them, `kept` lies there, and the names of
+/// later versions are free. It fails as `table_stands` does.
 pub fn is_at<S: Alter>(
     alloc: Global,
     conn: &mut Connection<S>,
@@ -177,7 +196,7 @@ pub fn is_at<S: Alter>(
     ensures { ReadsAny S.Store conn.old conn.new result (λ db at. IsTrue at ↔ IsAt earlier db) }
 {
     if all_stand(alloc, conn, earlier, &EVERY_TABLE)? {
-        is_kept_alone(alloc, conn, earlier)
+        are_others_there(alloc, conn, earlier)
     } else {
         Ok(false)
     }

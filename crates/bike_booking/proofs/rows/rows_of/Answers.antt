@@ -21,7 +21,7 @@ returns c =
     let r2 = c.match-accepted-2.rows.items in
     let r3 = c.match-accepted-3.rows.items in
     let moved : AreAdded (where_moved_writes now n a.moved) r0 r1 = elim c.match-accepted.branch [
-      | in-Some w ↦ where_moved r0 r1 now n a.moved w.in-Some.moved w.in-Some.is (ap items w.rows-is ∙ w.push_moved.ensures.rows)
+      | in-Some w ↦ where_moved r0 r1 now n a.moved w.in-Some.moved w.in-Some.is (ap writes_of (ap items w.rows-is) ∙ w.push_moved.ensures.added)
       | in_default w ↦ not_moved r0 r1 now n a.moved w.in_default.is (ap items w.rows-is)
     ] in
     let changed : AreAdded (where_changed_writes a.change) r1 r2 = elim c.match-accepted-2.branch [

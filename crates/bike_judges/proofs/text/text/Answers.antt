@@ -4,9 +4,9 @@ use Rattle.bike_book.specs.Tables.{Meta, System, Plans, Regions, Riders, Rentals
 use Rattle.bike_judges.proofs.RowTexts.{table_lines}
 use Rattle.bike_judges.proofs.SortedTexts.{history_key_lines}
 use Rattle.bike_judges.proofs.JoinTexts.{segments_lines, types_lines, station_rows_lines, docks_lines, bike_trucks_lines, entry_rentals_lines}
-use Rattle.bike_judges.proofs.TwoJoinTexts.{bike_names_lines, bike_uses_lines, order_names_lines, count_names_lines, name_places_lines, name_offers_lines, order_ends_lines}
+use Rattle.bike_judges.proofs.TwoJoinTexts.{bike_names_lines, bike_uses_lines, order_names_lines, name_places_lines, name_offers_lines, order_ends_lines}
 use Rattle.bike_judges.proofs.UnionTexts.{bike_docks_lines, trucks_lines, order_bikes_lines}
-use Rattle.bike_judges.proofs.UnionOfThreeTexts.{stations_lines, counts_lines}
+use Rattle.bike_judges.proofs.UnionOfThreeTexts.{stations_lines}
 use Rattle.bike_judges.proofs.text.text.Goals as goal
 
 pub returns-in-Meta : goal.returns-in-Meta
@@ -100,14 +100,6 @@ returns-in-History c = rw c.in-History.is (table_lines History (λ tree. refl, r
 pub returns-in-HistoryKeys : goal.returns-in-HistoryKeys
 unfolding everything
 returns-in-HistoryKeys c = rw c.in-HistoryKeys.is (history_key_lines (λ tree. refl, refl))
-
-pub returns-in-CountNames : goal.returns-in-CountNames
-unfolding everything
-returns-in-CountNames c = rw c.in-CountNames.is (count_names_lines (λ tree more last. refl, refl))
-
-pub returns-in-Counts : goal.returns-in-Counts
-unfolding everything
-returns-in-Counts c = rw c.in-Counts.is (counts_lines (λ tree more last. (refl, refl), refl))
 
 pub returns-in-Names : goal.returns-in-Names
 unfolding everything

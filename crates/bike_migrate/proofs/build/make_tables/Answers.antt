@@ -5,13 +5,14 @@ use Rattle.bike_migrate.proofs.build.make_tables.Goals as goal
 
 pub returns-in_ok-create_regions-in-First : goal.returns-in_ok-create_regions-in-First
 returns-in_ok-create_regions-in-First g c = rw c.in-First.is (does_then (does_under (λ db at. let free = newer_unnamed First db at in (free.0, tt)) c.in_ok-create_regions-in-First.ensures)
-    (λ a b at made. let free = newer_unnamed First a at in (made.unnamed _ free.1.0, (made.unnamed _ free.1.1.0, (made.unnamed _ free.1.1.1.0, tt))))
-    c.make_later.ensures
-    (λ a b d x at regions later. makes_first a d b later.0 at.has regions later.1 later.2))
+    (λ a b at made.
+    let free = (newer_unnamed First a at).1 in
+    (made.unnamed _ free.0, (made.unnamed _ free.1.0, (made.unnamed _ free.1.1.0, (made.unnamed _ free.1.1.1.0, tt)))))
+    c.make_more.ensures
+    (λ a b d x at regions more. makes_first a d b at.has regions more))
 
 pub returns-in-Second : goal.returns-in-Second
-returns-in-Second g c =
-    rw c.in-Second.is (does_weaker (does_under (newer_unnamed Second) c.make_later-in-Second.ensures) (λ a d x at later. makes_second a d later.0 at.has later.1 later.2))
+returns-in-Second g c = rw c.in-Second.is (does_weaker (does_under (newer_unnamed Second) c.make_more-in-Second.ensures) (λ a d x at more. makes_second a d at.has more))
 
 pub returns-in-Third : goal.returns-in-Third
-returns-in-Third g c = rw c.in-Third.is (does_weaker (does_under (newer_unnamed Third) c.make_history.ensures) (λ a d x at made. makes_third a d at.has made))
+returns-in-Third g c = rw c.in-Third.is (does_weaker (does_under (newer_unnamed Third) c.make_later.ensures) (λ a d x at later. makes_third a d at.has later))

@@ -1,10 +1,10 @@
-use Rattle.std.proofs.Common.{rules, arith, subst, ◌∙◌, ap, ◌+◌}
+use Rattle.std.proofs.Common.{arith, subst, ◌∙◌, ap, ◌+◌}
 use Rattle.std.proofs.lemmas.List.{take_all}
 use Rattle.bike_schema.specs.Tables.{IsOurs}
 use Rattle.bike_schema.proofs.MakesLemmas.{makes_ours}
 use Rattle.bike_recognition.proofs.LookLemmas.{reads_known}
 use Rattle.bike_migrate.specs.Raised.{request_names, request_writes, WritesOnly}
-use Rattle.bike_migrate.proofs.StepLemmas.{does_weaker, does_both, does_then, does_failed, reads_does}
+use Rattle.bike_migrate.proofs.StepLemmas.{does_weaker, does_then, reads_does}
 use Rattle.bike_migrate.proofs.FillLemmas.{no_writes, more_requests}
 use Rattle.bike_migrate.proofs.copy.fill_requests.Goals as goal
 

@@ -9,7 +9,7 @@ use Rattle.bike_migrate.proofs.judge.judge.Goals as goal
 pub returns-then-bounds_docks : goal.returns-then-bounds_docks
 returns-then-bounds_docks g c =
     let bounds = sym c.bounds_docks.ensures ∙ c.if-bounds_docks.true in
-    reads_weaker c.judge_bounded.ensures (λ db bad verdict copies. verdict_bounded c.args.earlier (tables_of db) (option_map row_name bad) bounds (verdict (copies bounds)))
+    reads_weaker c.judge_bounded.ensures (λ db bad verdict copies. verdict_bounded c.args.earlier (tables_of db) (option_map row_name bad) bounds (verdict copies))
 
 pub returns-else-bounds_docks : goal.returns-else-bounds_docks
 returns-else-bounds_docks g c =

@@ -1,4 +1,4 @@
-use Rattle.std.proofs.Common.{rules, not, ap, ◌∙◌}
+use Rattle.std.proofs.Common.{rules}
 use Rattle.bike_migrate.proofs.InPlaceLemmas.{place_failed, ends_in_place}
 use Rattle.bike_migrate.proofs.raising.attempt_whole.Goals as goal
 

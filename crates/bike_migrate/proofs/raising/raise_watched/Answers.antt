@@ -1,4 +1,3 @@
-use Rattle.std.proofs.Common.{not}
 use Rattle.bike_migrate.proofs.RaiseLemmas.{ready_owes, cause_owes, failed_owes}
 use Rattle.bike_migrate.proofs.raising.raise_watched.Goals as goal
 

@@ -9,8 +9,8 @@ returns-in_err-stations g c = reads_failed (reads_under {Q = HasOldTables c.args
 
 pub returns-in_err-kept : goal.returns-in_err-kept
 returns-in_err-kept g c =
-    reads_failed (reads_both (reads_under {Q = HasOldTables c.args.earlier} (λ db has. has.0) c.in_ok-stations.ensures) (reads_under (λ db has. has.1) c.in_err-kept.ensures)) (search rules)
+    reads_failed (reads_both (reads_under {Q = HasOldTables c.args.earlier} (λ db has. has.0) c.in_ok-stations.ensures) (reads_under (λ db has. has.2) c.in_err-kept.ensures)) (search rules)
 
 pub returns : goal.returns
 returns g c =
-    reads_as (reads_both (reads_under {Q = HasOldTables c.args.earlier} (λ db has. has.0) c.in_ok-stations.ensures) (reads_under (λ db has. has.1) c.in_ok-kept.ensures)) (λ db both. both)
+    reads_as (reads_both (reads_under {Q = HasOldTables c.args.earlier} (λ db has. has.0) c.in_ok-stations.ensures) (reads_under (λ db has. has.2) c.in_ok-kept.ensures)) (λ db both. both)

@@ -1,15 +1,17 @@
-use Rattle.std.proofs.Common.{rules, ◌≡◌, [], sym, ◌∙◌}
+use Rattle.std.proofs.Common.{rules, []}
+use Rattle.sqlite.specs.declared.error.Error.{Error}
 use Rattle.bike_sql.proofs.ChainLaws.{reads_as}
-use Rattle.bike_schema.proofs.AnswerLemmas.{reads_weaker}
-use Rattle.bike_recognition.proofs.LookLemmas.{reads_known}
-use Rattle.bike_migrate.specs.Raised.{HasOld}
-use Rattle.bike_migrate.proofs.FillLemmas.{old_are, none_are}
+use Rattle.bike_migrate.specs.Raised.{HasOld, old_stations}
+use Rattle.bike_migrate.proofs.ReadLemmas.{reads_all, reads_none}
 use Rattle.bike_migrate.proofs.stations.read_stations.Goals as goal
 
-pub returns-then-bounds_docks : goal.returns-then-bounds_docks
-returns-then-bounds_docks g c = reads_weaker c.read_table.ensures (λ db rows is. is ∙ old_are c.args.earlier db (sym c.bounds_docks.ensures ∙ c.if-bounds_docks.true))
+pub returns-in_err-rows : goal.returns-in_err-rows
+returns-in_err-rows g c =
+    reads_none g.S.Store (HasOld c.args.earlier) (old_stations c.args.earlier) c.stations_query.result.now [] c.stations_query.ensures
+    c.args.conn.now c.query_all.new.self c.in_err-rows.field-0.0 (search rules) c.in_err-rows.ensures.err c.in_err-rows.ensures.mode c.in_err-rows.ensures.survives
 
 pub returns : goal.returns
-returns g c =
-    let empty : c.new.result.items ≡ [] = search rules in
-    reads_as (reads_known {P = HasOld c.args.earlier} c.in_ok-check_open.ensures) (λ db any. empty ∙ none_are c.args.earlier db (sym c.bounds_docks.ensures ∙ c.if-bounds_docks.false))
+returns g c = reads_as (
+    reads_all g.S.Store (HasOld c.args.earlier) (old_stations c.args.earlier) c.stations_query.result.now [] c.stations_query.ensures
+    c.args.conn.now c.query_all.new.self {E = Error} c.in_ok-rows.rows.items c.in_ok-rows.ensures.ok c.in_ok-rows.ensures.mode c.in_ok-rows.ensures.survives
+    ) (λ db is. is)

@@ -1,25 +1,12 @@
-use Rattle.std.proofs.Common.{Some, map, sym, subst, ◌∙◌}
-use Rattle.std.proofs.lemmas.List.{map-id}
 use Rattle.std.specs.Prelude.{option_map}
 use Rattle.std.proofs.lemmas.Result.{IfOk-weaker}
-use Rattle.bike_schema.proofs.AnswerLemmas.{answers_then, answers_both}
-use Rattle.bike_queries.specs.Pages.{EndsWith, IsStatusOf}
-use Rattle.bike_queries.proofs.StatusLemmas.{page_apart, nothing_read, statuses_read}
+use Rattle.bike_schema.proofs.AnswerLemmas.{answers_then}
+use Rattle.bike_queries.proofs.StatusLemmas.{statuses_read}
 use Rattle.bike_queries.proofs.status.find_statuses_after.Goals as goal
-
-pub returns-in_default : goal.returns-in_default
-returns-in_default g c =
-    answers_then _ _ c.in_ok-stations.ensures (λ s m sound listing are.
-    nothing_read s (option_map (λ id. id.now) c.args.after) (IsStatusOf s c.args.type_ids.now) c.in_ok-stations.stations.items _
-    are (sym c.as_slice.ensures.value ∙ c.in_default.ensures) c.new.ensures.items)
 
 pub returns : goal.returns
 returns g c =
-    let after = option_map (λ id. id.now) c.args.after in
-    let stations = c.in_ok-stations.stations.items in
-    answers_then _ _ (answers_both _ _ c.in_ok-stations.ensures c.in_ok-counts.ensures) (λ s m sound listing both.
-    IfOk-weaker c.read_page.result _ _ (λ page read.
-    statuses_read s m sound listing after c.as_str.result.now (c.as_str.ensures.value ∙ c.start_of-start.ensures) stations c.in-Some.last.now both.0
-    (subst (λ xs. EndsWith xs (Some c.in-Some.last.now)) c.as_slice.ensures.value c.in-Some.ensures)
-    (map (λ row. row) c.as_slice-2.result.now) c.args.type_ids.now page.items (map-id c.as_slice-2.result.now ∙ c.as_slice-2.ensures.value ∙ both.1) read)
-    (c.read_page.ensures (page_apart s after stations both.0)))
+    answers_then _ _ c.in_ok-stations.ensures (λ s m sound listing are.
+    IfOk-weaker c.read_statuses.result _ _ (λ page read.
+    statuses_read s sound (option_map (λ id. id.now) c.args.after) c.counts_by_type.ensures.counts c.counts_by_type.ensures.idents c.args.type_ids.now c.in_ok-stations.stations.items page.items are read)
+    c.read_statuses.ensures)

@@ -1,7 +1,6 @@
 use Rattle.std.proofs.Common.{rules, ap, ◌∙◌}
 use Rattle.bike_operator.specs.View.{is_in_broken_dock}
 use Rattle.bike_sql.proofs.ChainLaws.{reads_as, reads_failed}
-use Rattle.bike_views.specs.declared.bikes.BikeDock.{BikeDock}
 use Rattle.bike_views.specs.ViewAndDocks.{bike_docks}
 use Rattle.bike_views.proofs.OpenLaws.{open_both}
 use Rattle.bike_views.proofs.bikes.find_bike_view.Goals as goal
@@ -13,7 +12,7 @@ pub returns : goal.returns
 returns g c = reads_as (open_both c.in_ok-found.ensures c.in_ok-dock.ensures) (λ db it s h.
     let found = it.0 s h in
     let dock = it.1 s h in
-    let broken = ap (λ (d : BikeDock). d.is_broken) dock ∙ ap (is_in_broken_dock s) found in (
+    let broken = dock.0 ∙ ap (is_in_broken_dock s) found in (
       λ i. record (c.empty_view.ensures i) { bike = found i; is_dock_broken = broken i },
-      ap (λ (d : BikeDock). d.docks) dock ∙ ap (bike_docks s) found,
+      dock.1 ∙ ap (bike_docks s) found,
     ))

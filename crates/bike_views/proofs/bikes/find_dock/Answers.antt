@@ -14,5 +14,4 @@ pub returns : goal.returns
 returns g c = reads_as (open_both c.in_ok-numbers.ensures c.in_ok-is_broken.ensures) (λ db it s h.
     let numbers = it.0 s h in
     let broken = it.1 s h numbers in
-    let docks = docks_read s c.args.station.now c.in_ok-docks.ensures numbers in
-    λ i. record { is_broken = broken i; docks = docks i })
+    (broken, docks_read s c.args.station.now c.in_ok-docks.ensures numbers))

@@ -16,7 +16,7 @@ returns-in_err-docks g c = reads_refused (reads_both (open_both c.in_ok-row.ensu
 pub returns : goal.returns
 returns g c = reads_as (reads_both (open_both c.in_ok-row.ensures c.in_ok-is_dock_broken.ensures) c.in_ok-docked.ensures) (λ db it s h.
     let row = it.0.0 s h in
-    let broken = it.0.1 s h (λ i. (row i).numbers) in (
-      λ i. record (c.empty_view.ensures i) { station = (row i).station; is_dock_broken = broken i; docked = it.1 s h i },
-      docks_read s c.args.station.now c.in_ok-docks.ensures (λ i. (row i).numbers),
+    let broken = it.0.1 s h row.numbers_are in (
+      λ i. record (c.empty_view.ensures i) { station = row.station_is i; is_dock_broken = broken i; docked = it.1 s h i },
+      docks_read s c.args.station.now c.in_ok-docks.ensures row.numbers_are,
     ))

@@ -17,9 +17,9 @@ returns g c = reads_as (reads_both (reads_both c.in_ok-row.ensures c.in_ok-mark.
     let is_broken = c.unwrap_or.ensures ∙ mark.1 in
     let same = c.get-dock.ensures.value in
     let view : ◌≡◌ {A = View} (record c.empty_view.result { station = c.in_ok-row.row.station; is_dock_broken = c.unwrap_or.result; docked = c.in_ok-docked.docked }) (dock_view s station c.get-dock.result) =
-    λ i. record (c.empty_view.ensures i) { station = (row i).station; is_dock_broken = is_broken i; docked = it.1 s h i } in
+    λ i. record (c.empty_view.ensures i) { station = row.station_is i; is_dock_broken = is_broken i; docked = it.1 s h i } in
     record {
       view_is = view ∙ ap (dock_view s station) same;
-      docks_are = listed_read s h.listed station c.get-dock.result c.in_ok-docks.ensures (λ i. (row i).numbers) (c.is_some.ensures ∙ mark.0)
+      docks_are = listed_read s h.listed station c.get-dock.result c.in_ok-docks.ensures row.numbers_are (c.is_some.ensures ∙ mark.0)
           ∙ ap (λ (dock : ℕ). Some (listed_docks s h.listed station dock)) same;
     })

@@ -10,6 +10,6 @@ pub returns : goal.returns
 returns g c = reads_as c.in_ok-row.ensures (λ db it s h count.
     let row = it s h in
     record {
-      view_is = λ i. record (c.empty_view.ensures i) { station = (row i).station };
-      docks_are = docks_read s c.args.station.now c.in_ok-docks.ensures (λ i. (row i).numbers);
+      view_is = λ i. record (c.empty_view.ensures i) { station = row.station_is i };
+      docks_are = docks_read s c.args.station.now c.in_ok-docks.ensures row.numbers_are;
     })

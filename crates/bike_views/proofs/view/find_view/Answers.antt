@@ -16,7 +16,7 @@ use Rattle.bike_booking.specs.Figures.{figures_of}
 use Rattle.bike_views.specs.declared.figures.KnownFigures.{KnownFigures}
 use Rattle.bike_views.specs.declared.view_and_docks.ViewAndDocks.{ViewAndDocks}
 use Rattle.bike_views.specs.Known.{IsKnown}
-use Rattle.bike_views.specs.ViewAndDocks.{IsFoundFor, IsPlain, docks_for}
+use Rattle.bike_views.specs.ViewAndDocks.{IsFoundFor, IsPlain, docks_for, told_of}
 use Rattle.bike_views.proofs.view.find_view.Goals as goal
 
 -- the view for a command is that for the command matched, whatever is known
@@ -36,7 +36,7 @@ seen_plain : {S : Type 0} {g : Ghosts S} {old new : Held S} {found : Result View
     → ((s : Operator) (m : Listed) → docks_for s m d ≡ None) → Answers g old new result (λ s m x. IsKnown s k → IsFoundFor s m c x)
 seen_plain {found = Ok v} {result = Ok x} it plain is none = reads_as it (λ db each s h known. record {
   view_is = ap (λ (y : ViewAndDocks). y.view) plain ∙ each s h known;
-  docks_are = ap (λ (y : ViewAndDocks). y.docks) plain ∙ sym (none s h.listed) ∙ ap (docks_for s h.listed) (sym is);
+  docks_are = ap (λ (y : ViewAndDocks). told_of y.docks) plain ∙ sym (none s h.listed) ∙ ap (docks_for s h.listed) (sym is);
 })
 seen_plain {found = Err e} {result = Err f} it plain is none = reads_failed it refl
 seen_plain {found = Ok v} {result = Err f} it plain is none = absurd plain

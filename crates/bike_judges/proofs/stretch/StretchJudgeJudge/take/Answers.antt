@@ -10,7 +10,7 @@ pub returns-in_ok-found-in-Head : goal.returns-in_ok-found-in-Head
 returns-in_ok-found-in-Head g c = λ left verdict is.
     head_line g.A.Account.begins g.A.Account.more g.A.Account.good g.A.Account.key {J = StretchJudge g.row.A.Denot}
     (λ j lines v. pass g.A.Account.begins g.A.Account.more g.A.Account.good g.A.Account.key (take 1) j.account j.closed lines ≡ v)
-    (record { account = Some c.in-Head.account; closed = c.close.new.self.closed }) c.args.self.now.account c.args.self.now.closed c.args.line.now left verdict is
+    (record { alloc = c.close.new.self.alloc; account = Some c.in-Head.account; closed = c.close.new.self.closed }) c.args.self.now.account c.args.self.now.closed c.args.line.now left verdict is
     c.in-Head.account c.close.new.self.closed c.in_ok-found-in-Head.found (sym c.in_ok-account.ensures ∙ c.in-Head.is) c.in_ok-found-in-Head.ensures.closes (λ so. so)
 
 pub returns-in_ok-copy-in-None : goal.returns-in_ok-copy-in-None

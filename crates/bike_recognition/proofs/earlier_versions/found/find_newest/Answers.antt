@@ -1,4 +1,3 @@
-use Rattle.std.proofs.Common.{refl}
 use Rattle.bike_sql.proofs.ChainLaws.{reads_as}
 use Rattle.bike_recognition.proofs.EarlierVersions.FoundLemmas.{newest_if}
 use Rattle.bike_recognition.proofs.earlier_versions.found.find_newest.Goals as goal

@@ -1,4 +1,3 @@
-use Rattle.std.proofs.Common.{rules}
 use Rattle.bike_sql.proofs.ChainLaws.{reads_as, reads_both}
 use Rattle.bike_schema.proofs.AnswerLemmas.{reads_weaker}
 use Rattle.bike_recognition.proofs.EarlierVersions.KeptLemmas.{keyed_lies, either_lies}

@@ -6,7 +6,7 @@ use Rattle.bike_recognition.proofs.earlier_versions.stands.stands_at.Goals as go
 
 pub returns-then-is_stations : goal.returns-then-is_stations
 returns-then-is_stations g c =
-    reads_weaker c.stations_stand.ensures (λ db stands is. stations_stand_at c.args.earlier db (table_named c.args.table) (sym c.is_stations.ensures ∙ c.if-is_stations.true) stands is)
+    reads_weaker c.old_stands.ensures (λ db stands is. stations_stand_at c.args.earlier db (table_named c.args.table) (sym c.is_stations.ensures ∙ c.if-is_stations.true) stands is)
 
 pub returns-else-is_stations : goal.returns-else-is_stations
 returns-else-is_stations g c =

@@ -1,4 +1,4 @@
-use Rattle.bike_book.specs.Tables.{Meta, System, Plans, Segments, Types, Regions, Stations, Docks, Bikes, Trucks, Riders, Rentals, Orders, Entries, History, Counts, MoreNames}
+use Rattle.bike_book.specs.Tables.{Meta, System, Plans, Segments, Types, Regions, Stations, Docks, Bikes, Trucks, Riders, Rentals, Orders, Entries, History, MoreNames}
 use Rattle.bike_schema.proofs.MakeFacts.{declared}
 use Rattle.bike_recognition.proofs.table.TableName.definition.Goals as goal
 
@@ -46,9 +46,6 @@ returns-in-Entries c = rw c.in-Entries.is (declared Entries).defined
 
 pub returns-in-History : goal.returns-in-History
 returns-in-History c = rw c.in-History.is (declared History).defined
-
-pub returns-in-Counts : goal.returns-in-Counts
-returns-in-Counts c = rw c.in-Counts.is (declared Counts).defined
 
 pub returns-in-MoreNames : goal.returns-in-MoreNames
 returns-in-MoreNames c = rw c.in-MoreNames.is (declared MoreNames).defined

@@ -1,4 +1,4 @@
-use Rattle.bike_recognition.proofs.EarlierVersions.StationsTexts.{first_defined, second_defined, third_defined}
+use Rattle.bike_recognition.proofs.EarlierVersions.OldTexts.{first_defined, second_defined, third_defined}
 use Rattle.bike_recognition.proofs.earlier_versions.earlier.Earlier.stations_definition.Goals as goal
 
 pub returns-in-First : goal.returns-in-First

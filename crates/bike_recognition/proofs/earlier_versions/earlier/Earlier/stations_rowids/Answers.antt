@@ -1,4 +1,4 @@
-use Rattle.bike_recognition.proofs.EarlierVersions.StationsTexts.{first_rowids, second_rowids, third_rowids}
+use Rattle.bike_recognition.proofs.EarlierVersions.OldTexts.{first_rowids, second_rowids, third_rowids}
 use Rattle.bike_recognition.proofs.earlier_versions.earlier.Earlier.stations_rowids.Goals as goal
 
 pub returns-in-First : goal.returns-in-First
