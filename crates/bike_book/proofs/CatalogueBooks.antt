@@ -41,7 +41,7 @@ system_put x (Some y) = rw one_key refl
 pub set_system : Everywhere SetSystemLaw
 set_system s m listing x = record {
   leads = λ i. record (tables_between s m) { system = system_put x.now s.system i };
-  listing = listing_same s (after_change (change.SetSystem x) s) m (same_docks s (after_change (change.SetSystem x) s) refl) refl listing;
+  listing = listing_same s (after_change (change.SetSystem x) s) m (same_docks s (after_change (change.SetSystem x) s) refl) refl refl refl listing;
 }
 
 settings_put : (x : SettingsRow) (o : Option SystemRow)
@@ -55,7 +55,7 @@ settings_put x (Some y) =
 pub change_system : Everywhere ChangeSystemLaw
 change_system s m listing x = record {
   leads = λ i. record (tables_between s m) { system = settings_put x.now s.system i };
-  listing = listing_same s (after_change (change.ChangeSystem x) s) m (same_docks s (after_change (change.ChangeSystem x) s) refl) refl listing;
+  listing = listing_same s (after_change (change.ChangeSystem x) s) m (same_docks s (after_change (change.ChangeSystem x) s) refl) refl refl refl listing;
 }
 
 -- ---- types
@@ -66,7 +66,7 @@ add_type s m listing t =
     let types = put_entries texts stored_type stored_type (λ e. refl) (λ e. refl) s.types t.now.type_id t.now tt (λ q y found. (tt, λ apart. refl)) in
     record {
       leads = λ i. record (tables_between s m) { types = types i };
-      listing = listing_same s n m (same_docks s n refl) refl listing;
+      listing = listing_same s n m (same_docks s n refl) refl refl refl listing;
     }
 
 pub set_plan : Everywhere SetPlanLaw
@@ -75,7 +75,7 @@ set_plan s m listing type_id plan =
     let types = changed_entries texts stored_type stored_type (λ e. refl) (λ e. refl) s.types type_id.now tt _ (λ t. record t { plan_id = plan.now }) (λ v found. refl) (λ q y found. (tt, λ apart. refl)) in
     record {
       leads = λ i. record (tables_between s m) { types = types i };
-      listing = listing_same s n m (same_docks s n refl) refl listing;
+      listing = listing_same s n m (same_docks s n refl) refl refl refl listing;
     }
 
 -- ---- regions
@@ -84,7 +84,7 @@ pub add_region : Everywhere AddRegionLaw
 add_region s m listing r =
     let n = after_change (change.AddRegion r) s in
     let regions = put_entries texts stored_region stored_region (λ e. refl) (λ e. refl) s.regions r.now.region_id r.now tt (λ q y found. (tt, λ apart. refl)) in
-    record { leads = λ i. record (tables_between s m) { regions = regions i }; listing = listing_same s n m (same_docks s n refl) refl listing }
+    record { leads = λ i. record (tables_between s m) { regions = regions i }; listing = listing_same s n m (same_docks s n refl) refl refl refl listing }
 
 -- ---- stations
 
@@ -97,7 +97,7 @@ add_station s m listing x reported free none_taken none_broken no_types =
     ∙ put_entries texts (counted_station s) (counted_station s) (λ e. refl) (λ e. refl) s.stations x.now.station_id (new_station x.now reported) tt (λ q y found. (tt, λ apart. refl)) in
     record {
       leads = λ i. record (tables_between s m) { stations = stations i };
-      listing = listing_same s n m (docks_added s n x.now.station_id (new_station x.now reported) free refl) refl listing;
+      listing = listing_same s n m (docks_added s n x.now.station_id (new_station x.now reported) free refl) refl refl refl listing;
     }
 
 pub set_station : Everywhere SetStationLaw
@@ -107,7 +107,7 @@ set_station s m listing station installed renting returning reported =
     let stations = changed_entries texts (counted_station s) (counted_station s) (λ e. refl) (λ e. refl) s.stations station.now tt _ f (λ v found. refl) (λ q y found. (tt, λ apart. refl)) in
     record {
       leads = λ i. record (tables_between s m) { stations = stations i };
-      listing = listing_same s n m (docks_changed s n station.now f (λ x. omega arith) refl) refl listing;
+      listing = listing_same s n m (docks_changed s n station.now f (λ x. omega arith) refl) refl refl refl listing;
     }
 
 pub set_region : Everywhere SetRegionLaw
@@ -117,7 +117,7 @@ set_region s m listing station region =
     let stations = changed_entries texts (counted_station s) (counted_station s) (λ e. refl) (λ e. refl) s.stations station.now tt _ f (λ v found. refl) (λ q y found. (tt, λ apart. refl)) in
     record {
       leads = λ i. record (tables_between s m) { stations = stations i };
-      listing = listing_same s n m (docks_changed s n station.now f (λ x. omega arith) refl) refl listing;
+      listing = listing_same s n m (docks_changed s n station.now f (λ x. omega arith) refl) refl refl refl listing;
     }
 
 pub move_station : Everywhere MoveStationLaw
@@ -127,7 +127,7 @@ move_station s m listing station p =
     let stations = changed_entries texts (counted_station s) (counted_station s) (λ e. refl) (λ e. refl) s.stations station.now tt _ f (λ v found. refl) (λ q y found. (tt, λ apart. refl)) in
     record {
       leads = λ i. record (tables_between s m) { stations = stations i };
-      listing = listing_same s n m (docks_changed s n station.now f (λ x. omega arith) refl) refl listing;
+      listing = listing_same s n m (docks_changed s n station.now f (λ x. omega arith) refl) refl refl refl listing;
     }
 
 -- ---- names in further languages
@@ -141,4 +141,4 @@ add_name s m listing kind id language name are =
     let names =
     put_entries triples stored_name stored_name (λ e. refl) (λ e. refl) s.more_names (name_key kind id.now language.now) name.now (name_triple kind id.now language.now)
     (λ q y found. (named_triple s are q y found, λ apart. refl)) in
-    record { leads = λ i. record (tables_between s m) { more_names = names i }; listing = listing_same s n m (same_docks s n refl) refl listing }
+    record { leads = λ i. record (tables_between s m) { more_names = names i }; listing = listing_same s n m (same_docks s n refl) refl refl refl listing }

@@ -1,21 +1,19 @@
--- The row changes that book the close of a request: its entry, the moment and sums, and its row of the history.
-use Rattle.std.proofs.Common.{◌≡◌, ℕ, ◌+◌, ℤ, List, [], ◌∷◌, ◌++◌, length, Some, refl, sym, ap₂, ◌∙◌}
+-- The row changes that book the close of a request: its entry, and its row of the history.
+use Rattle.std.proofs.Common.{◌≡◌, ℕ, ◌+◌, List, [], ◌∷◌, ◌++◌, length, Some, refl, ◌∙◌}
 use Rattle.std.specs.Prelude.{map}
 use Rattle.bike_sql.specs.View.{put_row_by}
-use Rattle.bike_ledger.specs.Ledger.{cash_of, revenue_of}
 use Rattle.bike_operator.specs.Reply.{Reply}
 use Rattle.bike_operator.specs.Request.{Request}
 use Rattle.bike_operator.specs.Operator.{AcceptedRequest}
 use Rattle.bike_operator.specs.Changes.{entry_added}
 use Rattle.bike_accepted.proofs.CatalogueLemmas.{same_docks}
-use Rattle.bike_book.specs.declared.version.TheConstants.{NEWEST}
-use Rattle.bike_book.specs.Rows.{meta_row, history_row}
+use Rattle.bike_book.specs.Rows.{history_row}
 use Rattle.bike_book.specs.Stored.{with_numbers, stored_request}
 use Rattle.bike_book.specs.Between.{tables_between}
 use Rattle.bike_book.specs.CloseLaws.{after_close, AreTextsOf, QuietCloseLaw, EntryCloseLaw, RefundCloseLaw, AtEachClose}
 use Rattle.bike_book.proofs.NumberRows.{put_number}
-use Rattle.bike_book.proofs.ListingLemmas.{listing_same}
-use Rattle.bike_book.proofs.LedgerRows.{entry_put, balance_set, rentals_same, refunded_set, meta_set, cash_after, revenue_after}
+use Rattle.bike_book.proofs.ListingLemmas.{listing_closed}
+use Rattle.bike_book.proofs.LedgerRows.{entry_put, balance_set, rentals_same, refunded_set}
 
 -- ---- the request
 
@@ -29,34 +27,34 @@ request_put h now q r number caller key command reply is texts =
 -- ---- the close
 
 pub close_quiet : AtEachClose QuietCloseLaw
-close_quiet s m now q r number caller key command reply listing is texts cash revenue cash_is revenue_is =
+close_quiet s m now q r number caller key command reply listing later is texts =
     let n = after_close now q r s in
-    let meta = meta_set NEWEST s.now (cash_of s.entries) (revenue_of s.entries) now cash revenue ∙ ap₂ (λ (c z : ℤ). meta_row NEWEST now c z ∷ []) cash_is revenue_is in
     let history = request_put s.history now q r number caller.now key.now command.now reply.now is texts in
-    record { leads = λ i. record (tables_between s m) { meta = meta i; history = history i }; listing = listing_same s n m (same_docks s n refl) refl listing }
+    record {
+      leads = λ i. record (tables_between s m) { history = history i };
+      listing = listing_closed s n m (record { moment = now; request = q; reply = r }) (same_docks s n refl) refl refl refl later listing;
+    }
 
 pub close_entry : AtEachClose EntryCloseLaw
-close_entry s m now q r number caller key command reply listing is texts e balance cash revenue with none =
+close_entry s m now q r number caller key command reply listing later is texts e balance with none =
     let n = after_close now q r (entry_added (Some e.now) s) in
-    let meta = meta_set NEWEST s.now (cash_of s.entries) (revenue_of s.entries) now cash revenue ∙ ap₂ (λ (c z : ℤ). meta_row NEWEST now c z ∷ []) (with.cash_is ∙ sym (cash_after s.entries e.now)) (with.revenue_is ∙ sym (revenue_after s.entries e.now)) in
     let history = request_put s.history now q r number caller.now key.now command.now reply.now is texts in
     let entries = entry_put s.entries e.now with.number_is in
     let riders = balance_set s.riders s.entries e.now balance with.balance_is in
     let rentals = rentals_same s.rentals s.entries e.now none in
     record {
-      leads = λ i. record (tables_between s m) { meta = meta i; history = history i; entries = entries i; riders = riders i; rentals = rentals i };
-      listing = listing_same s n m (same_docks s n refl) refl listing;
+      leads = λ i. record (tables_between s m) { history = history i; entries = entries i; riders = riders i; rentals = rentals i };
+      listing = listing_closed s n m (record { moment = now; request = q; reply = r }) (same_docks s n refl) refl refl refl later listing;
     }
 
 pub close_refund : AtEachClose RefundCloseLaw
-close_refund s m now q r number caller key command reply listing is texts e balance refunded cash revenue with refunded_is =
+close_refund s m now q r number caller key command reply listing later is texts e balance refunded with refunded_is =
     let n = after_close now q r (entry_added (Some e.now) s) in
-    let meta = meta_set NEWEST s.now (cash_of s.entries) (revenue_of s.entries) now cash revenue ∙ ap₂ (λ (c z : ℤ). meta_row NEWEST now c z ∷ []) (with.cash_is ∙ sym (cash_after s.entries e.now)) (with.revenue_is ∙ sym (revenue_after s.entries e.now)) in
     let history = request_put s.history now q r number caller.now key.now command.now reply.now is texts in
     let entries = entry_put s.entries e.now with.number_is in
     let riders = balance_set s.riders s.entries e.now balance with.balance_is in
     let rentals = refunded_set s.rentals s.entries e.now refunded refunded_is in
     record {
-      leads = λ i. record (tables_between s m) { meta = meta i; history = history i; entries = entries i; riders = riders i; rentals = rentals i };
-      listing = listing_same s n m (same_docks s n refl) refl listing;
+      leads = λ i. record (tables_between s m) { history = history i; entries = entries i; riders = riders i; rentals = rentals i };
+      listing = listing_closed s n m (record { moment = now; request = q; reply = r }) (same_docks s n refl) refl refl refl later listing;
     }

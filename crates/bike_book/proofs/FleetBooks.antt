@@ -56,7 +56,7 @@ add_bike s m listing bike type_id none =
     (sym (occupied_is q)) (sym (types_are q))) in
     record {
       leads = λ i. record (tables_between s m) { bikes = bikes i; stations = stations i };
-      listing = listing_same s n m (same_docks s n refl) refl listing;
+      listing = listing_same s n m (same_docks s n refl) refl refl refl listing;
     }
 
 -- ---- trucks
@@ -65,7 +65,7 @@ pub add_truck : Everywhere AddTruckLaw
 add_truck s m listing truck capacity =
     let n = after_change (change.AddTruck truck capacity) s in
     let trucks = put_entries numbers stored_truck stored_truck (λ e. refl) (λ e. refl) s.trucks truck (record { capacity = capacity }) tt (λ q y found. (tt, λ apart. refl)) in
-    record { leads = λ i. record (tables_between s m) { trucks = trucks i }; listing = listing_same s n m (same_docks s n refl) refl listing }
+    record { leads = λ i. record (tables_between s m) { trucks = trucks i }; listing = listing_same s n m (same_docks s n refl) refl refl refl listing }
 
 -- ---- riders
 
@@ -75,7 +75,7 @@ add_rider s m listing rider none =
     let riders =
     ap (λ (b : ℤ). put_row_by 1 (rider_row rider false b) (map (stored_rider s.entries) (fin.entries s.riders))) (sym none)
     ∙ put_entries numbers (stored_rider s.entries) (stored_rider s.entries) (λ e. refl) (λ e. refl) s.riders rider (record { is_blocked = false }) tt (λ q y found. (tt, λ apart. refl)) in
-    record { leads = λ i. record (tables_between s m) { riders = riders i }; listing = listing_same s n m (same_docks s n refl) refl listing }
+    record { leads = λ i. record (tables_between s m) { riders = riders i }; listing = listing_same s n m (same_docks s n refl) refl refl refl listing }
 
 pub set_rider : Everywhere SetRiderLaw
 set_rider s m listing rider blocked known =
@@ -84,4 +84,4 @@ set_rider s m listing rider blocked known =
     let riders =
     set_entries numbers (stored_rider s.entries) (stored_rider s.entries) (λ e. refl) (λ e. refl) s.riders rider tt _ there.0 (record { is_blocked = blocked }) there.1 refl
     (λ q y found. (tt, λ apart. refl)) in
-    record { leads = λ i. record (tables_between s m) { riders = riders i }; listing = listing_same s n m (same_docks s n refl) refl listing }
+    record { leads = λ i. record (tables_between s m) { riders = riders i }; listing = listing_same s n m (same_docks s n refl) refl refl refl listing }

@@ -26,7 +26,7 @@ system_found (Some x) = rw one_key refl
 
 pub found_by_key : WhereListed FoundByKey
 found_by_key s m sound listing = record {
-  meta = meta_found NEWEST s.now (cash_of s.entries) (revenue_of s.entries);
+  meta = meta_found NEWEST m.since (pos 0) (pos 0);
   system = system_found s.system;
   plans = λ id. found_entries texts stored_plan (λ e. refl) id tt s.plans (λ q y found. tt);
   types = λ id. found_entries texts stored_type (λ e. refl) id tt s.types (λ q y found. tt);

@@ -11,11 +11,13 @@ use Rattle.bike_sql.specs.View.{last_of}
 use Rattle.bike_ledger.specs.Entries.{Entry}
 use Rattle.bike_operator.specs.declared.records.Rental.{Rental}
 use Rattle.bike_operator.specs.declared.records.Closing.{Closing}
+use Rattle.bike_operator.specs.Operator.{AcceptedRequest}
 use Rattle.bike_operator.specs.Counts.{count, is_open}
+use Rattle.bike_laws.specs.History.{last_moment_of}
 use Rattle.bike_book.specs.Rows.{number_value}
 use Rattle.bike_book.specs.Stored.{numbers_from, with_numbers, stored_plan, stored_type, stored_region, stored_station, stored_bike, stored_truck, stored_rider, stored_rental, stored_order}
 use Rattle.bike_book.specs.Stored.{stored_entry, stored_request}
-use Rattle.bike_book.specs.Found.{WhereListed, FoundNumbers, IsLast, rows_open}
+use Rattle.bike_book.specs.Found.{WhereListed, FoundNumbers, IsLast, IsLastMoment, rows_open}
 
 -- ---- the last number
 
@@ -31,6 +33,17 @@ module _ {A : Type 0} (row : ℕ × A → Row) (keyed : (e : ℕ × A) → colum
   last_is (x ∷ xs) = rw (one_more (length xs)) (last_from 1 x xs) where
     one_more : (b : ℕ) → suc b ≡ 1 + b
     one_more b = omega arith
+
+-- ---- the last moment
+
+moment_from : (n now : ℕ) (a : AcceptedRequest) (history : List AcceptedRequest)
+    → IsLastMoment (last_moment_of now (a ∷ history)) (slice_get (last_of (map stored_request (numbers_from n (a ∷ history)))) 0)
+moment_from n now a [] = refl
+moment_from n now a (b ∷ history) = moment_from (suc n) a.moment b history
+
+moment_is : (history : List AcceptedRequest) → IsLastMoment (last_moment_of 0 history) (slice_get (last_of (map stored_request (with_numbers history))) 0)
+moment_is [] = refl
+moment_is (a ∷ history) = moment_from 1 0 a history
 
 -- ---- so many rows
 
@@ -68,6 +81,7 @@ found_numbers s m sound listing = record {
   last_order = last_is stored_order (λ e. refl) s.orders;
   last_entry = last_is stored_entry (λ e. refl) s.entries;
   last_request = last_is stored_request (λ e. refl) s.history;
+  last_moment = moment_is s.history;
   plans = same_len stored_plan s.plans;
   types = same_len stored_type s.types;
   regions = same_len stored_region s.regions;

@@ -1,6 +1,6 @@
--- An entry as rows: its own, its rider's, its rental's and that of `meta`.
+-- An entry as rows: its own, its rider's and its rental's; and the row of `meta`.
 use Rattle.std.proofs.Common.{◌≡◌, ◌≢◌, ℕ, ℤ, pos, ◌+◌, ◌+ℤ◌, List, [], ◌∷◌, ◌++◌, length, Bool, true, false, cond, Option, Some, None, refl, sym, ap, ◌∙◌, arith}
-use Rattle.std.specs.Prelude.{map, ◌==◌, option_map, unwrap_or}
+use Rattle.std.specs.Prelude.{map, ◌==◌}
 use Rattle.std.specs.Ordering.{nat_cmp, eq_by_cmp}
 use Rattle.std.specs.Cmp.{eq_by_cmp_equiv, unsigned_tied}
 use Rattle.std.specs.FinMap as fin
@@ -10,7 +10,7 @@ use Rattle.sqlite_value.specs.declared.value.Value.TheVariants.{Int}
 use Rattle.sqlite_value.specs.Order.{Row}
 use Rattle.bike_sql.specs.View.{row_with, put_row_by, rows_after_update, with_values}
 use Rattle.bike_ledger.specs.Entries.{Entry}
-use Rattle.bike_ledger.specs.Ledger.{credit, cash_in, revenue_in, given_back, given_back_of, balance_of, cash_of, revenue_of, refunded_of}
+use Rattle.bike_ledger.specs.Ledger.{credit, given_back, given_back_of, balance_of, refunded_of}
 use Rattle.bike_ledger.proofs.SumLemmas.{total-append, balance_of-own, balance_of-other}
 use Rattle.bike_operator.specs.declared.records.Rental.{Rental}
 use Rattle.bike_operator.specs.declared.records.Closing.{Closing}
@@ -84,24 +84,5 @@ refunded_set rentals es e refunded is =
 
 -- ---- meta
 
-module _ (version old : ℕ) (c r : ℤ) where
-  abbrev meta : Row
-  meta = meta_row version old c r
-
-  pub meta_found : row_with 1 (number_key 1) (meta ∷ []) ≡ Some meta
-  meta_found = rw one_key refl
-
-  meta_put : (now : ℕ) (cash revenue : ℤ) → put_row_by 1 (meta_row version now cash revenue) (meta ∷ []) ≡ meta_row version now cash revenue ∷ []
-  meta_put now cash revenue = rw one_key refl
-
-  pub meta_set : (now : ℕ) (cash revenue : ℤ) → rows_after_update 1 (number_key 1) (with_values ((3, number_value now) ∷ (4, Int cash) ∷ (5, Int revenue) ∷ [])) (meta ∷ [])
-      ≡ meta_row version now cash revenue ∷ []
-  meta_set now cash revenue =
-      ap (λ (o : Option Row). unwrap_or (option_map (λ x. put_row_by 1 (with_values ((3, number_value now) ∷ (4, Int cash) ∷ (5, Int revenue) ∷ []) x) (meta ∷ [])) o) (meta ∷ [])) meta_found
-      ∙ meta_put now cash revenue
-
-pub cash_after : (es : List Entry) (e : Entry) → cash_of (es ++ e ∷ []) ≡ cash_of es +ℤ cash_in e.kind e.amount
-cash_after es e = total-append (λ (x : Entry). cash_in x.kind x.amount) es e
-
-pub revenue_after : (es : List Entry) (e : Entry) → revenue_of (es ++ e ∷ []) ≡ revenue_of es +ℤ revenue_in e.kind e.amount
-revenue_after es e = total-append (λ (x : Entry). revenue_in x.kind x.amount) es e
+pub meta_found : (version since : ℕ) (cash revenue : ℤ) → row_with 1 (number_key 1) (meta_row version since cash revenue ∷ []) ≡ Some (meta_row version since cash revenue)
+meta_found version since cash revenue = rw one_key refl

@@ -82,7 +82,7 @@ set_own_name s m listing named.System id name =
     let n = after_change (change.SetOwnName named.System id name) s in
     record {
       leads = λ i. record (tables_between s m) { system = system_name_put name.now s.system i };
-      listing = listing_same s n m (same_docks s n refl) refl listing;
+      listing = listing_same s n m (same_docks s n refl) refl refl refl listing;
     }
 set_own_name s m listing named.Station id name =
     let n = after_change (change.SetOwnName named.Station id name) s in
@@ -90,7 +90,7 @@ set_own_name s m listing named.Station id name =
     let stations = changed_entries texts (counted_station s) (counted_station s) (λ e. refl) (λ e. refl) s.stations id.now tt _ f (λ v found. refl) (λ q y found. (tt, λ apart. refl)) in
     record {
       leads = λ i. record (tables_between s m) { stations = stations i };
-      listing = listing_same s n m (docks_changed s n id.now f (λ x. omega arith) refl) refl listing;
+      listing = listing_same s n m (docks_changed s n id.now f (λ x. omega arith) refl) refl refl refl listing;
     }
 set_own_name s m listing named.«Type» id name =
     let n = after_change (change.SetOwnName named.«Type» id name) s in
@@ -98,7 +98,7 @@ set_own_name s m listing named.«Type» id name =
     let types = changed_entries texts stored_type stored_type (λ e. refl) (λ e. refl) s.types id.now tt _ f (λ v found. refl) (λ q y found. (tt, λ apart. refl)) in
     record {
       leads = λ i. record (tables_between s m) { types = types i };
-      listing = listing_same s n m (same_docks s n refl) refl listing;
+      listing = listing_same s n m (same_docks s n refl) refl refl refl listing;
     }
 set_own_name s m listing named.Plan id name =
     let n = after_change (change.SetOwnName named.Plan id name) s in
@@ -107,7 +107,7 @@ set_own_name s m listing named.Plan id name =
     let segments = sym (segments_kept s.plans id.now f (λ p. refl)) in
     record {
       leads = λ i. record (tables_between s m) { plans = plans i; segments = segments i };
-      listing = listing_same s n m (same_docks s n refl) refl listing;
+      listing = listing_same s n m (same_docks s n refl) refl refl refl listing;
     }
 set_own_name s m listing named.Description id name =
     let n = after_change (change.SetOwnName named.Description id name) s in
@@ -116,13 +116,13 @@ set_own_name s m listing named.Description id name =
     let segments = sym (segments_kept s.plans id.now f (λ p. refl)) in
     record {
       leads = λ i. record (tables_between s m) { plans = plans i; segments = segments i };
-      listing = listing_same s n m (same_docks s n refl) refl listing;
+      listing = listing_same s n m (same_docks s n refl) refl refl refl listing;
     }
 set_own_name s m listing named.Region id name =
     let n = after_change (change.SetOwnName named.Region id name) s in
     let f = λ (r : RegionRow). record r { name = name.now } in
     let regions = changed_entries texts stored_region stored_region (λ e. refl) (λ e. refl) s.regions id.now tt _ f (λ v found. refl) (λ q y found. (tt, λ apart. refl)) in
-    record { leads = λ i. record (tables_between s m) { regions = regions i }; listing = listing_same s n m (same_docks s n refl) refl listing }
+    record { leads = λ i. record (tables_between s m) { regions = regions i }; listing = listing_same s n m (same_docks s n refl) refl refl refl listing }
 
 -- ---- a name in a further language
 
@@ -139,7 +139,7 @@ set_further_name s m listing kind id language name are there =
     let names =
     set_entries triples stored_name stored_name (λ e. refl) (λ e. refl) s.more_names key (name_triple kind id.now language.now) _ was.0 name.now was.1 refl
     (λ q y found. (named_triple s are q y found, λ apart. refl)) in
-    record { leads = λ i. record (tables_between s m) { more_names = names i }; listing = listing_same s n m (same_docks s n refl) refl listing }
+    record { leads = λ i. record (tables_between s m) { more_names = names i }; listing = listing_same s n m (same_docks s n refl) refl refl refl listing }
 
 pub remove_name : Everywhere RemoveNameLaw
 remove_name s m listing kind id language are =
@@ -147,4 +147,4 @@ remove_name s m listing kind id language are =
     let names =
     removed_entries triples stored_name (λ e. refl) s.more_names (name_key kind id.now language.now) (name_triple kind id.now language.now)
     (λ q y found. named_triple s are q y found) in
-    record { leads = λ i. record (tables_between s m) { more_names = names i }; listing = listing_same s n m (same_docks s n refl) refl listing }
+    record { leads = λ i. record (tables_between s m) { more_names = names i }; listing = listing_same s n m (same_docks s n refl) refl refl refl listing }

@@ -169,5 +169,5 @@ add_plan s m listing p free =
       leads =
           segments_written id 1 p.now.segments with_plan
           ∙ (λ i. record (tables_between s m) { plans = plans i; segments = segments i });
-      listing = listing_same s n m (same_docks s n refl) refl listing;
+      listing = listing_same s n m (same_docks s n refl) refl refl refl listing;
     }

@@ -34,14 +34,14 @@ add_rental s m listing rental rider bike plan from_station start is none =
     let rentals =
     ap (λ (z : ℤ). put_row_by 1 (rental_row rental r z) (map (stored_rental s.entries) (with_numbers s.rentals))) (sym none)
     ∙ put_number (stored_rental s.entries) (stored_rental s.entries) (λ e. refl) (λ e. refl) s.rentals rental r is (λ e apart. refl) in
-    record { leads = λ i. record (tables_between s m) { rentals = rentals i }; listing = listing_same s n m (same_docks s n refl) refl listing }
+    record { leads = λ i. record (tables_between s m) { rentals = rentals i }; listing = listing_same s n m (same_docks s n refl) refl refl refl listing }
 
 pub close_rental : Everywhere CloseRentalLaw
 close_rental s m listing rental to_station finish fare =
     let n = after_change (change.CloseRental rental to_station finish fare) s in
     let f = λ (r : Rental). record r { closing = Some (record { to_station = text_in to_station; finish = finish; fare = fare }) } in
     let rentals = changed_number (stored_rental s.entries) (stored_rental s.entries) (λ e. refl) (λ e. refl) s.rentals rental _ f (λ r found. closed_row rental finish (text_in to_station) fare (refunded_of rental s.entries) r r.closing) (λ e apart. refl) in
-    record { leads = λ i. record (tables_between s m) { rentals = rentals i }; listing = listing_same s n m (same_docks s n refl) refl listing }
+    record { leads = λ i. record (tables_between s m) { rentals = rentals i }; listing = listing_same s n m (same_docks s n refl) refl refl refl listing }
 
 -- ---- orders
 
@@ -50,11 +50,11 @@ add_order s m listing order truck from_end to_end type_id many is =
     let n = after_change (change.AddOrder order truck from_end to_end type_id many) s in
     let o : Order = record { truck = truck; from_end = from_end.now; to_end = to_end.now; type_id = type_id.now; count = many; delivered = 0; is_open = true } in
     let orders = put_number stored_order stored_order (λ e. refl) (λ e. refl) s.orders order o is (λ e apart. refl) in
-    record { leads = λ i. record (tables_between s m) { orders = orders i }; listing = listing_same s n m (same_docks s n refl) refl listing }
+    record { leads = λ i. record (tables_between s m) { orders = orders i }; listing = listing_same s n m (same_docks s n refl) refl refl refl listing }
 
 pub set_order : Everywhere SetOrderLaw
 set_order s m listing order delivered is_open =
     let n = after_change (change.SetOrder order delivered is_open) s in
     let f = λ (o : Order). record o { delivered = delivered; is_open = is_open } in
     let orders = changed_number stored_order stored_order (λ e. refl) (λ e. refl) s.orders order _ f (λ o found. refl) (λ e apart. refl) in
-    record { leads = λ i. record (tables_between s m) { orders = orders i }; listing = listing_same s n m (same_docks s n refl) refl listing }
+    record { leads = λ i. record (tables_between s m) { orders = orders i }; listing = listing_same s n m (same_docks s n refl) refl refl refl listing }

@@ -1,10 +1,9 @@
--- The row changes that book the close of a request: its entry, the operator's moment and sums, and its row of the history.
-use Rattle.std.specs.Prelude.{◌≡◌, ◌+◌, ◌+ℤ◌, ℕ, ℤ, pos, length, List, [], ◌∷◌, ◌++◌, Some}
+-- The row changes that book the close of a request: its entry, and its row of the history.
+use Rattle.std.specs.Prelude.{◌≡◌, ◌≤◌, ◌+◌, ◌+ℤ◌, ℕ, ℤ, pos, length, List, [], ◌∷◌, ◌++◌, Some}
 use Rattle.std.specs.Borrow.{Bor}
 use Rattle.bike_operator.specs.Caller.{caller_text}
 use Rattle.bike_ledger.specs.Entries.{Entry}
-use Rattle.bike_ledger.specs.Ledger.{credit, cash_in, revenue_in, given_back, balance_of, cash_of, revenue_of}
-use Rattle.bike_ledger.specs.Ledger.{refunded_of}
+use Rattle.bike_ledger.specs.Ledger.{credit, given_back, balance_of, refunded_of}
 use Rattle.bike_operator.specs.Reply.{Reply}
 use Rattle.bike_operator.specs.Request.{Request}
 use Rattle.bike_operator.specs.Commands.{text_of}
@@ -27,44 +26,40 @@ pub record AreTextsOf (q : Request) (r : Reply) (caller key command reply : List
   pub command_is : command ≡ text_of q.command
   pub reply_is : reply ≡ reply_text r
 
--- The entry is the next, and the numbers are those after it: its rider's balance, cash and revenue.
-pub record AreNumbersWith (s : Operator) (e : Entry) (balance cash revenue : ℤ) : Type 0 where
+-- The entry is the next, and the balance is its rider's after it.
+pub record AreNumbersWith (s : Operator) (e : Entry) (balance : ℤ) : Type 0 where
   pub number_is : e.number ≡ length s.entries + 1
   pub balance_is : balance ≡ balance_of e.rider s.entries +ℤ credit e.kind e.amount
-  pub cash_is : cash ≡ cash_of s.entries +ℤ cash_in e.kind e.amount
-  pub revenue_is : revenue ≡ revenue_of s.entries +ℤ revenue_in e.kind e.amount
 
 module _ (s : Operator) (m : Listed) (now : ℕ) (q : Request) (r : Reply) (number : ℕ)
     (caller key command reply : Bor (List ℕ)) where
   -- no money moves
   abbrev pub QuietCloseLaw : Type 0
-  QuietCloseLaw =
-      (cash revenue : ℤ) → cash ≡ cash_of s.entries → revenue ≡ revenue_of s.entries
-      → Books (row.SetMeta now cash revenue ∷ row.AddRequest number now caller key command reply ∷ []) s m (after_close now q r s) m
+  QuietCloseLaw = Books (row.AddRequest number now caller key command reply ∷ []) s m (after_close now q r s) m
 
   -- a top-up or a fare, which gives nothing back
   abbrev pub EntryCloseLaw : Type 0
   EntryCloseLaw =
-      (e : Bor Entry) (balance cash revenue : ℤ) → AreNumbersWith s e.now balance cash revenue
+      (e : Bor Entry) (balance : ℤ) → AreNumbersWith s e.now balance
       → given_back e.now.kind e.now.amount ≡ pos 0
-      → Books (row.AddEntry e ∷ row.SetBalance e.now.rider balance ∷ row.SetMeta now cash revenue
+      → Books (row.AddEntry e ∷ row.SetBalance e.now.rider balance
       ∷ row.AddRequest number now caller key command reply ∷ []) s m
       (after_close now q r (entry_added (Some e.now) s)) m
 
   -- a refund
   abbrev pub RefundCloseLaw : Type 0
   RefundCloseLaw =
-      (e : Bor Entry) (balance refunded cash revenue : ℤ) → AreNumbersWith s e.now balance cash revenue
+      (e : Bor Entry) (balance refunded : ℤ) → AreNumbersWith s e.now balance
       → refunded ≡ refunded_of e.now.rental s.entries +ℤ given_back e.now.kind e.now.amount
       → Books (row.AddEntry e ∷ row.SetBalance e.now.rider balance ∷ row.SetRefunded e.now.rental refunded
-      ∷ row.SetMeta now cash revenue ∷ row.AddRequest number now caller key command reply ∷ []) s m
+      ∷ row.AddRequest number now caller key command reply ∷ []) s m
       (after_close now q r (entry_added (Some e.now) s)) m
 
--- The law holds of each operator whose rows are listed right, for
--- each request and reply, their texts, and the number of the next request.
+-- The law holds of each operator whose rows are listed right, for each request that comes no earlier than its moment
+-- and each reply, their texts, and the number of the next request.
 abbrev pub AtEachClose : (Operator → Listed → ℕ → Request → Reply → ℕ → Bor (List ℕ) → Bor (List ℕ) → Bor (List ℕ)
     → Bor (List ℕ) → Type 0) → Type 0
 AtEachClose Law =
     (s : Operator) (m : Listed) (now : ℕ) (q : Request) (r : Reply) (number : ℕ)
-    (caller key command reply : Bor (List ℕ)) → IsListing s m → number ≡ length s.history + 1
+    (caller key command reply : Bor (List ℕ)) → IsListing s m → s.now ≤ now → number ≡ length s.history + 1
     → AreTextsOf q r caller.now key.now command.now reply.now → Law s m now q r number caller key command reply

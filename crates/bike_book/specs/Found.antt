@@ -11,13 +11,14 @@ use Rattle.bike_sql.specs.View.{row_with, rows_where, last_of}
 use Rattle.bike_fields.specs.NameKinds.{kind_text}
 use Rattle.bike_fields.specs.declared.name_kind.NameKind.{NameKind}
 use Rattle.bike_operator.specs.Rows.{PlanRow}
-use Rattle.bike_ledger.specs.Ledger.{balance_of, cash_of, revenue_of, refunded_of}
+use Rattle.bike_ledger.specs.Ledger.{balance_of, refunded_of}
 use Rattle.bike_operator.specs.declared.records.Rental.{Rental}
 use Rattle.bike_operator.specs.Operator.{Operator, AcceptedRequest, item_numbered, key_of, name_key, dock_key, kept_under}
 use Rattle.bike_operator.specs.Counts.{count, is_on_truck, is_for_order, docked_at, is_broken, is_open, is_riding}
 use Rattle.bike_operator.specs.Counts.{open_rentals, docks_available, docks_broken}
 use Rattle.bike_operator.specs.Names.{further_names}
 use Rattle.bike_operator.specs.Sound.{IsSound}
+use Rattle.bike_laws.specs.History.{last_moment_of}
 use Rattle.bike_book.specs.declared.version.TheConstants.{NEWEST}
 use Rattle.bike_book.specs.ByType.{types_at, by_type_text}
 use Rattle.bike_book.specs.Tables.{TableName, rows_in, keys_of, Meta, System, Plans, Segments, Types, Regions, Stations}
@@ -45,7 +46,7 @@ row_under s m name key = row_with (keys_of name) key (rows_of s m name)
 -- The row under a key is that of the record, and there is none where there is no record.
 pub record FoundByKey (s : Operator) (m : Listed) : Type 0 where
   pub meta : row_under s m Meta (number_value 1 ∷ [])
-      ≡ Some (meta_row NEWEST s.now (cash_of s.entries) (revenue_of s.entries))
+      ≡ Some (meta_row NEWEST m.since (pos 0) (pos 0))
   pub system : row_under s m System (number_value 1 ∷ []) ≡ option_map system_row s.system
   pub plans : (id : List ℕ) → row_under s m Plans (Text id ∷ []) ≡ option_map (plan_row id) (fin.get s.plans id)
   pub types : (id : List ℕ) → row_under s m Types (Text id ∷ []) ≡ option_map (type_row id) (fin.get s.types id)
@@ -140,6 +141,11 @@ abbrev pub IsLast : ℕ → Option Row → Type 0
 IsLast count None = count ≡ 0
 IsLast count (Some row) = column row 0 ≡ number_value count
 
+-- the moment in a last row of the history; 0 where there is none
+abbrev pub IsLastMoment : ℕ → Option Row → Type 0
+IsLastMoment moment None = moment ≡ 0
+IsLastMoment moment (Some row) = column row 1 ≡ number_value moment
+
 -- the last row of a table
 abbrev pub last_row : Operator → Listed → TableName → Option Row
 last_row s m name = slice_get (last_of (rows_of s m name)) 0
@@ -148,12 +154,13 @@ last_row s m name = slice_get (last_of (rows_of s m name)) 0
 abbrev pub row_count : Operator → Listed → TableName → ℕ
 row_count s m name = length (rows_of s m name)
 
--- How many records there are, by the last row or by the rows.
+-- How many records there are, by the last row or by the rows, and the moment of the last request.
 pub record FoundNumbers (s : Operator) (m : Listed) : Type 0 where
   pub last_rental : IsLast (length s.rentals) (last_row s m Rentals)
   pub last_order : IsLast (length s.orders) (last_row s m Orders)
   pub last_entry : IsLast (length s.entries) (last_row s m Entries)
   pub last_request : IsLast (length s.history) (last_row s m History)
+  pub last_moment : IsLastMoment (last_moment_of 0 s.history) (last_row s m History)
   pub plans : row_count s m Plans ≡ fin.len s.plans
   pub types : row_count s m Types ≡ fin.len s.types
   pub regions : row_count s m Regions ≡ fin.len s.regions

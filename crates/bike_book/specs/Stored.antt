@@ -1,6 +1,6 @@
 -- The tables of an operator: for each one the row of each record,
 -- in the order of its key, stored numbers by their definitions.
-use Rattle.std.specs.Prelude.{◌≡◌, ℕ, pos, suc, List, [], ◌∷◌, ◌++◌, map, Option, Some, None, true}
+use Rattle.std.specs.Prelude.{◌≡◌, ℕ, pos, suc, max, List, [], ◌∷◌, ◌++◌, map, Option, Some, None, true}
 use Rattle.std.specs.FinMap as fin
 use Rattle.std.specs.FinMap.{FinMap}
 use Rattle.std.specs.FinSet.{FinSet, contains}
@@ -11,7 +11,7 @@ use Rattle.bike_operator.specs.Caller.{caller_text}
 use Rattle.bike_operator.specs.Commands.{text_of}
 use Rattle.bike_operator.specs.Replies.{reply_text}
 use Rattle.bike_ledger.specs.Entries.{Entry}
-use Rattle.bike_ledger.specs.Ledger.{balance_of, cash_of, revenue_of, refunded_of}
+use Rattle.bike_ledger.specs.Ledger.{balance_of, refunded_of}
 use Rattle.bike_operator.specs.declared.records.Bike.{Bike}
 use Rattle.bike_operator.specs.declared.records.Rental.{Rental}
 use Rattle.bike_operator.specs.declared.records.Order.{Order}
@@ -19,6 +19,7 @@ use Rattle.bike_operator.specs.Operator.{Operator, Station, Truck, Rider, NameKe
 use Rattle.bike_operator.specs.Operator.{AcceptedRequest, dock_key}
 use Rattle.bike_operator.specs.Counts.{docks_available, docks_broken}
 use Rattle.bike_operator.specs.Sound.{HasDock}
+use Rattle.bike_laws.specs.History.{last_moment_of}
 use Rattle.bike_book.specs.declared.version.TheConstants.{NEWEST}
 use Rattle.bike_book.specs.ByType.{types_at, by_type_text}
 use Rattle.bike_book.specs.Tables.{Tables}
@@ -85,9 +86,9 @@ stored_name e = name_row e.0 e.1
 
 -- ---- the rows of each table
 
--- cash and revenue are sums over the entries
-abbrev pub meta_rows : Operator → List Row
-meta_rows s = meta_row NEWEST s.now (cash_of s.entries) (revenue_of s.entries) ∷ []
+-- the moment of the last request of an earlier version, and no sums: both columns are 0
+abbrev pub meta_rows : ℕ → List Row
+meta_rows since = meta_row NEWEST since (pos 0) (pos 0) ∷ []
 
 abbrev pub system_rows : Option SystemRow → List Row
 system_rows None = []
@@ -101,17 +102,24 @@ abbrev pub plans_segments : List (List ℕ × PlanRow) → List Row
 plans_segments [] = []
 plans_segments (e ∷ es) = segment_rows e.0 1 e.1.segments ++ plans_segments es
 
--- Which docks have a row. A dock that works needs none; none of these rows is ever deleted.
+-- What the tables hold beside the operator. Which docks have a row: a dock that works needs none, and none of these rows
+-- is ever deleted. And the moment in `meta`, which no request writes: 0 where the city was made at this version, and
+-- where it was raised from an earlier one, whose requests have no moments, the moment that it had then.
 pub record Listed : Type 0 where
   pub docks : FinMap texts_cmp (Unit {0})
+  pub since : ℕ
 
 abbrev pub none_listed : Listed
-none_listed = record { docks = fin.empty }
+none_listed = record { docks = fin.empty; since = 0 }
+
+-- the moment of the last request, and at least that in `meta`
+abbrev pub moment_since : ℕ → List AcceptedRequest → ℕ
+moment_since since history = max since (last_moment_of 0 history)
 
 -- THE TABLES OF AN OPERATOR, with a row for each of these docks
 abbrev pub tables_for : Operator → Listed → Tables
 tables_for s m = record {
-  meta = meta_rows s;
+  meta = meta_rows m.since;
   system = system_rows s.system;
   plans = map stored_plan (fin.entries s.plans);
   segments = plans_segments (fin.entries s.plans);
@@ -136,7 +144,8 @@ pub record IsDockKey (s : Operator) (key : DockKey) : Type 0 where
   pub key_is : key ≡ dock_key station dock
   pub has : HasDock s station dock
 
--- What is listed is there, and what isn't listed works.
+-- What is listed is there, what isn't listed works, and the moment is the operator's.
 pub record IsListing (s : Operator) (m : Listed) : Type 0 where
   pub docks : (key : DockKey) → fin.contains_key m.docks key ≡ true → IsDockKey s key
   pub marked : (key : DockKey) → contains s.broken key ≡ true → fin.contains_key m.docks key ≡ true
+  pub now_is : s.now ≡ moment_since m.since s.history

@@ -17,7 +17,7 @@ use Rattle.bike_accepted.specs.declared.change.Change.{Change}
 use Rattle.bike_accepted.specs.declared.change.Change.TheVariants as change
 use Rattle.bike_book.specs.declared.row_change.RowChange.{RowChange}
 use Rattle.bike_book.specs.declared.row_change.RowChange.TheVariants as row
-use Rattle.bike_book.specs.Tables.{TableName, Tables, rows_in, with_rows, keys_of, Meta, System, Plans}
+use Rattle.bike_book.specs.Tables.{TableName, Tables, rows_in, with_rows, keys_of, System, Plans}
 use Rattle.bike_book.specs.Tables.{Segments, Types, Regions, Stations, Docks, Bikes, Trucks, Riders, Rentals, Orders}
 use Rattle.bike_book.specs.Tables.{Entries, History, MoreNames}
 use Rattle.bike_book.specs.Rows.{truth, number_value, state_number, place_columns, closing_columns, system_row}
@@ -152,8 +152,6 @@ write_of (row.SetRefunded rental refunded) = Set Rentals (number_value rental �
 write_of (row.AddEntry e) = Add Entries (entry_row e.now.number e.now)
 write_of (row.AddRequest number moment caller key command reply) =
     Add History (history_row number moment caller.now key.now command.now reply.now)
-write_of (row.SetMeta now cash revenue) =
-    Set Meta (Int (pos 1) ∷ []) ((3, number_value now) ∷ (4, Int cash) ∷ (5, Int revenue) ∷ [])
 
 abbrev pub writes_of : List RowChange → List RowWrite
 writes_of [] = []

@@ -14,13 +14,13 @@ pub mod meta {
     /// The version of the schema.
     pub const VERSION: usize = 2;
 
-    /// Seconds.
+    /// Seconds: the moment of the last request of versions 1 to 3, and 0 where there was none.
     pub const NOW: usize = 3;
 
-    /// Hundredths.
+    /// Hundredths: all top-ups in versions 1 to 3, and 0 since.
     pub const CASH: usize = 4;
 
-    /// Hundredths.
+    /// Hundredths: all fares less all refunds in versions 1 to 3, and 0 since.
     pub const REVENUE: usize = 5;
 
     /// How many there are.

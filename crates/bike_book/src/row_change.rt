@@ -83,12 +83,6 @@ pub enum RowChange<'a> {
         command: &'a str,
         reply: &'a str,
     },
-    /// Sets the operator's moment and sums in the one row of `meta`.
-    SetMeta {
-        now: Moment,
-        cash: Cents,
-        revenue: Cents,
-    },
 }
 
 /// Fills a fixed array's places that hold no row change yet; it is never made.

@@ -56,7 +56,7 @@ add_docks s m listing station row count d sound found free =
     (λ v there. set v (let both : ◌≡◌ {A = Option Station} (Some row) (Some v) = sym found ∙ there in cc)) (λ q y there. (tt, λ apart. refl)) in
     record {
       leads = λ i. record (tables_between s m) { stations = stations i };
-      listing = listing_same s _ m (docks_changed s _ station.now f (λ x. omega arith) refl) refl listing;
+      listing = listing_same s _ m (docks_changed s _ station.now f (λ x. omega arith) refl) refl refl refl listing;
     }
   where
     f : Station → Station

@@ -28,5 +28,5 @@ module _ (s : Operator) (m : Listed) (listing : IsListing s m) (bike : ℕ) (f :
       let stations = stations_same s next (docks_away moves from_away to_away) (λ station. types_same s next station (bikes_away moves from_away to_away station)) in
       record {
         leads = λ i. record (tables_between s m) { bikes = bikes i; stations = stations i };
-        listing = listing_same s next m (same_docks s next refl) refl listing;
+        listing = listing_same s next m (same_docks s next refl) refl refl refl listing;
       }

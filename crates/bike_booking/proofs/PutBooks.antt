@@ -154,7 +154,7 @@ module _ (s : Operator) (m : Listed) (listing : IsListing s m) (bike : ℕ) (b :
       (docks_here moves d (docks_by adds d) docks docks_move) (with_counts type_id o by_type) here in
       record {
         leads = λ i. record (tables_between s m) { bikes = rows i; stations = stations i };
-        listing = report_listed next m now station (listing_same s next m (same_docks s next refl) refl listing);
+        listing = report_listed next m now station (listing_same s next m (same_docks s next refl) refl refl refl listing);
       }
 
   pub put : (now : ℕ) → Leads (put_writes now) s m (with_report station now (bike_put bike (standing b state p) s)) m
