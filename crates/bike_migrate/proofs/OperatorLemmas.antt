@@ -8,10 +8,8 @@ use Rattle.sqlite_value.specs.Order.{Row}
 use Rattle.sqlite.specs.Effect.{Database}
 use Rattle.bike_sql.specs.View.{row_with}
 use Rattle.bike_sql.proofs.RowListLemmas.{map_has}
-use Rattle.bike_ledger.specs.Ledger.{cash_of, revenue_of}
 use Rattle.bike_operator.specs.Operator.{Operator, Station}
 use Rattle.bike_book.specs.Tables.{TableName, Tables, Meta, Stations, with_rows}
-use Rattle.bike_book.specs.Rows.{meta_row}
 use Rattle.bike_book.specs.Stored.{Listed, tables_for, stored_station}
 use Rattle.bike_book.specs.Writes.{tables_after}
 use Rattle.bike_book.proofs.FoundKeys.{found_by_key}
@@ -31,7 +29,7 @@ use Rattle.bike_recognition.specs.EarlierVersions.Stores.{tables_for_at, HasFewD
 use Rattle.bike_migrate.specs.Raised.{IsEarlier, version_write, tables_raised, IsRaised}
 use Rattle.bike_migrate.specs.Stations.{has_few}
 use Rattle.bike_migrate.specs.Verdicts.{KeepsBound, AllGoodAt, IsFirstBadAt}
-use Rattle.bike_migrate.proofs.VersionLemmas.{meta_raised, meta_lowered}
+use Rattle.bike_migrate.proofs.VersionLemmas.{meta_raised, WasMeta, meta_lowered}
 
 -- ---- the bound of docks
 
@@ -63,18 +61,18 @@ module _ (s : Operator) (m : Listed) where
 -- ---- the tables
 
 -- raised, they are the tables of the operator
-pub raised_for : (e : Earlier) (db : Database) (s : Operator) (m : Listed) → tables_at e db ≡ tables_for_at e s m → tables_raised e db ≡ tables_for s m
-raised_for e db s m are =
+pub raised_for : (e : Earlier) (db : Database) (s : Operator) (m : Listed) (cash revenue : Value) → tables_at e db ≡ tables_for_at e s m cash revenue → tables_raised e db ≡ tables_for s m
+raised_for e db s m cash revenue are =
     ap (tables_after version_write) are
-    ∙ ap (λ rows. with_rows Meta rows (tables_for s m)) (meta_raised (number_of e) s.now (cash_of s.entries) (revenue_of s.entries))
+    ∙ ap (λ rows. with_rows Meta rows (tables_for s m)) (meta_raised (number_of e) m.since cash revenue)
 
 -- and back
-lowered_meta : (e : Earlier) (db : Database) (s : Operator) (m : Listed) → IsEarlier e db → tables_raised e db ≡ tables_for s m
-    → (tables_at e db).meta ≡ meta_row (number_of e) s.now (cash_of s.entries) (revenue_of s.entries) ∷ []
-lowered_meta e db s m it are = meta_lowered (number_of e) s.now (cash_of s.entries) (revenue_of s.entries) (tables_at e db).meta it.version (ap (λ (t : Tables). t.meta) are)
+lowered_meta : (e : Earlier) (db : Database) (s : Operator) (m : Listed) → IsEarlier e db → tables_raised e db ≡ tables_for s m → WasMeta (number_of e) m.since (tables_at e db).meta
+lowered_meta e db s m it are = meta_lowered (number_of e) m.since (tables_at e db).meta it.version (ap (λ (t : Tables). t.meta) are)
 
-pub lowered_for : (e : Earlier) (db : Database) (s : Operator) (m : Listed) → IsEarlier e db → tables_raised e db ≡ tables_for s m → tables_at e db ≡ tables_for_at e s m
-lowered_for e db s m it are = ap (with_rows Meta (tables_at e db).meta) are ∙ ap (λ rows. with_rows Meta rows (tables_for s m)) (lowered_meta e db s m it are)
+lowered_for : (e : Earlier) (db : Database) (s : Operator) (m : Listed) → tables_raised e db ≡ tables_for s m → (was : WasMeta (number_of e) m.since (tables_at e db).meta)
+    → tables_at e db ≡ tables_for_at e s m was.cash was.revenue
+lowered_for e db s m are was = ap (with_rows Meta (tables_at e db).meta) are ∙ ap (λ rows. with_rows Meta rows (tables_for s m)) was.rows_are
 
 -- ---- the verdict
 
@@ -93,19 +91,22 @@ bound_of Third t good bounds key = absurd (both_ways false refl bounds)
 module _ (e : Earlier) (old new : Database) (raised : IsRaised e old new) where
   -- for which the database stood, it stands
   pub stores_raised : (s : Operator) → StoresAt e old s → Stores new s
-  stores_raised s it = record { has = raised.has; sound = it.sound; listed = it.listed; listing = it.listing; tables = raised.tables ∙ raised_for e old s it.listed it.tables }
+  stores_raised s it = record { has = raised.has; sound = it.sound; listed = it.listed; listing = it.listing; tables = raised.tables ∙ raised_for e old s it.listed it.cash it.revenue it.tables }
 
   -- for which it stands, it stood
   pub stored_before : IsEarlier e old → (s : Operator) → Stores new s → (IsTrue (bounds_docks e) → (key : Row) → KeepsBound (tables_raised e old) Stations key) → StoresAt e old s
   stored_before was s it bound =
       let are : tables_raised e old ≡ tables_for s it.listed = sym raised.tables ∙ it.tables in
+      let meta = lowered_meta e old s it.listed was are in
       record {
         is_at = was.is_at;
         sound = it.sound;
         few_docks = λ bounds. few_of s it.listed (λ id. (found_by_key s it.listed it.sound it.listing).stations id) (λ key. subst (λ t. KeepsBound t Stations key) are (bound bounds key));
         listed = it.listed;
         listing = it.listing;
-        tables = lowered_for e old s it.listed was are;
+        cash = meta.cash;
+        revenue = meta.revenue;
+        tables = lowered_for e old s it.listed are meta;
       }
 
   -- where all keys are good, it is the operator's that is read off

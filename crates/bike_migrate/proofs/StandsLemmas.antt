@@ -9,7 +9,6 @@ use Rattle.sqlite.specs.Effect.{Database, IsDatabase}
 use Rattle.bike_sql.specs.Layout.{Layout}
 use Rattle.bike_sql.specs.Stands.{rows_of, Stands}
 use Rattle.bike_sql.specs.View.{row_with}
-use Rattle.bike_ledger.specs.Ledger.{cash_of, revenue_of}
 use Rattle.bike_operator.specs.Operator.{Operator, no_operator}
 use Rattle.bike_book.specs.declared.version.TheConstants.{NEWEST}
 use Rattle.bike_book.specs.Tables.{Tables, Meta, keys_of}
@@ -136,22 +135,22 @@ module _ (db : Database) (f : Found) where
   newest_told : (s : Operator) → Stores db s → meta_version db ≡ Version NEWEST
   newest_told s it =
       let rows : rows_of (keys_of Meta) (name_of Meta) db ≡ _ = sym (rows_of_table db Meta) ∙ ap (λ (t : Tables). t.meta) it.tables in
-      ap (λ (rs : List Row). version_in (row_with 1 (Int (pos 1) ∷ []) rs)) rows ∙ ap version_in (meta_found NEWEST s.now (cash_of s.entries) (revenue_of s.entries))
+      ap (λ (rs : List Row). version_in (row_with 1 (Int (pos 1) ∷ []) rs)) rows ∙ ap version_in (meta_found NEWEST it.listed.since (pos 0) (pos 0))
 
   found_newest : (s : Operator) → Stores db s → IsFoundAs db f → f ≡ found.Newest
   found_newest s it is = newest_is it.has (by_told (Version NEWEST) (it.has Meta) (newest_told s it) is)
 
   first_told : (s : Operator) → StoresAt First db s → meta_version db ≡ Version 1
   first_told s it =
-      ap (λ (t : Tables). version_in (row_with 1 (Int (pos 1) ∷ []) t.meta)) it.tables ∙ ap version_in (meta_found 1 s.now (cash_of s.entries) (revenue_of s.entries))
+      ap (λ (t : Tables). version_in (row_with 1 (Int (pos 1) ∷ []) t.meta)) it.tables ∙ ap version_in (old_found 1 it.listed.since it.cash it.revenue)
 
   second_told : (s : Operator) → StoresAt Second db s → meta_version db ≡ Version 2
   second_told s it =
-      ap (λ (t : Tables). version_in (row_with 1 (Int (pos 1) ∷ []) t.meta)) it.tables ∙ ap version_in (meta_found 2 s.now (cash_of s.entries) (revenue_of s.entries))
+      ap (λ (t : Tables). version_in (row_with 1 (Int (pos 1) ∷ []) t.meta)) it.tables ∙ ap version_in (old_found 2 it.listed.since it.cash it.revenue)
 
   third_told : (s : Operator) → StoresAt Third db s → meta_version db ≡ Version 3
   third_told s it =
-      ap (λ (t : Tables). version_in (row_with 1 (Int (pos 1) ∷ []) t.meta)) it.tables ∙ ap version_in (meta_found 3 s.now (cash_of s.entries) (revenue_of s.entries))
+      ap (λ (t : Tables). version_in (row_with 1 (Int (pos 1) ∷ []) t.meta)) it.tables ∙ ap version_in (old_found 3 it.listed.since it.cash it.revenue)
 
   found_of : (e : Earlier) (s : Operator) → StoresAt e db s → IsFoundAs db f → f ≡ found.Of e
   found_of First s it is = earlier_is First it.is_at (by_told (Version 1) ((it.is_at.has Meta).stands refl) (first_told s it) is)

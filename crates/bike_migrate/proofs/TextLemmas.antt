@@ -165,13 +165,13 @@ makes_thing = makes_index thing_text more_names_by_thing thing_only each_told.1.
 pub makes_by_key : (old new : State) → TableStands History old.now → (count : ℕ) → Executes by_key_text [] old new (Ok count) → MakesIndex history_by_key old.now new.now
 makes_by_key = makes_index by_key_text history_by_key by_key_only each_told.1.1.1.1.1.0
 
--- ---- UPDATE of the version
+-- ---- UPDATE of the version and the sums
 
 abbrev version_text : List ℕ
-version_text = codes "UPDATE meta SET version = ?2 WHERE one = ?1"
+version_text = codes "UPDATE meta SET version = ?2, cash = ?3, revenue = ?3 WHERE one = ?1"
 
 abbrev version_query : Query
-version_query = table_query 0 (key_tests 0 (0 ∷ [])) [] (col 1 0 ∷ col 1 0 ∷ some_terms (layout_of Meta) ((2, 1) ∷ []))
+version_query = table_query 0 (key_tests 0 (0 ∷ [])) [] (col 1 0 ∷ col 1 0 ∷ some_terms (layout_of Meta) ((2, 1) ∷ (4, 2) ∷ (5, 2) ∷ []))
 
 updates_version : IsUpdate version_query (layout_of Meta) version_text
 unfolding everything
@@ -180,12 +180,12 @@ updates_version = (λ tree. (refl, refl, refl), refl)
 pub version_writes : (db : Database) → IsOurs db → IsWriteIn db.schema version_text
 version_writes db ours = let it = ours.has Meta in means_writes db.schema version_text _ (update_means version_query (layout_of Meta) version_text updates_version db.schema it.at it.tree it.has).0 tt
 
-pub sets_version : Does IsOurs (λ db. WasFree version_write (tables_of db)) (Puts (version_write ∷ [])) version_text (number_value 1 ∷ number_value NEWEST ∷ [])
+pub sets_version : Does IsOurs (λ db. WasFree version_write (tables_of db)) (Puts (version_write ∷ [])) version_text (number_value 1 ∷ number_value NEWEST ∷ number_value 0 ∷ [])
 unfolding everything
-sets_version = sets_columns Meta _ _ (row_updated (unique_key Meta) 0 ((2, 1) ∷ []) _ (λ tree. (refl, refl, refl), refl) refl refl refl (λ r. refl) (λ r. refl))
+sets_version = sets_columns Meta _ _ (row_updated (unique_key Meta) 0 ((2, 1) ∷ (4, 2) ∷ (5, 2) ∷ []) _ (λ tree. (refl, refl, refl), refl) refl refl refl (λ r. refl) (λ r. refl))
 
--- the version is set, and nothing else
-pub version_set : (old new : State) → IsOurs old.now → (count : ℕ) → ExecutesInside 0 version_text (number_value 1 ∷ number_value NEWEST ∷ []) old new (Ok count)
+-- they are set, and nothing else
+pub version_set : (old new : State) → IsOurs old.now → (count : ℕ) → ExecutesInside 0 version_text (number_value 1 ∷ number_value NEWEST ∷ number_value 0 ∷ []) old new (Ok count)
     → WritesOnly version_names (version_write ∷ []) old.now new.now
 version_set old new ours count ran =
     let it = ours.has Meta in

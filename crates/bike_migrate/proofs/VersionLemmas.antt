@@ -1,4 +1,4 @@
--- The row of `meta`, whose version alone changes.
+-- The row of `meta`, whose version and sums alone change.
 use Rattle.std.proofs.Common.{◌≡◌, ◌==◌, ℕ, ℤ, pos, negsuc, Bool, true, false, List, [], ◌∷◌, Option, Some, None, codes, Ordering, Less, Equal, Greater, if◌then◌else◌, refl, ap, subst, ◌∙◌}
 use Rattle.std.specs.Prelude.{take, option_map, unwrap_or}
 use Rattle.std.specs.Ordering.{is_eq, match_ordering}
@@ -12,9 +12,9 @@ use Rattle.bike_sql.proofs.TreeLemmas.{by_key_total}
 use Rattle.bike_book.specs.declared.version.TheConstants.{NEWEST}
 use Rattle.bike_book.specs.Rows.{number_value, meta_row}
 use Rattle.bike_book.proofs.CatalogueBooks.{one_key}
-use Rattle.bike_book.proofs.LedgerRows.{meta_found}
 use Rattle.bike_schema.specs.Columns.{whole_in}
 use Rattle.bike_recognition.specs.Recognition.{is_app, version_of, version_in}
+use Rattle.bike_recognition.specs.EarlierVersions.Stores.{old_meta_row}
 use Rattle.bike_recognition.specs.declared.version.MetaVersion.TheVariants.{Missing, Version, NotOurs}
 use Rattle.sqlite_rules.specs.Lists.{Has}
 
@@ -22,18 +22,22 @@ abbrev key : Row
 key = number_value 1 ∷ []
 
 abbrev newest : Row → Row
-newest = with_values ((2, number_value NEWEST) ∷ [])
+newest = with_values ((2, number_value NEWEST) ∷ (4, number_value 0) ∷ (5, number_value 0) ∷ [])
 
 -- ---- from the version to the newest
 
-meta_put : (version now : ℕ) (cash revenue : ℤ) → put_row_by 1 (meta_row NEWEST now cash revenue) (meta_row version now cash revenue ∷ []) ≡ meta_row NEWEST now cash revenue ∷ []
-meta_put version now cash revenue = rw one_key refl
+module _ (version now : ℕ) (cash revenue : Value) where
+  abbrev old : Row
+  old = old_meta_row version now cash revenue
 
-pub meta_raised : (version now : ℕ) (cash revenue : ℤ) → rows_after_update 1 key newest (meta_row version now cash revenue ∷ []) ≡ meta_row NEWEST now cash revenue ∷ []
-meta_raised version now cash revenue =
-    ap (λ (o : Option Row). unwrap_or (option_map (λ x. put_row_by 1 (newest x) (meta_row version now cash revenue ∷ [])) o) (meta_row version now cash revenue ∷ []))
-    (meta_found version now cash revenue)
-    ∙ meta_put version now cash revenue
+  pub old_found : row_with 1 key (old ∷ []) ≡ Some old
+  old_found = rw one_key refl
+
+  meta_put : put_row_by 1 (meta_row NEWEST now (pos 0) (pos 0)) (old ∷ []) ≡ meta_row NEWEST now (pos 0) (pos 0) ∷ []
+  meta_put = rw one_key refl
+
+  pub meta_raised : rows_after_update 1 key newest (old ∷ []) ≡ meta_row NEWEST now (pos 0) (pos 0) ∷ []
+  meta_raised = ap (λ (o : Option Row). unwrap_or (option_map (λ x. put_row_by 1 (newest x) (old ∷ [])) o) (old ∷ [])) old_found ∙ meta_put
 
 -- ---- and back
 
@@ -85,25 +89,51 @@ version_is v true (Int (pos n)) is = by (n == 0) is
     by true is = absurd (no_version v is)
     by false is = let same : n ≡ v = cc in ap number_value same
 
-lowered : (v now : ℕ) (cash revenue : ℤ) (row : Row) → newest row ≡ meta_row NEWEST now cash revenue → version_in (Some row) ≡ Version v → row ≡ meta_row v now cash revenue
-lowered v now cash revenue [] made told = absurd cc
-lowered v now cash revenue (a ∷ []) made told = absurd (let none : [] ≡ Text (codes "bikeshare") ∷ number_value NEWEST ∷ number_value now ∷ Int cash ∷ Int revenue ∷ [] = cc in cc)
-lowered v now cash revenue (a ∷ b ∷ []) made told = absurd (let none : [] ≡ number_value NEWEST ∷ number_value now ∷ Int cash ∷ Int revenue ∷ [] = cc in cc)
-lowered v now cash revenue (a ∷ b ∷ c ∷ rest) made told =
+-- of this version, with whatever stands there for the sums
+record IsOld (v now : ℕ) (row : Row) : Type 0 where
+  pub cash : Value
+  pub revenue : Value
+  pub row_is : row ≡ old_meta_row v now cash revenue
+
+-- the columns behind the version: the moment, and two more
+behind : (now : ℕ) (rest : List Value) → with_values ((1, number_value 0) ∷ (2, number_value 0) ∷ []) rest ≡ number_value now ∷ number_value 0 ∷ number_value 0 ∷ []
+    → (cash : Value) × (revenue : Value) × (rest ≡ number_value now ∷ cash ∷ revenue ∷ [])
+behind now [] is = absurd cc
+behind now (a ∷ []) is = absurd cc
+behind now (a ∷ b ∷ []) is = absurd cc
+behind now (a ∷ b ∷ c ∷ []) is = (b, c, (let first : a ≡ number_value now = cc in ap (λ (x : Value). x ∷ b ∷ c ∷ []) first))
+behind now (a ∷ b ∷ c ∷ d ∷ rest) is = absurd cc
+
+lowered : (v now : ℕ) (row : Row) → newest row ≡ meta_row NEWEST now (pos 0) (pos 0) → version_in (Some row) ≡ Version v → IsOld v now row
+lowered v now [] made told = absurd cc
+lowered v now (a ∷ []) made told = absurd cc
+lowered v now (a ∷ b ∷ []) made told = absurd cc
+lowered v now (a ∷ b ∷ c ∷ rest) made told =
     let version : c ≡ number_value v = version_is v (is_app b) c told in
     let first : a ≡ Int (pos 1) = cc in
     let app : b ≡ Text (codes "bikeshare") = cc in
-    let others : rest ≡ number_value now ∷ Int cash ∷ Int revenue ∷ [] = cc in
-    ap (λ x. x ∷ b ∷ c ∷ rest) first ∙ ap (λ x. Int (pos 1) ∷ x ∷ c ∷ rest) app ∙ ap (λ x. Int (pos 1) ∷ Text (codes "bikeshare") ∷ x ∷ rest) version
-    ∙ ap (λ xs. Int (pos 1) ∷ Text (codes "bikeshare") ∷ number_value v ∷ xs) others
+    let others = behind now rest cc in
+    record {
+      cash = others.0;
+      revenue = others.1;
+      row_is = ap (λ x. x ∷ b ∷ c ∷ rest) first ∙ ap (λ x. Int (pos 1) ∷ x ∷ c ∷ rest) app ∙ ap (λ x. Int (pos 1) ∷ Text (codes "bikeshare") ∷ x ∷ rest) version
+          ∙ ap (λ xs. Int (pos 1) ∷ Text (codes "bikeshare") ∷ number_value v ∷ xs) others.2;
+    }
 
-pub meta_lowered : (v now : ℕ) (cash revenue : ℤ) (rows : List Row) → version_in (row_with 1 key rows) ≡ Version v → rows_after_update 1 key newest rows ≡ meta_row NEWEST now cash revenue ∷ []
-    → rows ≡ meta_row v now cash revenue ∷ []
-meta_lowered v now cash revenue rows = by (row_with 1 key rows) refl
+pub record WasMeta (v now : ℕ) (rows : List Row) : Type 0 where
+  pub cash : Value
+  pub revenue : Value
+  pub rows_are : rows ≡ old_meta_row v now cash revenue ∷ []
+
+pub meta_lowered : (v now : ℕ) (rows : List Row) → version_in (row_with 1 key rows) ≡ Version v → rows_after_update 1 key newest rows ≡ meta_row NEWEST now (pos 0) (pos 0) ∷ [] → WasMeta v now rows
+meta_lowered v now rows = by (row_with 1 key rows) refl
   where
-    by : (o : Option Row) → row_with 1 key rows ≡ o → version_in o ≡ Version v → unwrap_or (option_map (λ row. put_row_by 1 (newest row) rows) o) rows ≡ meta_row NEWEST now cash revenue ∷ []
-        → rows ≡ meta_row v now cash revenue ∷ []
+    abbrev made : List Row
+    made = meta_row NEWEST now (pos 0) (pos 0) ∷ []
+
+    by : (o : Option Row) → row_with 1 key rows ≡ o → version_in o ≡ Version v → unwrap_or (option_map (λ row. put_row_by 1 (newest row) rows) o) rows ≡ made → WasMeta v now rows
     by None found told is = absurd (let none : Missing ≡ Version v = told in cc)
     by (Some row) found told is =
-        let one = updated_one rows (meta_row NEWEST now cash revenue) row found is in
-        one ∙ ap (λ r. r ∷ []) (lowered v now cash revenue row (made_one rows (meta_row NEWEST now cash revenue) row one is) told)
+        let one = updated_one rows (meta_row NEWEST now (pos 0) (pos 0)) row found is in
+        let was = lowered v now row (made_one rows (meta_row NEWEST now (pos 0) (pos 0)) row one is) told in
+        record { cash = was.cash; revenue = was.revenue; rows_are = one ∙ ap (λ r. r ∷ []) was.row_is }

@@ -62,9 +62,10 @@ old_names e = kept_name ∷ counts_name ∷ stations_name e ∷ []
 
 -- ---- the tables
 
--- the one change: the newest number in the row of `meta`
+-- what changes in the row of `meta`: the version is the newest, which has no sums there
 abbrev pub version_write : RowWrite
-version_write = Set Meta (number_value 1 ∷ []) ((2, number_value NEWEST) ∷ [])
+version_write =
+    Set Meta (number_value 1 ∷ []) ((2, number_value NEWEST) ∷ (4, number_value 0) ∷ (5, number_value 0) ∷ [])
 
 -- a station added to the newest table, where these are the rows of `counts`
 abbrev pub station_write : List Row → Row → RowWrite

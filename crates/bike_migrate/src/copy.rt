@@ -31,15 +31,15 @@ const KINDS: [Kind; stations::COLUMNS] = table!(kinds stations);
 /// The kinds of the columns of `kept`.
 const REQUEST_KINDS: [Kind; 4] = [Kind::Text, Kind::Text, Kind::Text, Kind::Text];
 
-/// Sets the version in the row of `meta` to the newest.
+/// Sets the version in the row of `meta` to the newest, and the sums, which it hasn't there, to 0.
 fn set_version<S: Alter>(conn: &mut Connection<S>) -> Result<(), StatementFault>
     ensures { ChangesInside S.Store IsOurs conn.old conn.new result
         (WritesOnly version_names (version_write ∷ [])) }
 {
     run(
         conn,
-        "UPDATE meta SET version = ?2 WHERE one = ?1",
-        params![1_i64, NEWEST],
+        "UPDATE meta SET version = ?2, cash = ?3, revenue = ?3 WHERE one = ?1",
+        params![1_i64, NEWEST, 0_i64],
     )
 }
 
