@@ -151,14 +151,16 @@ class Audit:
         return getattr(self, table)(row, at)
 
     def now(self):
-        return self.by["meta"][1]["now"]
+        """The moment of the last request, and at least that in meta."""
+        last = max(self.rows["history"], key=lambda it: it["number"], default={"moment": 0})["moment"]
+        return max(self.by["meta"][1]["now"], last if BOUNDS["history"]["moment"](last) else 0)
 
     def on_truck(self, truck, order=None):
         places = [it["place"][0] for it in self.good["bikes"]]
         return sum(it[0] == "truck" and it[1] == truck and order in (None, it[2]) for it in places)
 
     def meta(self, row, at):
-        return row["cash"] == self.sum(1) and row["revenue"] == self.sum(2) - self.sum(3)
+        return row["cash"] == row["revenue"] == 0
 
     def system(self, row, at):
         return True

@@ -60,14 +60,11 @@ def number_of(key):
 
 def rolled_back(city, count):
     """The tables of a city as they were after so many top-ups of 1 hundredth each. Rider 17 had 25.00 before."""
-    ((one, app, version, begun, _, revenue),) = city["meta"]
     # The first entry is that of the 25.00.
     entries = [it for it in city["entries"] if it[0] <= count + 1]
-    now = max([it[5] for it in entries if it[0] > 1], default=begun)
     riders = [(rider, blocked, 2500 + count) for rider, blocked, _ in city["riders"]]
     requests = [it for it in city["history"] if number_of(it[3]) <= count]
-    meta = [(one, app, version, now, 2500 + count, revenue)]
-    return city | {"entries": entries, "riders": riders, "history": requests, "meta": meta}
+    return city | {"entries": entries, "riders": riders, "history": requests}
 
 
 def finished(words, **how):

@@ -161,7 +161,7 @@ MORE = [
     "add-region\tnorth\tNorth", "set-region\ta1\tnorth", "set-station\ta1\tfalse\ttrue\tfalse",
     "add-name\tsystem\tmetro\tde\tStadtrad", "add-name\tstation\ta1\tde\tHafen",
 ]
-# A command, and the row of its table before and after: those of `meta` and `history` are every request's.
+# A command, and the row of its table before and after: that of `history` is every request's.
 ROWS = [
     (
         "change-system\tMetro\tMo-Su\toffice@example.org\tEurope/Rome\thttps://bikes.example\t60",
@@ -195,10 +195,9 @@ def test_rows_of_what_is_corrected(program):
         assert ask(program, [command], at=1699999300 + at, first=100 + at) == ["ok"], command
         after = held(program.folder, "city.db")
         gone, come = ([it for it in one if it not in other] for one, other in ((before, after), (after, before)))
-        own = [[it for it in lines if not it.startswith(('INSERT INTO "meta"', 'INSERT INTO "history"'))]
-               for lines in (gone, come)]
+        own = [[it for it in lines if not it.startswith('INSERT INTO "history"')] for lines in (gone, come)]
         assert own == [[old], [new]], (command, own)
-        assert (len(gone), len(come)) == (2, 3), (command, gone, come)
+        assert (len(gone), len(come)) == (1, 2), (command, gone, come)
         before = after
     about = data_of(program, "system_information")
     assert about["languages"] == ["en", "de"] and [it["text"] for it in about["name"]] == ["Metro", "Stadtrad"], about

@@ -152,7 +152,7 @@ def test_moments_of_posts(program):
         (b"n1", 0), (b"s1", 0), (b"n3", 2 * HOUR), (b"n4", HOUR), (b"n5", -DAY), (b"n6", 2 * HOUR), (b"n7", DAY),
         (b"n8", 0),
     ], wanted
-    ((now,),) = rows_of("SELECT now FROM meta", program.folder, "city.db")
+    ((now,),) = rows_of("SELECT max(moment) FROM history", program.folder, "city.db")
     assert now == least
     is_sound(program)
 

@@ -138,8 +138,7 @@ REFUSED = {
 
 # The columns that hold moments: HTTP requests have the clock's.
 MOMENTS = {
-    "meta": ["now"], "stations_4": ["reported"], "rentals": ["start", "finish"], "entries": ["at"],
-    "history": ["moment"],
+    "stations_4": ["reported"], "rentals": ["start", "finish"], "entries": ["at"], "history": ["moment"],
 }
 
 
@@ -303,7 +302,7 @@ def undisturbed(program, kind):
     assert refused == REFUSED and len(answers) >= 60, (len(answers), refused, [answers[it] for it in refused])
     # The file before the first request has its tables or not.
     empty = {name: [] for name in fronts[0]}
-    begun = {**empty, "meta": [(1, "bikeshare", 4, True if kind.timeless else 0, 0, 0)]}
+    begun = {**empty, "meta": [(1, "bikeshare", 4, 0, 0, 0)]}
     again = kind(program, "timed.db")
     before = time.monotonic()
     again.begin()

@@ -121,7 +121,7 @@ def test_all_that_moves_nothing_at_once(program):
             assert rest(early).startswith(b"HTTP/1.1 200")
         assert server.ask(post("/riders/17/start", START)) == STARTED
         is_now(server.told("/rentals/1")["start"], "a start")
-    ((now,),) = rows_of("SELECT now FROM meta", program.folder, "city.db")
+    ((now,),) = rows_of("SELECT max(moment) FROM history", program.folder, "city.db")
     assert abs(now - time.time()) < SLACK, now
 
 
@@ -202,7 +202,7 @@ def test_moments_of_lines(program):
         found = out.decode().splitlines()[len(CITY) :]
         assert status == 0 and [found[0], found[2], found[4]] == [wanted] * 3, (name, status, found)
         assert rows_of("SELECT start, finish FROM rentals", program.folder, "city.db") == [(later, later + HOUR)], name
-        assert rows_of("SELECT now FROM meta", program.folder, "city.db") == [(later + HOUR,)], name
+        assert rows_of("SELECT max(moment) FROM history", program.folder, "city.db") == [(later + HOUR,)], name
         removed(program.folder, "city.db")
 
 

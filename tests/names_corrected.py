@@ -148,7 +148,6 @@ def tables_of(program):
             columns = [it[0] for it in rows.description]
             told[name] = sorted((dict(zip(columns, row)) for row in rows), key=repr)
         count = len(told.pop("history"))
-        told.pop("meta")
     return told, count
 
 

@@ -146,8 +146,7 @@ INSERT INTO rentals (rental, rider, bike, plan_id, from_station, start, to_stati
 SELECT n, 17, 7, 'basic', 'a1', 1699999200, 'a1', 1699999200, 1, 0 FROM counted;
 INSERT INTO entries (entry, kind, rider, rental, amount, at)
 SELECT rental + (SELECT max(entry) FROM entries), 2, 17, rental, 1, 1699999200 FROM rentals;
-UPDATE riders SET balance = balance - {0} WHERE rider = 17;
-UPDATE meta SET revenue = revenue + {0}
+UPDATE riders SET balance = balance - {0} WHERE rider = 17
 """
 
 

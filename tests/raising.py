@@ -126,7 +126,7 @@ def raised(program, before, version):
     stations = [(*it, *no_region, by_type_of(types[it[0]])) for it in before.rows[OLD[version]]]
     rows["stations_4"] = sorted(stations, key=repr)
     rows["history"] = requests(before.rows["kept"])
-    rows["meta"] = [it[:2] + (NEWEST,) + it[3:] for it in before.rows["meta"]]
+    rows["meta"] = [(*it[:2], NEWEST, it[3], 0, 0) for it in before.rows["meta"]]
     schema = [it for it in before.schema if it[2] not in GONE[version]] + [
         it for it in newest_schema(program.file) if it[2] in NEW[version]
     ]
@@ -379,16 +379,12 @@ def test_rows_of_counts(program):
             removed(file)
         bad = unsound(old, b"a1")
         changes = [*OF_COUNTS, *(added.format(", ".join(map(repr, it))) for it in WRONG_COUNTS)]
-        for change in [*changes, f"{OF_COUNTS[0]}; UPDATE riders SET balance = 0"]:
+        for change in [*changes, *(f"{OF_COUNTS[0]}; UPDATE {it} = 0" for it in ("riders SET balance", "meta SET cash"))]:
             file = of_sql(program.folder, version)
             changed(file, change)
             with told_with(f"version {version}, {change}"):
                 stays(program, file, bad)
             removed(file)
-        file = of_sql(program.folder, version)
-        changed(file, f"{OF_COUNTS[0]}; UPDATE meta SET cash = 0")
-        stays(program, file, unsound("meta", b"1"))
-        removed(file)
 
 
 def test_counts_of_many_types(program):

@@ -587,12 +587,16 @@ def by_type(types):
 def to_schema_3(file, layout="unkeyed"):
     """Makes a file of the newest schema one of schema 3: `counts` has the types of each station, and of every second
     station those of 0 and 0 too; `kept` in this layout has the requests of `history`, in their order, and neither their
-    numbers nor their moments."""
+    numbers nor their moments; and meta has the last moment, cash and revenue."""
+    moment = "max(now, coalesce((SELECT max(moment) FROM history), 0))"
+    cash, revenue = (
+        f"coalesce((SELECT sum(amount * {of}) FROM entries), 0)" for of in ("(kind = 1)", "((kind = 2) - (kind = 3))")
+    )
     changed(
         file,
         f"{STATIONS_3}; {COUNTS}; {LAYOUTS[layout]}; "
-        "INSERT INTO kept SELECT caller, req_key, command, reply FROM history ORDER BY number; DROP TABLE history; "
-        "UPDATE meta SET version = 3",
+        f"UPDATE meta SET version = 3, now = {moment}, cash = {cash}, revenue = {revenue}; "
+        "INSERT INTO kept SELECT caller, req_key, command, reply FROM history ORDER BY number; DROP TABLE history",
     )
     with contextlib.closing(sqlite3.connect(file)) as base, base:
         rows = base.execute("SELECT * FROM stations_4").fetchall()

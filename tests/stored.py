@@ -1,6 +1,6 @@
-"""The numbers that the tables store beside the rows that they follow from: a rider's balance, cash and revenue, a
-station's free and broken docks, its bicycles by type; the entries of each kind; the texts that are kept
-of commands and callers, and the values of their fields."""
+"""The numbers that the tables store beside the rows that they follow from: a rider's balance, a station's free and
+broken docks, its bicycles by type; the entries of each kind; the texts that are kept of commands and callers, and the
+values of their fields."""
 
 import model
 from shared import copied, is_sound, rows_of
@@ -49,7 +49,8 @@ DEBT = [
     ("1700000000|office|d5|top-up|18|2500", "balance|2450"),
 ]
 
-META = "SELECT cash, revenue FROM meta"
+# No request writes the table.
+META = "SELECT cash + revenue, now FROM meta"
 RIDER = "SELECT balance, blocked FROM riders WHERE rider = 17"
 STATION = "SELECT free, broken FROM stations_4 WHERE station_id = 'a1'"
 BY_TYPE = "SELECT by_type, docks FROM stations_4 WHERE station_id = 'a1'"
@@ -58,11 +59,11 @@ DEBTOR = "SELECT balance, blocked FROM riders WHERE rider = 18"
 
 # What is served after the city stands, and the two values that each query answers then.
 NUMBERS = [
-    (START + END, {RIDER: (2400, 0), META: (2500, 100), STATION: (0, 1), BY_TYPE: ("city:1:0", 2)}),
+    (START + END, {RIDER: (2400, 0), META: (0, 0), STATION: (0, 1), BY_TYPE: ("city:1:0", 2)}),
     (START, {RIDER: (2500, 0), STATION: (1, 1), BY_TYPE: ("-", 2)}),
     (BREAK, {STATION: (0, 2), BY_TYPE: ("city:0:1", 2)}),
-    (REFUND, {RIDER: (2425, 0), META: (2500, 75), RENTAL: (125, 50)}),
-    (DEBT, {RIDER: (2500, 0), DEBTOR: (2450, 0), META: (5000, 50), RENTAL: (100, 50)}),
+    (REFUND, {RIDER: (2425, 0), META: (0, 0), RENTAL: (125, 50)}),
+    (DEBT, {RIDER: (2500, 0), DEBTOR: (2450, 0), META: (0, 0), RENTAL: (100, 50)}),
 ]
 
 # The entries of REFUND: number, kind, rider, rental or 0, amount and moment.

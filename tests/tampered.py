@@ -350,7 +350,7 @@ def test_history(program):
         sql = f"{sql} WHERE number IN ({number}, {other}); UPDATE history SET number = abs(number)"
         changes.append((sql, by_script(sql)))
     for more in 1, 2:
-        for moment in 0, "moment", "(SELECT now FROM meta)", "(SELECT now + 1 FROM meta)":
+        for moment in 0, "moment - 1", "moment", "moment + 1":
             for key in "req_key", "'new'", "'k'", "''":
                 sql = f"INSERT INTO history SELECT {count + more}, {moment}, caller, {key}, command, reply FROM history"
                 sql = f"{sql} WHERE number = {count}"
