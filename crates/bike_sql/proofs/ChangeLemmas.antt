@@ -91,34 +91,6 @@ module _ (keys : ℕ) (layout : Layout) (tree : ℕ) (schema : Schema) (db next 
             (subst (IsKeyed keys table) all now),
       )
 
-  -- what came in has a key that no row had, so the first columns are a key after it
-  keyed_put : (new row : Row) → f new ≡ row → IsKeyed keys table (db tree) → IsFree keys row (rows_in keys table db) → AreSpread (put_row new (db tree)) → AreNumbered (put_row new (db tree))
-      → IsKeyed keys table (put_row new (db tree))
-  keyed_put new row is was free spread numbered = record { spread = spread; numbered = numbered; apart = λ a b p q tie. by a b (put_has new (db tree) a p) (put_has new (db tree) b q) tie }
-    where
-      other : (x : Row) → Has (db tree) x → by_key keys (f x) (f new) ≡ Equal → ⊥
-      other x h tie =
-          let missed = none_found (λ y. is_eq (row_cmp (take keys y) (take keys row))) (rows_in keys table db) free (f x) (has_order (by_key_total keys) (map f (db tree)) (shown_apart keys table (db tree) was) (f x) (has_map f (db tree) x h)) in
-          let t : by_key keys (f x) row ≡ Equal = subst (λ r. by_key keys (f x) r ≡ Equal) is tie in
-          true≢false (rw t at missed)
-
-      by : (a b : Row) → (a ≡ new) ⊎ Has (db tree) a → (b ≡ new) ⊎ Has (db tree) b → by_key keys (f a) (f b) ≡ Equal → value_cmp (rowid a) (rowid b) ≡ Equal
-      by a b (inl p) (inl q) tie = rw (p, q) (tied_itself value_cmp_total (rowid new))
-      by a b (inl p) (inr q) tie =
-          let t : by_key keys (f new) (f b) ≡ Equal = subst (λ x. by_key keys (f x) (f b) ≡ Equal) p tie in absurd (other b q (rw t at ((by_key_total keys).antisymm (f b) (f new))))
-      by a b (inr p) (inl q) tie = absurd (other a p (subst (λ x. by_key keys (f a) (f x) ≡ Equal) q tie))
-      by a b (inr p) (inr q) tie = was.apart a b p q tie
-
-  -- the same where nothing but the row's key, which is free, tells that the first columns stay a key
-  pub puts_free : (source row : Row) → Applies schema Enforced db (edit_of db table [] Chosen 0 (source ∷ [])) next → suits_row layout.columns source ≡ true
-      → ((rows : List Row) → f (with_rowid Chosen rows source) ≡ row) → IsKeyed keys table (db tree) → IsFree keys row (rows_in keys table db)
-      → IsKeyed keys table (next tree) × (rows_in keys table next ≡ put_row_by keys row (rows_in keys table db))
-  puts_free source row it suit shows was free =
-      let new = with_rowid Chosen (db tree) source in
-      let all : next tree ≡ put_row new (db tree) = it.rows ∙ ap (λ r. put_row r (db tree)) (ap (with_rowid Chosen (db tree)) (cast_row_same table source suit)) in
-      let done = puts_row source row it suit shows was (λ spread numbered. subst (IsKeyed keys table) (sym all) (keyed_put new row (shows (db tree)) was free (subst AreSpread all spread) (subst AreNumbered all numbered))) in
-      (done.0, done.1)
-
   -- ---- UPDATE
 
   module _ (tests : List Term) (order : List (Term × Key)) (project : List Term) (params values row : Row) where

@@ -17,7 +17,7 @@ use Rattle.bike_sql.specs.Stands.{rows_of, Stands, Sets}
 use Rattle.bike_sql.proofs.KeyLemmas.{IsKeyOf}
 use Rattle.bike_sql.proofs.CastLemmas.{suits_row}
 use Rattle.bike_sql.proofs.EffectLemmas.{inserts}
-use Rattle.bike_sql.proofs.ChangeLemmas.{puts_row, puts_free}
+use Rattle.bike_sql.proofs.ChangeLemmas.{puts_row}
 use Rattle.bike_sql.proofs.FrameLemmas.{rows_of_is, sets}
 
 module _ (keys : ℕ) (layout : Layout) (old new : State) (was : Stands old.now keys layout) (text : List ℕ) (params : Row) (width : ℕ) (terms : List Term) (source row : Row)
@@ -51,11 +51,3 @@ module _ (keys : ℕ) (layout : Layout) (old new : State) (was : Stands old.now 
       let put = puts_row keys layout was.tree old.now.schema old.now.trees new.now.trees source row it.step suit shows was.keyed (λ spread numbered. key.holds new.now was.at was.tree (rw it.schema was.has.there) it.sound spread numbered) in
       let same = sym (rows_of_is old.now keys layout was) in
       (sets old.now new.now keys layout was (put_row_by keys row rows) it.schema it.sound it.step.tables put.0 (put.1 ∙ ap (put_row_by keys row) same), subst (IsFree keys row) same put.2)
-
-  -- the same of a table on whose key nothing is UNIQUE: the key has to be free
-  pub insert_puts_free : IsFree keys row rows → Sets old.now new.now keys layout (put_row_by keys row rows)
-  insert_puts_free free =
-      let it = does in
-      let same = rows_of_is old.now keys layout was in
-      let put = puts_free keys layout was.tree old.now.schema old.now.trees new.now.trees source row it.step suit shows was.keyed (subst (IsFree keys row) same free) in
-      sets old.now new.now keys layout was (put_row_by keys row rows) it.schema it.sound it.step.tables put.0 (put.1 ∙ ap (put_row_by keys row) (sym same))

@@ -27,7 +27,7 @@ use Rattle.bike_sql.proofs.CastLemmas.{suit_all, suits_row}
 use Rattle.bike_sql.proofs.CrashLemmas.{done_inside}
 use Rattle.bike_sql.proofs.KeyLemmas.{IsKeyAt, IsUniqueAt}
 use Rattle.bike_sql.proofs.TextLemmas.{IsUpdate, update_means, IsDelete, delete_means}
-use Rattle.bike_sql.proofs.InsertLaw.{insert_puts, insert_puts_free}
+use Rattle.bike_sql.proofs.InsertLaw.{insert_puts}
 use Rattle.bike_sql.proofs.SetLaw.{are_exact, some_terms, sets_suit, update_some}
 use Rattle.bike_sql.proofs.UpdateLaw.{update_columns, update_number}
 use Rattle.bike_sql.proofs.RemoveLaw.{remove_row}
@@ -47,17 +47,6 @@ changes_inside {text = text} {params = params} it old new sound was r =
 -- an INSERT of this row, whose key was free
 abbrev pub Inserts : ℕ → Layout → List ℕ → Row → Type 1
 Inserts keys layout text row = Changes keys layout text row (put_row_by keys row) (IsFree keys row)
-
--- The same where nothing in the table is UNIQUE, so that the row's key has to be free.
-pub record InsertsFree (keys : ℕ) (layout : Layout) (text : List ℕ) (row : Row) : Type 1 where
-  pub does : (old new : State) → IsDatabase old.now → Stands old.now keys layout → IsFree keys row (rows_of keys layout.name old.now) → (count : ℕ) → Executes text row old new (Ok count)
-      → Sets old.now new.now keys layout (put_row_by keys row (rows_of keys layout.name old.now))
-
--- Inside a transaction, what is committed is as it was.
-pub inserts_inside : {keys : ℕ} {layout : Layout} {text : List ℕ} {row : Row} (it : InsertsFree keys layout text row) (old new : State) → IsDatabase old.now → Stands old.now keys layout
-    → IsFree keys row (rows_of keys layout.name old.now) → (r : Result ℕ Error) → ExecutesInside 0 text row old new r
-    → OnOk r (Shows old new new.now old.committed true × Sets old.now new.now keys layout (put_row_by keys row (rows_of keys layout.name old.now)))
-inserts_inside {text = text} {row = row} it old new sound was free r = done_inside 0 text row old new r (λ count shown executes. (shown, it.does old new sound was free count executes))
 
 -- an UPDATE of all columns of the row with this row's key, if it is there
 abbrev pub Replaces : ℕ → Layout → List ℕ → Row → Type 1
@@ -106,16 +95,6 @@ module _ {keys : ℕ} {layout : Layout} {text : List ℕ} {params : Row} where
   row_put key is gives suit shows = record {
     does = λ old new sound was count ran. insert_puts keys layout old new was text params (width layout) (row_terms layout) (row_values layout params) params
         (insert_is old.now.schema was.at (table_of layout was.tree) was.has text (Values (row_terms layout) (width layout)) (is old.now.schema was.tree)) gives suit shows count ran key.key;
-  }
-
-  -- the same where nothing is UNIQUE: the key has to be free
-  pub row_put_free : ((s : Schema) (tree : ℕ) → IsInsert s (table_of layout tree) (first text) (Values (row_terms layout) (width layout)))
-      → value_rows params (width layout) (length (row_terms layout) / width layout) (row_terms layout) ≡ row_values layout params ∷ []
-      → suits_row layout.columns (row_values layout params) ≡ true → ((rows : List Row) → columns_of (table_of layout 0) (with_rowid Chosen rows (row_values layout params)) ≡ params)
-      → InsertsFree keys layout text params
-  row_put_free is gives suit shows = record {
-    does = λ old new sound was free count ran. insert_puts_free keys layout old new was text params (width layout) (row_terms layout) (row_values layout params) params
-        (insert_is old.now.schema was.at (table_of layout was.tree) was.has text (Values (row_terms layout) (width layout)) (is old.now.schema was.tree)) gives suit shows count ran free;
   }
 
 -- UPDATE gives each row that it finds its rowid, and the parameters for columns.
