@@ -7,7 +7,6 @@ use Rattle.std.specs.FinMap as fin
 use Rattle.std.specs.FinMap.{FinMap}
 use Rattle.std.proofs.lemmas.Int.{ints}
 use Rattle.sqlite_value.specs.declared.value.Value.TheVariants.{Int}
-use Rattle.sqlite_value.specs.Order.{Row}
 use Rattle.bike_sql.specs.View.{row_with, put_row_by, rows_after_update, with_values}
 use Rattle.bike_ledger.specs.Entries.{Entry}
 use Rattle.bike_ledger.specs.Ledger.{credit, given_back, given_back_of, balance_of, refunded_of}
@@ -16,7 +15,7 @@ use Rattle.bike_operator.specs.declared.records.Rental.{Rental}
 use Rattle.bike_operator.specs.declared.records.Closing.{Closing}
 use Rattle.bike_operator.specs.Operator.{Rider}
 use Rattle.bike_accepted.proofs.MapLemmas.{number_order}
-use Rattle.bike_book.specs.Rows.{number_value, meta_row, rider_row, entry_row, rental_row}
+use Rattle.bike_book.specs.Rows.{meta_row, rider_row, entry_row, rental_row}
 use Rattle.bike_book.specs.Stored.{with_numbers, stored_rider, stored_entry, stored_rental}
 use Rattle.bike_book.proofs.MapRows.{same_rows, kept_entries}
 use Rattle.bike_book.proofs.Keys.{numbers, number_key}

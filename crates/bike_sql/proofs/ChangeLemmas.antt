@@ -2,13 +2,11 @@
 use Rattle.std.proofs.Common.{◌≡◌, ◌⊎◌, inl, inr, ℕ, ℤ, List, [], ◌∷◌, map, filter, length, Bool, true, false, not, cond, Some, None, Ordering, Less, Equal, Greater, refl, sym, ap, subst, ◌∙◌, take}
 use Rattle.std.specs.Ordering.{is_eq}
 use Rattle.std.specs.List.Sorted.{IsPermutation}
-use Rattle.std.proofs.lemmas.Bool.{and_parts, not-true, true≢false}
-use Rattle.std.proofs.lemmas.Cmp.{tied_itself}
+use Rattle.std.proofs.lemmas.Bool.{and_parts, not-true}
 use Rattle.std.proofs.lemmas.List.Sorted.{length_permutation}
 use Rattle.sqlite_value.specs.declared.value.Value.TheVariants.{Int}
 use Rattle.sqlite_value.specs.declared.keys.Key.{Key}
 use Rattle.sqlite_value.specs.Order.{Row, value_cmp, row_cmp}
-use Rattle.sqlite_value.proofs.OrderLemmas.{value_cmp_total}
 use Rattle.sqlite_trees.specs.Tree.{Trees, rowid, has_rowid, put_row, without_rowid}
 use Rattle.sqlite_trees.specs.View.{is_int}
 use Rattle.sqlite_sql.specs.Term.{Term, eval_all}
@@ -22,13 +20,13 @@ use Rattle.sqlite_rules.specs.Lists.{Has}
 use Rattle.sqlite_rules.specs.Calls.{ids_of}
 use Rattle.sqlite_rules.specs.Cast.{cast, cast_all, cast_row}
 use Rattle.sqlite_rules.specs.Edit.{edit_of, with_rowid, Applies, is_taken, id_in}
-use Rattle.sqlite_rules.proofs.TableLemmas.{int_is, has_put, put_has}
+use Rattle.sqlite_rules.proofs.TableLemmas.{int_is, has_put}
 use Rattle.sqlite.proofs.Callers.{one_permutation}
 use Rattle.bike_sql.specs.Keyed.{in_order}
 use Rattle.bike_sql.specs.Layout.{Layout, table_of}
 use Rattle.bike_sql.specs.View.{columns_of, by_key, rows_in, row_with, IsFree, put_row_by, rows_after_replacement, AreSpread, AreNumbered, IsKeyed}
 use Rattle.bike_sql.proofs.OrderLemmas.{all_has, order_has, has_order}
-use Rattle.bike_sql.proofs.RowListLemmas.{has_map, map_has, has_filter, filter_has, filter_none, find_only, find_none, none_found, no_list}
+use Rattle.bike_sql.proofs.RowListLemmas.{has_map, map_has, has_filter, filter_has, filter_none, find_only, find_none, no_list}
 use Rattle.bike_sql.proofs.TreeLemmas.{by_key_total, one_row, free_apart, put_keeps, spread_put, spread_without, numbered_put, numbered_without, shown_apart, shows_put}
 use Rattle.bike_sql.proofs.CastLemmas.{suit_all, suits_row, cast_same, cast_all_same, cast_row_same}
 use Rattle.bike_sql.proofs.TestLemmas.{tie_of}

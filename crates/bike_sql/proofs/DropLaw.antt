@@ -1,5 +1,5 @@
 -- A DROP TABLE that is done in a sound database, in which its table stands, takes that table and its indexes, and leaves each other table.
-use Rattle.std.proofs.Common.{◌≡◌, ◌≢◌, ◌==◌, not, inl, inr, ℕ, Bool, true, false, List, [], ◌∷◌, map, filter, find, slice_get, Option, Some, None, option_map, unwrap_or, Ok, Err, Result, OnOk, OnErr}
+use Rattle.std.proofs.Common.{◌≡◌, ◌≢◌, ◌==◌, not, inl, inr, ℕ, Bool, true, false, List, [], ◌∷◌, map, filter, find, slice_get, Option, Some, None, option_map, unwrap_or, Ok}
 use Rattle.std.proofs.Common.{refl, sym, ap, subst, ◌∙◌, arith}
 use Rattle.std.specs.List.{position_from, list_any}
 use Rattle.std.proofs.lemmas.Bool.{cases_Bool, and_from, eq-eqb, ne_eqb}
@@ -16,23 +16,16 @@ use Rattle.sqlite_resolve.specs.Scope.{Name}
 use Rattle.sqlite_resolve.specs.Compile.{first}
 use Rattle.sqlite_catalog.specs.Change.{KeepsRows}
 use Rattle.sqlite_catalog.proofs.StepLemmas.{same_itself, named_once}
-use Rattle.sqlite_trees.specs.declared.store.Store.{Ghosts}
-use Rattle.std.specs.Borrow.{MutBor}
-use Rattle.sqlite.specs.Held.{Held, state}
-use Rattle.sqlite.specs.declared.error.Error.{Error}
 use Rattle.sqlite.specs.Effect.{Database, IsDatabase}
 use Rattle.sqlite.specs.Listing.{understood}
-use Rattle.sqlite.specs.State.{State, KeepsCommit, Executes, ExecutesIn, ExecutesInside}
+use Rattle.sqlite.specs.State.{State, Executes, ExecutesIn}
 use Rattle.sqlite.proofs.Callers.{statement_of, runs_as}
 use Rattle.bike_sql.specs.Makes.{IsFree}
 use Rattle.bike_sql.proofs.GrowLemmas.{trees_apart}
 use Rattle.bike_sql.specs.Keyed.{in_order}
-use Rattle.bike_sql.specs.Outcome.{IsLeft, ToldAs}
-use Rattle.bike_sql.specs.Runs.{RunsInside}
 use Rattle.bike_sql.specs.Layout.{Layout, table_of}
 use Rattle.bike_sql.specs.View.{IsKeyed, by_key, columns_of}
 use Rattle.bike_sql.specs.Stands.{is_same_text, refers_to, is_referred_to, Stands}
-use Rattle.bike_sql.proofs.CrashLemmas.{done_inside, stopped_inside}
 use Rattle.bike_sql.proofs.FrameLemmas.{rows_of_is}
 use Rattle.bike_sql.proofs.RowListLemmas.{all_at}
 use Rattle.bike_sql.specs.Drops.{IsDrop, OthersStay, Drops}

@@ -1,5 +1,5 @@
 -- What DROP TABLE does to a database, wherever its table stands there.
-use Rattle.std.specs.Prelude.{◌≡◌, ℕ, false, [], Result, Ok, Err}
+use Rattle.std.specs.Prelude.{◌≡◌, ℕ, false, [], Ok, Err}
 use Rattle.sqlite_ast.specs.declared.Statement.TheVariants as written
 use Rattle.sqlite_syntax.specs.declared.statement.Parsed.{Parsed}
 use Rattle.sqlite_resolve.specs.Scope.{Name}
