@@ -1,5 +1,5 @@
 -- The rows found by their keys.
-use Rattle.std.proofs.Common.{◌≡◌, ℕ, List, [], ◌∷◌, Bool, true, false, Option, Some, None, is_some, refl, ap, ◌∙◌}
+use Rattle.std.proofs.Common.{◌≡◌, pos, ℕ, List, [], ◌∷◌, Bool, true, false, Option, Some, None, is_some, refl, ap, ◌∙◌}
 use Rattle.std.specs.Prelude.{option_map}
 use Rattle.std.specs.FinMap as fin
 use Rattle.sqlite_value.specs.declared.value.Value.TheVariants.{Text}

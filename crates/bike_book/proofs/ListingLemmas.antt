@@ -1,6 +1,6 @@
 -- Rows stay listed right where docks go on being there and the broken ones and the history stay, and where a request is
 -- added to the history.
-use Rattle.std.proofs.Common.{◌≡◌, ◌≤◌, ℕ, max, List, [], ◌∷◌, ◌++◌, sym, ap, ◌∙◌, subst}
+use Rattle.std.proofs.Common.{◌≡◌, ◌≤◌, ℕ, max, List, [], ◌∷◌, ◌++◌, refl, sym, ap, ◌∙◌, subst}
 use Rattle.std.specs.FinSet as set
 use native.Mathlib.Nat.{le_trans, le-max_left, max-eq_right}
 use Rattle.bike_operator.specs.Operator.{Operator, AcceptedRequest, DockKey, texts_cmp}

@@ -206,11 +206,12 @@ pub nothing_kept : (o : Option AcceptedRequest) → AreRowOf o None → KeepsSam
 nothing_kept None is = tt
 nothing_kept (Some a) is = absurd is
 
--- the number of the last row
-pub count_read : (row : Option Row) {found : Row} (result : Result ℕ StatementFault) → row ≡ Some found → result ≡ read_or_failed (request_count_in (column found 0))
-    → IfOk result (λ x. (n : ℕ) → IsLast n row → x ≡ n)
-count_read row {found} result there read = subst (λ o. IfOk result (λ x. (n : ℕ) → IsLast n o → x ≡ n)) (sym there) (by result read)
-  where
-    by : (result : Result ℕ StatementFault) → result ≡ read_or_failed (request_count_in (column found 0)) → IfOk result (λ x. (n : ℕ) → IsLast n (Some found) → x ≡ n)
-    by (Ok x) read = λ n is. let same : ◌≡◌ {A = Result ℕ StatementFault} (Ok x) (Ok n) = read ∙ ap (λ v. read_or_failed (request_count_in v)) is in cc
-    by (Err e) read = tt
+-- the number and the moment of the last row
+last_told : {found : Row} (x : LastRequest) → Told x.number (request_count_in (column found 0)) → Told x.moment (moment_in (column found 1)) → IsLastRead (Some found) x
+last_told x number moment n t is at =
+    let same = count_read number is in
+    let when = moment_read moment at in
+    λ i. record { number = same i; moment = when i }
+
+pub last_read : (row : Option Row) {found : Row} {x : LastRequest} → row ≡ Some found → Told x.number (request_count_in (column found 0)) → Told x.moment (moment_in (column found 1)) → IsLastRead row x
+last_read row {x = x} there number moment = subst (λ (o : Option Row). IsLastRead o x) (sym there) (last_told x number moment)
