@@ -1,5 +1,5 @@
 -- An accepted request, as row changes.
-use Rattle.std.proofs.Common.{◌≡◌, ◌+◌, ◌<◌, ℕ, ℤ, length, length-append, List, [], ◌∷◌, ◌++◌, append_assoc, Option, Some, None, Ok, refl, sym, ap, ◌∙◌, subst, subst₂, arith}
+use Rattle.std.proofs.Common.{◌≡◌, ◌+◌, ◌<◌, ◌≤◌, ℕ, ℤ, length, length-append, List, [], ◌∷◌, ◌++◌, append_assoc, Option, Some, None, Ok, refl, sym, ap, ◌∙◌, subst, subst₂, arith}
 use Rattle.std.specs.Prelude.{◌+ℤ◌, IfSome}
 use Rattle.std.specs.Borrow.{Bor}
 use Rattle.std.specs.FinMap as fin
@@ -7,9 +7,7 @@ use Rattle.std.specs.FinMap.{FinMap}
 use Rattle.std.specs.FinSet.{FinSet}
 use Rattle.std.specs.Ordering.{nat_cmp}
 use Rattle.bike_ledger.specs.Entries.{Entry}
-use Rattle.bike_ledger.specs.Ledger.{credit, cash_in, revenue_in, given_back, balance_of, cash_of, revenue_of, refunded_of, IsBalance}
-use Rattle.bike_ledger.proofs.BoundLemmas.{cash_of-bound, revenue_of-bound}
-use Rattle.bike_ledger.proofs.SumLemmas.{total-append}
+use Rattle.bike_ledger.specs.Ledger.{credit, given_back, balance_of, refunded_of}
 use Rattle.bike_commands.specs.declared.request.Request.{Request}
 use Rattle.bike_commands.specs.Replies.{reply_text}
 use Rattle.bike_operator.specs.declared.records.Bike.{Bike}
@@ -27,7 +25,6 @@ use Rattle.bike_laws.proofs.SingleSteps.ItemLemmas.{length-number_changed}
 use Rattle.bike_laws.proofs.SingleSteps.MapLemmas.{text_order, known_changed}
 use Rattle.bike_laws.proofs.SingleSteps.Moment.{reports}
 use Rattle.bike_laws.proofs.SingleSteps.NameLemmas.{KeepsNamed, same_named, names_kept}
-use Rattle.bike_laws.proofs.EntryLemmas.{amounts_of}
 use Rattle.bike_book.specs.declared.row_change.RowChange.TheVariants as row
 use Rattle.bike_book.specs.Stored.{Listed, IsListing}
 use Rattle.bike_book.specs.Writes.{RowWrite, Add, write_of, writes_of}
@@ -49,13 +46,11 @@ use Rattle.bike_accepted.specs.Effects.{bike_in, after_change, where_moved, wher
 use Rattle.bike_accepted.specs.Found.{IsMovedFound, IsFound, IsRefundFound, IsBookedFound}
 use Rattle.bike_booking.specs.declared.figures.Figures.{Figures}
 use Rattle.bike_booking.specs.declared.stored.Stored.{Stored}
-use Rattle.bike_booking.specs.declared.stored.Sums.{Sums}
 use Rattle.bike_booking.specs.declared.texts.KeptTexts.{KeptTexts}
 use Rattle.bike_booking.specs.Stored.{IsMovedStored}
-use Rattle.bike_booking.specs.Sums.{sums_of, sums_after}
 use Rattle.bike_booking.specs.Figures.{figures_of, rentals_after, orders_after, entries_after, figures_with, FiguresFollow}
 use Rattle.bike_booking.specs.Writes.{refund_writes, close_rows, where_moved_writes, where_changed_writes, where_booked_writes, writes_of_accepted}
-use Rattle.bike_booking.specs.Booking.{IsAccepted, BooksAccepted, SumsTakeOneMore}
+use Rattle.bike_booking.specs.Booking.{IsAccepted, BooksAccepted}
 use Rattle.bike_booking.proofs.Written.{leads_none, leads_then}
 use Rattle.bike_booking.proofs.NextFigures.{figures_next}
 use Rattle.bike_booking.proofs.MovedBooks.{books_moved}
@@ -64,8 +59,9 @@ use Rattle.bike_booking.proofs.ChangedBooks.{IsReady, books_change}
 
 -- ---- what a move and a record leave
 
--- the ledger, what is kept, riders, rentals and names
+-- the moment, the ledger, what is kept, riders, rentals and names
 pub record Leaves (s n : Operator) : Type 0 where
+  pub now : n.now ≡ s.now
   pub entries : n.entries ≡ s.entries
   pub history : n.history ≡ s.history
   pub riders : n.riders ≡ s.riders
@@ -75,16 +71,17 @@ pub record Leaves (s n : Operator) : Type 0 where
   pub named : KeepsNamed s n
 
 none_left : (s : Operator) → Leaves s s
-none_left s = record { entries = refl; history = refl; riders = refl; rentals = refl; orders = refl; more_names = refl; named = same_named s s refl }
+none_left s = record { now = refl; entries = refl; history = refl; riders = refl; rentals = refl; orders = refl; more_names = refl; named = same_named s s refl }
 
 bike_left : (s : Operator) (bikes : FinMap nat_cmp Bike) → Leaves s (record s { bikes = bikes })
-bike_left s bikes = record { entries = refl; history = refl; riders = refl; rentals = refl; orders = refl; more_names = refl; named = same_named s (record s { bikes = bikes }) refl }
+bike_left s bikes = record { now = refl; entries = refl; history = refl; riders = refl; rentals = refl; orders = refl; more_names = refl; named = same_named s (record s { bikes = bikes }) refl }
 
 mark_left : (s : Operator) (broken : FinSet texts_cmp) → Leaves s (record s { broken = broken })
-mark_left s broken = record { entries = refl; history = refl; riders = refl; rentals = refl; orders = refl; more_names = refl; named = same_named s (record s { broken = broken }) refl }
+mark_left s broken = record { now = refl; entries = refl; history = refl; riders = refl; rentals = refl; orders = refl; more_names = refl; named = same_named s (record s { broken = broken }) refl }
 
 station_left : (s : Operator) (station : List ℕ) (f : Station → Station) → Leaves s (record s { stations = key_changed s.stations station f })
 station_left s station f = record {
+  now = refl;
   entries = refl;
   history = refl;
   riders = refl;
@@ -96,6 +93,7 @@ station_left s station f = record {
 
 reported : (now : ℕ) (station : List ℕ) (s n : Operator) → Leaves s n → Leaves s (with_report station now n)
 reported now station s n h = record {
+  now = h.now;
   entries = h.entries;
   history = h.history;
   riders = h.riders;
@@ -128,28 +126,32 @@ ready s n sound h types = record {
   balance = λ rider none. ap (balance_of rider) h.entries ∙ no_balance s sound rider (ap (λ (m : FinMap nat_cmp Rider). fin.get m rider) (sym h.riders) ∙ none);
 }
 
--- a name in the system's language leaves the ledger, what is kept, rentals and orders
+-- a name in the system's language leaves the moment, the ledger, what is kept, rentals and orders
 record LeavesLedger (s n : Operator) : Type 0 where
+  now : n.now ≡ s.now
   entries : n.entries ≡ s.entries
   history : n.history ≡ s.history
   rentals : n.rentals ≡ s.rentals
   orders : n.orders ≡ s.orders
 
 own_name_left : (kind : NameKind) (id name : List ℕ) (s : Operator) → LeavesLedger s (own_name_set kind id name s)
-own_name_left named.System id name s = record { entries = refl; history = refl; rentals = refl; orders = refl }
-own_name_left named.Station id name s = record { entries = refl; history = refl; rentals = refl; orders = refl }
-own_name_left named.«Type» id name s = record { entries = refl; history = refl; rentals = refl; orders = refl }
-own_name_left named.Plan id name s = record { entries = refl; history = refl; rentals = refl; orders = refl }
-own_name_left named.Description id name s = record { entries = refl; history = refl; rentals = refl; orders = refl }
-own_name_left named.Region id name s = record { entries = refl; history = refl; rentals = refl; orders = refl }
+own_name_left named.System id name s = record { now = refl; entries = refl; history = refl; rentals = refl; orders = refl }
+own_name_left named.Station id name s = record { now = refl; entries = refl; history = refl; rentals = refl; orders = refl }
+own_name_left named.«Type» id name s = record { now = refl; entries = refl; history = refl; rentals = refl; orders = refl }
+own_name_left named.Plan id name s = record { now = refl; entries = refl; history = refl; rentals = refl; orders = refl }
+own_name_left named.Description id name s = record { now = refl; entries = refl; history = refl; rentals = refl; orders = refl }
+own_name_left named.Region id name s = record { now = refl; entries = refl; history = refl; rentals = refl; orders = refl }
 
--- a record leaves the ledger and what is kept
-change_left : (c : Change) (s : Operator) → ((after_change c s).entries ≡ s.entries) × ((after_change c s).history ≡ s.history)
-change_left (change.SetOwnName kind id name) s = let left = own_name_left kind id.now name.now s in (left.entries, left.history)
-change_left c s = (refl, refl)
+-- a record leaves the ledger, what is kept and the moment
+abbrev LeavesKept : Operator → Operator → Type 0
+LeavesKept s n = (n.entries ≡ s.entries) × (n.history ≡ s.history) × (n.now ≡ s.now)
 
-changed_left : (co : Option Change) (s : Operator) → ((where_changed co s).entries ≡ s.entries) × ((where_changed co s).history ≡ s.history)
-changed_left None s = (refl, refl)
+change_left : (c : Change) (s : Operator) → LeavesKept s (after_change c s)
+change_left (change.SetOwnName kind id name) s = let left = own_name_left kind id.now name.now s in (left.entries, left.history, left.now)
+change_left c s = (refl, refl, refl)
+
+changed_left : (co : Option Change) (s : Operator) → LeavesKept s (where_changed co s)
+changed_left None s = (refl, refl, refl)
 changed_left (Some c) s = change_left c s
 
 -- ---- the parts of an acceptance
@@ -190,50 +192,49 @@ module _ (s : Operator) (m : Listed) (now : ℕ) (q : Request) (a : Accepted) (n
   history : next.history ≡ s.history
   history = (changed_left a.change moved_next).1 ∙ left.history
 
+  later : next.now ≤ now
+  later = subst (λ (k : ℕ). k ≤ now) (sym ((changed_left a.change moved_next).2 ∙ left.now)) h.later
+
   numbered : number ≡ length next.history + 1
   numbered = h.number_is ∙ ap (λ (l : List AcceptedRequest). length l + 1) (sym history)
 
   texts_are : AreTextsOf q a.reply texts.caller.now texts.key.now texts.command.now texts.reply.now
   texts_are = record { caller_is = h.texts_are.caller; key_is = h.texts_are.key; command_is = h.texts_are.command; reply_is = h.texts_are.reply ∙ ap reply_text (sym h.decides.1) }
 
-  numbers : (b : BookedEntry) → IsBookedFound s b → n.sums ≡ sums_after (sums_of s) (Some b) → AreNumbersWith next b.entry b.balance n.sums.cash n.sums.revenue
-  numbers b found sums = record {
+  numbers : (b : BookedEntry) → IsBookedFound s b → AreNumbersWith next b.entry b.balance
+  numbers b found = record {
     number_is = found.number_is ∙ ap (λ (es : List Entry). length es + 1) (sym entries);
     balance_is = found.balance_is ∙ ap (λ (es : List Entry). balance_of b.entry.rider es +ℤ credit b.entry.kind b.entry.amount) (sym entries);
-    cash_is = ap (λ (x : Sums). x.cash) sums ∙ ap (λ (es : List Entry). cash_of es +ℤ cash_in b.entry.kind b.entry.amount) (sym entries);
-    revenue_is = ap (λ (x : Sums). x.revenue) sums ∙ ap (λ (es : List Entry). revenue_of es +ℤ revenue_in b.entry.kind b.entry.amount) (sym entries);
   }
 
   -- the entry, where there is one, and the close
   abbrev Closes : Listed → Option BookedEntry → Type 0
-  Closes w o = Leads (where_booked_writes o ++ writes_of (close_rows now n.sums number texts)) next w (after_close now q a.reply (entry_added (entry_of o) next)) w
+  Closes w o = Leads (where_booked_writes o ++ writes_of (close_rows now number texts)) next w (after_close now q a.reply (entry_added (entry_of o) next)) w
 
-  closes : (w : Listed) → IsListing next w → (o : Option BookedEntry) → IfSome o (IsBookedFound s) → n.sums ≡ sums_after (sums_of s) o → Closes w o
-  closes w listing None found sums =
-      close_quiet next w now q a.reply number texts.caller texts.key texts.command texts.reply listing numbered texts_are n.sums.cash n.sums.revenue
-      (ap (λ (x : Sums). x.cash) sums ∙ ap cash_of (sym entries)) (ap (λ (x : Sums). x.revenue) sums ∙ ap revenue_of (sym entries))
-  closes w listing (Some b) found sums = go b.refunded found.refunded_is where
+  closes : (w : Listed) → IsListing next w → (o : Option BookedEntry) → IfSome o (IsBookedFound s) → Closes w o
+  closes w listing None found = close_quiet next w now q a.reply number texts.caller texts.key texts.command texts.reply listing later numbered texts_are
+  closes w listing (Some b) found = go b.refunded found.refunded_is where
     go : (o : Option ℤ) → IsRefundFound s b.entry o
         → Leads ((Add Entries (entry_row b.entry.number b.entry) ∷ write_of (row.SetBalance b.entry.rider b.balance) ∷ refund_writes b.entry.rental o)
-        ++ writes_of (close_rows now n.sums number texts)) next w (after_close now q a.reply (entry_added (Some b.entry) next)) w
+        ++ writes_of (close_rows now number texts)) next w (after_close now q a.reply (entry_added (Some b.entry) next)) w
     go None none =
         let e : Bor Entry = record { ref_ptr = (0, 0); now = b.entry } in
-        close_entry next w now q a.reply number texts.caller texts.key texts.command texts.reply listing numbered texts_are e b.balance n.sums.cash n.sums.revenue (numbers b found sums) none
+        close_entry next w now q a.reply number texts.caller texts.key texts.command texts.reply listing later numbered texts_are e b.balance (numbers b found) none
     go (Some refunded) is =
         let e : Bor Entry = record { ref_ptr = (0, 0); now = b.entry } in
-        close_refund next w now q a.reply number texts.caller texts.key texts.command texts.reply listing numbered texts_are e b.balance refunded n.sums.cash n.sums.revenue (numbers b found sums)
+        close_refund next w now q a.reply number texts.caller texts.key texts.command texts.reply listing later numbered texts_are e b.balance refunded (numbers b found)
         (is ∙ ap (λ (es : List Entry). refunded_of b.entry.rental es +ℤ given_back b.entry.kind b.entry.amount) (sym entries))
 
   pub leads_accepted : (w : Listed) × Leads (writes_of_accepted now n number texts a) s m (after_acceptance s now q) w
   leads_accepted =
-      let one = leads_moved s m now n h.sound h.listing a.moved h.found.moved h.stored.moved in
+      let one = leads_moved s m now n h.sound h.listing a.moved h.found.moved h.stored in
       let w = one.0 in
       let two = leads_changed moved_next w (ready s moved_next h.sound left (no_types_left now a.moved s h.sound h.found.moved)) one.1.listing a.change h.found.change in
-      let three = closes w two.listing a.entry h.found.entry h.stored.sums in
+      let three = closes w two.listing a.entry h.found.entry in
       let ms = where_moved_writes now n a.moved in
       let cs = where_changed_writes a.change in
       let es = where_booked_writes a.entry in
-      let ks = writes_of (close_rows now n.sums number texts) in
+      let ks = writes_of (close_rows now number texts) in
       let end = after_close now q a.reply (effect_of now a s) in
       let both = leads_then ms cs s moved_next next m w w one.1 two in
       let all : Leads ((ms ++ cs) ++ (es ++ ks)) s m end w = leads_then (ms ++ cs) (es ++ ks) s next end m w w both three in
@@ -255,22 +256,6 @@ changed_by_left now a s =
     let before = moved_left now a.moved s in
     let after = changed_left a.change (where_moved now a.moved s) in (after.0 ∙ before.entries, after.1 ∙ before.history)
 
-pub sums_take_one_more : SumsTakeOneMore
-sums_take_one_more s now q a sound decides sound_after = go a.entry refl where
-  go : (o : Option BookedEntry) → a.entry ≡ o → IfSome o (λ _. IsBalance (cash_of s.entries) × IsBalance (revenue_of s.entries))
-  go None is = tt
-  go (Some b) is =
-      let next = changed_by now a s in
-      let left = changed_by_left now a s in
-      let entries : (after_acceptance s now q).entries ≡ next.entries ++ b.entry ∷ [] =
-      ap (λ (o : Operator). o.entries) (accepted_closed s now q a decides left.1) ∙ ap (λ (o : Option BookedEntry). (entry_added (entry_of o) next).entries) is in
-      let same = ap (λ (es : List Entry). length es) left.0 in
-      let counted = ap (λ (es : List Entry). length es) entries in
-      let longer = length-append next.entries (b.entry ∷ []) in
-      let most = sound_after.ledger.few_entries in
-      let few : length s.entries < 100000000 = omega (arith, same, counted, longer, most) in
-      (cash_of-bound s.entries (amounts_of s sound.ledger) few, revenue_of-bound s.entries (amounts_of s sound.ledger) few)
-
 -- ---- figures
 
 -- how many rentals and orders there are after a record
@@ -290,7 +275,6 @@ orders_with (Some c) s found = refl
 
 -- the figures of the ledger with an entry
 record LedgerWith (s next : Operator) (o : Option BookedEntry) : Type 0 where
-  sums : sums_after (sums_of s) o ≡ sums_of (entry_added (entry_of o) next)
   entries : entries_after (length s.entries) o ≡ length (entry_added (entry_of o) next).entries
   rentals : (entry_added (entry_of o) next).rentals ≡ next.rentals
   orders : (entry_added (entry_of o) next).orders ≡ next.orders
@@ -298,22 +282,17 @@ record LedgerWith (s next : Operator) (o : Option BookedEntry) : Type 0 where
 
 ledger_with : (s n : Operator) (o : Option BookedEntry) → n.entries ≡ s.entries → IfSome o (IsBookedFound s) → LedgerWith s n o
 ledger_with s n None same found = record {
-  sums = λ i. record { cash = cash_of (sym same i); revenue = revenue_of (sym same i) };
   entries = ap (λ (es : List Entry). length es) (sym same);
   rentals = refl;
   orders = refl;
   history = refl;
 }
-ledger_with s n (Some b) same found =
-    let cash = ap (λ (es : List Entry). cash_of es +ℤ cash_in b.entry.kind b.entry.amount) (sym same) ∙ sym (total-append (λ (e : Entry). cash_in e.kind e.amount) n.entries b.entry) in
-    let revenue = ap (λ (es : List Entry). revenue_of es +ℤ revenue_in b.entry.kind b.entry.amount) (sym same) ∙ sym (total-append (λ (e : Entry). revenue_in e.kind e.amount) n.entries b.entry) in
-    record {
-      sums = λ i. record { cash = cash i; revenue = revenue i };
-      entries = found.number_is ∙ ap (λ (es : List Entry). length es + 1) (sym same) ∙ sym (length-append n.entries (b.entry ∷ []));
-      rentals = refl;
-      orders = refl;
-      history = refl;
-    }
+ledger_with s n (Some b) same found = record {
+  entries = found.number_is ∙ ap (λ (es : List Entry). length es + 1) (sym same) ∙ sym (length-append n.entries (b.entry ∷ []));
+  rentals = refl;
+  orders = refl;
+  history = refl;
+}
 
 pub figures_follow : FiguresFollow
 figures_follow s now q a figures decides found follows =
@@ -329,5 +308,5 @@ figures_follow s now q a figures decides found follows =
     let requests : length s.history + 1 ≡ length (after_close now q a.reply end).history =
     ap (λ (l : List AcceptedRequest). length l + 1) (sym (ledger.history ∙ left.1)) ∙ sym (length-append end.history _) in
     let all : figures_with (figures_of s) now a (length s.history + 1) ≡ figures_of (after_close now q a.reply end) =
-    λ i. record { now = now; sums = ledger.sums i; rentals = rentals i; orders = orders i; entries = ledger.entries i; requests = requests i } in
+    λ i. record { now = now; rentals = rentals i; orders = orders i; entries = ledger.entries i; requests = requests i } in
     figures_next (figures_of s) now a follows ∙ all ∙ ap figures_of (sym closed)

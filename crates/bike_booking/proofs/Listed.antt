@@ -8,7 +8,7 @@ use Rattle.std.specs.FinSet as set
 use Rattle.bike_operator.specs.Operator.{Operator, DockKey, texts_cmp, dock_key}
 use Rattle.bike_operator.specs.Sound.{HasDock}
 use Rattle.bike_laws.proofs.SingleSteps.MapLemmas.{texts_order, tied}
-use Rattle.bike_book.specs.Stored.{Listed, IsListing, IsDockKey}
+use Rattle.bike_book.specs.Stored.{Listed, IsListing, IsDockKey, moment_since}
 use Rattle.bike_book.proofs.ListingLemmas.{KeepsDocks, dock_kept}
 use Rattle.bike_booking.specs.AddedOrSet.{with_dock}
 
@@ -48,9 +48,10 @@ module _ (s n : Operator) (m : Listed) (station : List ℕ) (dock : ℕ) (listin
         subst (λ (q : DockKey). fin.contains_key (with_dock station dock m).docks q ≡ true) (sym (tied texts_order key (dock_key station dock) e)) (added_here m.docks (dock_key station dock))
     go false e = added_kept m.docks (dock_key station dock) key (listing.marked key (sym (others key e) ∙ there))
 
-  pub listing_marked : KeepsDocks s n → HasDock s station dock → IsListing n (with_dock station dock m)
-  listing_marked keeps has = record {
+  pub listing_marked : KeepsDocks s n → n.now ≡ s.now → n.history ≡ s.history → HasDock s station dock → IsListing n (with_dock station dock m)
+  listing_marked keeps now history has = record {
     docks = all_added m.docks (dock_key station dock) (IsDockKey n) (record { station = station; dock = dock; key_is = refl; has = keeps station dock has })
         (λ key there. dock_kept s n keeps key (listing.docks key there));
     marked = marked;
+    now_is = now ∙ listing.now_is ∙ ap (moment_since m.since) (sym history);
   }

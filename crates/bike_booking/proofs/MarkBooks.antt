@@ -35,7 +35,7 @@ module _ (s : Operator) (m : Listed) (listing : IsListing s m) (sound : AreBikes
   w = with_dock station.now dock m
 
   listed : HasDock s station.now dock → IsListing next w
-  listed = listing_marked s next m station.now dock listing (marks_elsewhere s.broken (dock_key station.now dock) mark) (same_docks s next refl)
+  listed = listing_marked s next m station.now dock listing (marks_elsewhere s.broken (dock_key station.now dock) mark) (same_docks s next refl) refl refl
 
   -- the tables with the dock's row
   abbrev with_mark : Tables

@@ -8,4 +8,4 @@ use Rattle.bike_book.specs.Stored.{Listed, IsListing}
 use Rattle.bike_book.proofs.ListingLemmas.{listing_same}
 
 pub report_listed : (s : Operator) (m : Listed) (now : ℕ) (station : List ℕ) → IsListing s m → IsListing (with_report station now s) m
-report_listed s m now station = listing_same s (with_report station now s) m (docks_changed s (with_report station now s) station (reports now) (λ x. omega arith) refl) refl
+report_listed s m now station = listing_same s (with_report station now s) m (docks_changed s (with_report station now s) station (reports now) (λ x. omega arith) refl) refl refl refl

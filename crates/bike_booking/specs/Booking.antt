@@ -1,5 +1,5 @@
 -- The law of an accepted request: its row changes lead to the tables of the operator after it.
-use Rattle.std.specs.Prelude.{◌≡◌, ◌+◌, ℕ, List, length, Ok, IfSome}
+use Rattle.std.specs.Prelude.{◌≡◌, ◌≤◌, ◌+◌, ℕ, List, length, Ok}
 use Rattle.bike_fields.specs.Caller.{caller_text}
 use Rattle.bike_commands.specs.declared.request.Request.{Request}
 use Rattle.bike_commands.specs.Commands.{text_of}
@@ -16,7 +16,6 @@ use Rattle.bike_accepted.specs.declared.accepted.Accepted.{Accepted}
 use Rattle.bike_accepted.specs.Effects.{Decides}
 use Rattle.bike_accepted.specs.Found.{AreFound}
 use Rattle.bike_booking.specs.Stored.{IsStored}
-use Rattle.bike_booking.specs.Sums.{AreBounded, sums_of}
 use Rattle.bike_booking.specs.Writes.{writes_of_accepted}
 use Rattle.bike_booking.specs.declared.stored.Stored.{Stored}
 use Rattle.bike_booking.specs.declared.texts.KeptTexts.{KeptTexts}
@@ -28,12 +27,13 @@ pub record AreTexts (s : Operator) (now : ℕ) (q : Request) (texts : KeptTexts)
   pub command : texts.command.now ≡ text_of q.command
   pub reply : texts.reply.now ≡ reply_text (reply_of s now q.command)
 
--- What is known of an acceptance: the operator decides so, the records before
--- are its own, what is stored was read, and the number is that of the next request.
+-- What is known of an acceptance: the request comes no earlier than the operator's moment, the operator decides so, the
+-- records before are its own, what is stored was read, and the number is that of the next request.
 pub record IsAccepted (s : Operator) (m : Listed) (now : ℕ) (q : Request) (a : Accepted) (n : Stored)
     (number : ℕ) (texts : KeptTexts) : Type 0 where
   pub sound : IsSound s
   pub listing : IsListing s m
+  pub later : s.now ≤ now
   pub decides : Decides s now q.command (Ok a)
   pub found : AreFound now s a
   pub stored : IsStored s m a n
@@ -52,11 +52,3 @@ BooksAccepted =
     (rows : List RowChange)
     → IsAccepted s m now q a n number texts → writes_of rows ≡ writes_of_accepted now n number texts a
     → Books rows s m now q
-
--- Where an entry is booked, it is added to the entries of a sound
--- operator, which are fewer than there may be: its sums take one more.
-abbrev pub SumsTakeOneMore : Type 0
-SumsTakeOneMore =
-    (s : Operator) (now : ℕ) (q : Request) (a : Accepted) → IsSound s → Decides s now q.command (Ok a)
-    → IsSound (after_acceptance s now q)
-    → IfSome a.entry (λ _. AreBounded (sums_of s))

@@ -1,4 +1,4 @@
--- The operator's figures: its moment and sums, and how many rentals, orders, entries and accepted requests it has.
+-- The operator's figures: its moment, and how many rentals, orders, entries and accepted requests it has.
 use Rattle.std.specs.Prelude.{◌≡◌, ℕ, length, Option, Some, None, Ok, option_map}
 use Rattle.bike_commands.specs.declared.request.Request.{Request}
 use Rattle.bike_operator.specs.Operator.{Operator}
@@ -11,13 +11,11 @@ use Rattle.bike_accepted.specs.Effects.{Decides}
 use Rattle.bike_accepted.specs.Found.{AreFound}
 use Rattle.bike_book.specs.Numbers.{next_count}
 use Rattle.bike_booking.specs.declared.figures.Figures.{Figures}
-use Rattle.bike_booking.specs.Sums.{sums_of, sums_after}
 
 abbrev pub figures_of : Operator → Figures
 figures_of s =
     record {
       now = s.now;
-      sums = sums_of s;
       rentals = length s.rentals;
       orders = length s.orders;
       entries = length s.entries;
@@ -41,7 +39,6 @@ entries_after entries (Some b) = b.entry.number
 abbrev pub figures_with : Figures → ℕ → Accepted → ℕ → Figures
 figures_with f now a requests = record {
   now = now;
-  sums = sums_after f.sums a.entry;
   rentals = rentals_after f.rentals a.change;
   orders = orders_after f.orders a.change;
   entries = entries_after f.entries a.entry;

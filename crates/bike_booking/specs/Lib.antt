@@ -1,4 +1,3 @@
-pub mod Sums
 pub mod Figures
 pub mod Room
 pub mod Stored

@@ -17,7 +17,6 @@ use Rattle.bike_accepted.specs.declared.accepted.Accepted.{Accepted}
 use Rattle.bike_booking.specs.declared.stored.StoredDock.{StoredDock}
 use Rattle.bike_booking.specs.declared.stored.StoredCounts.{StoredCounts}
 use Rattle.bike_booking.specs.declared.stored.Stored.{Stored}
-use Rattle.bike_booking.specs.Sums.{sums_of, sums_after}
 
 -- the numbers of its station's docks
 abbrev pub docks_in : StoredDock → DockTotals
@@ -62,7 +61,6 @@ module _ (s : Operator) (m : Listed) where
   IsMovedStored n (moved.Marked at held broken) =
       IsDockStored at.station.now n.dock × IsListedAt at n.dock × AreHeldStored at held n.by_type.items n.counts
 
-  -- that, and the operator's sums with the entry
-  pub record IsStored (a : Accepted) (n : Stored) : Type 0 where
-    pub moved : IfSome a.moved (IsMovedStored n)
-    pub sums : n.sums ≡ sums_after (sums_of s) a.entry
+  -- where an accepted command puts or marks something
+  abbrev pub IsStored : Accepted → Stored → Type 0
+  IsStored a n = IfSome a.moved (IsMovedStored n)

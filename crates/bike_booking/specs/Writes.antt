@@ -25,7 +25,6 @@ use Rattle.bike_booking.specs.Put.{docks_marked_empty, docks_marked_held}
 use Rattle.bike_booking.specs.PutLaws.{docks_reported}
 use Rattle.bike_booking.specs.Stored.{docks_in, counts_in}
 use Rattle.bike_booking.specs.declared.stored.Stored.{Stored}
-use Rattle.bike_booking.specs.declared.stored.Sums.{Sums}
 use Rattle.bike_booking.specs.declared.texts.KeptTexts.{KeptTexts}
 
 -- ---- what is put or marked at a dock
@@ -83,11 +82,10 @@ entry_writes b =
     Add Entries (entry_row b.entry.number b.entry) ∷ write_of (row.SetBalance b.entry.rider b.balance)
     ∷ refund_writes b.entry.rental b.refunded
 
--- the operator's moment and sums, and the request's row of the history
-abbrev pub close_rows : ℕ → Sums → ℕ → KeptTexts → List RowChange
-close_rows now sums number texts =
-    row.SetMeta now sums.cash sums.revenue
-    ∷ row.AddRequest number now texts.caller texts.key texts.command texts.reply ∷ []
+-- the request's row of the history
+abbrev pub close_rows : ℕ → ℕ → KeptTexts → List RowChange
+close_rows now number texts =
+    row.AddRequest number now texts.caller texts.key texts.command texts.reply ∷ []
 
 -- ---- an acceptance
 
@@ -106,7 +104,7 @@ where_booked_writes (Some b) = entry_writes b
 abbrev pub writes_of_accepted : ℕ → Stored → ℕ → KeptTexts → Accepted → List RowWrite
 writes_of_accepted now n number texts a =
     where_moved_writes now n a.moved ++ where_changed_writes a.change ++ where_booked_writes a.entry
-    ++ writes_of (close_rows now n.sums number texts)
+    ++ writes_of (close_rows now number texts)
 
 -- these are written beside those before
 abbrev pub AreAdded : List RowWrite → List RowChange → List RowChange → Type 0

@@ -1,21 +1,17 @@
 //! The operator's figures, which a request needs beside what its command names.
 
-ghost use Rattle.std.specs.Prelude.{◌≡◌, IfSome};
+ghost use Rattle.std.specs.Prelude.{◌≡◌};
 ghost use Rattle.bike_booking.specs.Figures.{entries_after, figures_after, orders_after, rentals_after};
-ghost use Rattle.bike_booking.specs.Sums.{AreBounded};
 
-use crate::stored::Sums;
 use bike_accepted::{Accepted, BookedEntry, Change};
 use bike_book::RequestCount;
 use bike_fixed::Moment;
 
-/// The operator's moment and sums, and how many rentals, orders, entries and accepted requests it has.
+/// The operator's moment, and how many rentals, orders, entries and accepted requests it has.
 #[derive(Clone, Copy)]
 pub struct Figures {
     /// The greatest moment of an accepted request.
     pub now: Moment,
-    /// Its sums.
-    pub sums: Sums,
     /// How many rentals there are.
     pub rentals: u32,
     /// How many orders.
@@ -57,16 +53,13 @@ fn entries_after(entries: u32, entry: &Option<BookedEntry>) -> u32
 }
 
 impl Figures {
-    /// The figures with an accepted command; none where no further request can be numbered. Sums to which its entry
-    /// can't be added stay as they are.
+    /// The figures with an accepted command; none where no further request can be numbered.
     pub fn after(&self, now: Moment, accepted: &Accepted<'_>) -> Option<Figures>
-        ensures { IfSome accepted.now.entry (λ _. AreBounded self.entry.now.sums)
-            → result ≡ figures_after self.entry.now now accepted.now }
+        ensures { result ≡ figures_after self.entry.now now accepted.now }
     {
         let requests = self.requests.next()?;
         Some(Figures {
             now,
-            sums: self.sums.with(&accepted.entry),
             rentals: rentals_after(self.rentals, &accepted.change),
             orders: orders_after(self.orders, &accepted.change),
             entries: entries_after(self.entries, &accepted.entry),

@@ -14,5 +14,5 @@ pub use figures::Figures;
 pub use laws::books_accepted;
 pub use moves::{books_added_docks, books_marked, books_put, books_request};
 pub use rows::{MOST_ROW_CHANGES, Rows, rows_of};
-pub use stored::{Stored, StoredCounts, StoredDock, Sums};
+pub use stored::{Stored, StoredCounts, StoredDock};
 pub use texts::KeptTexts;

@@ -11,7 +11,7 @@ ghost use Rattle.bike_booking.specs.Writes.{dock_row, put_write, mark_write, mov
 ghost use Rattle.bike_booking.specs.Writes.{writes_of_accepted, AreAdded};
 
 use crate::shares::{BikeShares, moved_by, one};
-use crate::stored::{Stored, StoredCounts, StoredDock, Sums};
+use crate::stored::{Stored, StoredCounts, StoredDock};
 use crate::texts::KeptTexts;
 use arrayvec::ArrayVec;
 use bike_accepted::{Accepted, BikeStatus, BookedEntry, Change, DockAt, DockOccupant, Movement};
@@ -20,8 +20,8 @@ use bike_fields::{DockCount, Ident, Segment};
 use bike_fixed::Moment;
 
 /// A request makes at most this many row changes: 2 of what is put or marked, a record and 8 segments of a plan, 3 of
-/// an entry and 2 of the close.
-pub const MOST_ROW_CHANGES: usize = 16;
+/// an entry and 1 of the close.
+pub const MOST_ROW_CHANGES: usize = 15;
 
 /// The row changes of a request. They take no memory.
 pub type Rows<'a> = ArrayVec<RowChange<'a>, MOST_ROW_CHANGES>;
@@ -248,22 +248,11 @@ fn push_entry<'a>(rows: &mut Rows<'a>, booked: &'a BookedEntry)
     }
 }
 
-/// Adds the operator's moment and sums, and the request's row of the history.
-fn push_close<'a>(
-    rows: &mut Rows<'a>,
-    sums: &Sums,
-    now: Moment,
-    number: RequestCount,
-    texts: &KeptTexts<'a>,
-)
-    requires { HasRoom 2 rows.old }
-    ensures { rows.new.items ≡ rows.old.items ++ close_rows now sums.now number texts.now }
+/// Adds the request's row of the history.
+fn push_close<'a>(rows: &mut Rows<'a>, now: Moment, number: RequestCount, texts: &KeptTexts<'a>)
+    requires { HasRoom 1 rows.old }
+    ensures { rows.new.items ≡ rows.old.items ++ close_rows now number texts.now }
 {
-    let meta_row = RowChange::SetMeta {
-        now,
-        cash: sums.cash,
-        revenue: sums.revenue,
-    };
     let request_row = RowChange::AddRequest {
         number,
         moment: now,
@@ -272,7 +261,7 @@ fn push_close<'a>(
         command: texts.command,
         reply: texts.reply,
     };
-    add(rows, &[meta_row, request_row]);
+    add(rows, &[request_row]);
 }
 
 /// The row changes of an accepted command, whose request gets this number in the history. They borrow what is stored of
@@ -296,6 +285,6 @@ pub fn rows_of<'a>(
     if let Some(booked) = &accepted.entry {
         push_entry(&mut rows, booked);
     }
-    push_close(&mut rows, &stored.sums, now, number, texts);
+    push_close(&mut rows, now, number, texts);
     rows
 }

@@ -4,6 +4,7 @@ use Rattle.std.specs.Prelude.{IfSome, is_none, ◌&&◌, max, string_bytes}
 use Rattle.std.specs.Option.{ok_or}
 use Rattle.std.specs.Str.{bytes_eq}
 use Rattle.std.specs.FinMap as map
+use native.Mathlib.Nat.{le-max_right}
 use Rattle.sqlite_trees.specs.declared.store.Store.{Ghosts}
 use Rattle.sqlite.specs.State.{State, HasCleanDisk}
 use Rattle.sqlite.specs.Held.{Held, state}
@@ -40,11 +41,9 @@ use Rattle.bike_booking.specs.declared.texts.KeptTexts.{KeptTexts}
 use Rattle.bike_booking.specs.Stored.{IsMovedStored}
 use Rattle.bike_booking.specs.declared.figures.Figures.{Figures}
 use Rattle.bike_booking.specs.Figures.{figures_of, figures_after, FiguresFollow}
-use Rattle.bike_booking.specs.Sums.{AreBounded, sums_after}
-use Rattle.bike_booking.specs.Booking.{IsAccepted, AreTexts, Books, SumsTakeOneMore}
+use Rattle.bike_booking.specs.Booking.{IsAccepted, AreTexts, Books}
 use Rattle.bike_booking.proofs.NextFigures.{figures_next}
 use Rattle.bike_schema.specs.declared.fault.StatementFault.{StatementFault}
-use Rattle.bike_schema.specs.declared.fault.StatementFault.TheVariants.{StoreFailed}
 use Rattle.bike_desk.specs.Serving.{IsNextBy, AreDocksIn, IsReadFor, IsAcceptedIn, Accepts}
 use Rattle.bike_desk.proofs.KeepLemmas.{kept_ours, still}
 
@@ -91,13 +90,14 @@ booked_next c s now q h rows keeps sound books = record { keeps = keeps; stores 
 
 -- an acceptance of which is known what is stored
 pub accepts_stored : (s : Operator) (m : Listed) (now : ℕ) (q : Request) (a : Accepted) (after : Figures) (texts : KeptTexts) (n : Stored)
-    → IsSound s → IsListing s m → Accepts s now q a after texts → IfSome a.moved (IsMovedStored s m n) → n.sums ≡ after.sums → IsAccepted s m now q a n after.requests texts
-accepts_stored s m now q a after texts n sound listing it moved is = record {
+    → IsSound s → IsListing s m → Accepts s now q a after texts → IfSome a.moved (IsMovedStored s m n) → IsAccepted s m now q a n after.requests texts
+accepts_stored s m now q a after texts n sound listing it moved = record {
   sound = sound;
   listing = listing;
+  later = it.later;
   decides = it.decides;
   found = it.found;
-  stored = record { moved = moved; sums = is ∙ it.sums_are };
+  stored = moved;
   number_is = it.number_is;
   texts_are = it.texts_are;
   sound_after = it.sound_after;
@@ -111,40 +111,30 @@ module _ {S : Type 0} (g : Ghosts S) (old new : Held S) (s : Operator) (a : Acce
   stored_same = ((read.answers keeps.is_open).same seen (kept_ours (state g old) s keeps)).0.now_is
 
   -- after it the connection keeps the operator, and what was read is what is stored
-  pub stored_read : (now : ℕ) (q : Request) (after : Figures) (texts : KeptTexts) → n.sums ≡ after.sums → AreDocksIn (state g old).now s q.command docks → Accepts s now q a after texts
+  pub stored_read : (now : ℕ) (q : Request) (after : Figures) (texts : KeptTexts) → AreDocksIn (state g old).now s q.command docks → Accepts s now q a after texts
       → Keeps (state g new) s × IsAcceptedIn (state g new).now s now q a n after.requests texts
-  stored_read now q after texts is found it =
+  stored_read now q after texts found it =
       let ours = kept_ours (state g old) s keeps in
       let answered = read.answers keeps.is_open in
       let told : IsAcceptedIn (state g old).now s now q a n after.requests texts =
-      λ h. accepts_stored s h.listed now q a after texts n h.sound h.listing it (answered.found seen ours s h q.command (found h)) is in (
+      λ h. accepts_stored s h.listed now q a after texts n h.sound h.listing it (answered.found seen ours s h q.command (found h)) in (
         still g old new s keeps seen (answered.same seen ours) read.quiet,
         subst (λ db. IsAcceptedIn db s now q a n after.requests texts) (sym stored_same) told,
       )
 
 -- what is there is so where the other wasn't answered
-found_there : {X E : Type 0} (o : Option X) {x : X} (e : E) → ◌≡◌ {A = Result X E} (Ok x) (ok_or o e) → o ≡ Some x
+pub found_there : {X E : Type 0} (o : Option X) {x : X} (e : E) → ◌≡◌ {A = Result X E} (Ok x) (ok_or o e) → o ≡ Some x
 found_there None e is = absurd cc
 found_there (Some y) {x} e is = let same : x ≡ y = cc in ap Some (sym same)
-
--- the figures that were read have figures after them, as their sums take the entry of an accepted request
-pub later_read : (db : Database) (s : Operator) (t now : ℕ) (q : Request) (figures : Figures) (x : ViewAndDocks) (a : Accepted) {later : Figures}
-    → SumsTakeOneMore → IsSound s → IsReadFor db s t now q figures x → IsRequest q → Decides s now q.command (Ok a)
-    → (IfSome a.entry (λ _. AreBounded figures.sums) → ◌≡◌ {A = Result Figures StatementFault} (Ok later) (ok_or (figures_after figures now a) StoreFailed))
-    → figures_after figures now a ≡ Some later
-later_read db s t now q figures x a take sound it good decides after =
-    let sound_after = accepted_sound s t q now it.later it.anew it.in_time good sound decides.0 in
-    found_there (figures_after figures now a) StoreFailed
-    (after (subst (λ (f : Figures). IfSome a.entry (λ _. AreBounded f.sums)) (sym it.figures_are) (take s now q a sound decides sound_after)))
 
 -- the operator accepts a request by the decision on what was read for it
 pub accepts_read : (db : Database) (s : Operator) (t now : ℕ) (q : Request) (figures : Figures) (x : ViewAndDocks) (a : Accepted) (later : Figures) (texts : KeptTexts) → IsSound s
     → IsReadFor db s t now q figures x → IsRequest q
     → Decides s now q.command (Ok a) → AreFound now s a → figures_after figures now a ≡ Some later → AreTexts s now q texts → Accepts s now q a later texts
 accepts_read db s t now q figures x a later texts sound it good decides found after told = record {
+  later = subst (λ (k : ℕ). s.now ≤ k) (sym it.later) (le-max_right t s.now);
   decides = decides;
   found = found;
-  sums_are = ap (λ (f : Figures). f.sums) (figures_next figures now a after) ∙ ap (λ (f : Figures). sums_after f.sums a.entry) it.figures_are;
   number_is = ap (λ (f : Figures). f.requests) (figures_next figures now a after) ∙ ap (λ (f : Figures). f.requests + 1) it.figures_are;
   sound_after = accepted_sound s t q now it.later it.anew it.in_time good sound decides.0;
   texts_are = told;

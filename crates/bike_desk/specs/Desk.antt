@@ -1,6 +1,6 @@
 -- What contracts see of a desk, and when it stands for an operator.
-use Rattle.std.specs.Prelude.{◌≡◌, ◌⊎◌, ℕ, ℤ, Bool, false, IsTrue, Option, None, IfSome, refl}
-use Rattle.std.specs.Coded.{Coded, code_by, coded×, coded_bool, coded_option, coded_ℕ, coded_ℤ}
+use Rattle.std.specs.Prelude.{◌≡◌, ◌⊎◌, ℕ, Bool, false, IsTrue, Option, None, IfSome, refl}
+use Rattle.std.specs.Coded.{Coded, code_by, coded×, coded_bool, coded_option, coded_ℕ}
 use Rattle.sqlite_trees.specs.Tree.{Trees}
 use Rattle.sqlite_trees.specs.declared.store.Store.{Ghosts}
 use Rattle.sqlite.specs.State.{State, HasCleanDisk}
@@ -24,12 +24,10 @@ nothing_remembered = record { newest_tells = false; figures = None }
 
 abbrev figures_code : Coded Figures
 figures_code =
-    code_by ((ℕ × (ℤ × ℤ)) × (ℕ × (ℕ × (ℕ × ℕ)))) (coded× (coded× coded_ℕ (coded× coded_ℤ coded_ℤ))
-    (coded× coded_ℕ (coded× coded_ℕ (coded× coded_ℕ coded_ℕ))))
-    (λ f. ((f.now, (f.sums.cash, f.sums.revenue)), (f.rentals, (f.orders, (f.entries, f.requests)))))
+    code_by (ℕ × (ℕ × (ℕ × (ℕ × ℕ)))) (coded× coded_ℕ (coded× coded_ℕ (coded× coded_ℕ (coded× coded_ℕ coded_ℕ))))
+    (λ f. (f.now, (f.rentals, (f.orders, (f.entries, f.requests)))))
     (λ p. record {
-      now = p.0.0;
-      sums = record { cash = p.0.1.0; revenue = p.0.1.1 };
+      now = p.0;
       rentals = p.1.0;
       orders = p.1.1.0;
       entries = p.1.1.1.0;

@@ -25,7 +25,6 @@ use Rattle.bike_booking.specs.declared.figures.Figures.{Figures}
 use Rattle.bike_booking.specs.declared.stored.Stored.{Stored}
 use Rattle.bike_booking.specs.Booking.{AreTexts, IsAccepted}
 use Rattle.bike_booking.specs.Figures.{figures_of}
-use Rattle.bike_booking.specs.Sums.{sums_of, sums_after}
 use Rattle.bike_views.specs.ViewAndDocks.{IsFoundFor, docks_for, told_of}
 use Rattle.bike_views.specs.declared.view_and_docks.StationDocks.{StationDocks}
 use Rattle.bike_views.specs.declared.view_and_docks.ViewAndDocks.{ViewAndDocks}
@@ -66,13 +65,13 @@ pub record IsReadFor (db : Database) (s : Operator) (moment now : ℕ) (q : Requ
   pub view_is : x.view ≡ view_of s q.command
   pub found_for : IsFoundIn db s q.command x
 
--- The operator accepts the request so, and then is sound; the records before are its own, the
--- figures after it have the sums with its entry and one request more, and the texts are those of both.
+-- The operator accepts the request so, which comes no earlier than its moment, and then is sound; the records before are
+-- its own, the figures after it have one request more, and the texts are those of both.
 pub record Accepts (s : Operator) (now : ℕ) (q : Request) (a : Accepted) (after : Figures)
     (texts : KeptTexts) : Type 0 where
+  pub later : s.now ≤ now
   pub decides : Decides s now q.command (Ok a)
   pub found : AreFound now s a
-  pub sums_are : after.sums ≡ sums_after (sums_of s) a.entry
   pub number_is : after.requests ≡ length s.history + 1
   pub sound_after : IsSound (after_acceptance s now q)
   pub texts_are : AreTexts s now q texts

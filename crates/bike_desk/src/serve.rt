@@ -8,7 +8,6 @@ ghost use Rattle.sqlite_trees.specs.View.{doubt};
 ghost use Rattle.bike_commands.specs.Commands.{text_of};
 ghost use Rattle.bike_operator.specs.Runs.{step, after_acceptance};
 ghost use Rattle.bike_booking.specs.Figures.{figures_after};
-ghost use Rattle.bike_booking.specs.Sums.{AreBounded};
 ghost use Rattle.bike_schema.specs.Makes.{OthersStay};
 ghost use Rattle.bike_schema.specs.Stands.{Keeps};
 ghost use Rattle.bike_desk.specs.Desk.{IsRemembered};
@@ -64,8 +63,7 @@ fn next_figures(
     now: Moment,
     accepted: &Accepted<'_>,
 ) -> Result<Figures, StatementFault>
-    ensures { IfSome accepted.now.entry (λ _. AreBounded figures.entry.now.sums)
-        → result ≡ ok_or (figures_after figures.entry.now now accepted.now) StatementFault.StoreFailed }
+    ensures { result ≡ ok_or (figures_after figures.entry.now now accepted.now) StatementFault.StoreFailed }
 {
     figures
         .after(now, accepted)
@@ -141,7 +139,7 @@ fn serve_read<'a, S: Alter>(
         Ok(accepted) => {
             books_accepted();
             let after = next_figures(figures, now, &accepted)?;
-            let stored = find_stored(alloc, conn, docks, &accepted.moved, after.sums)?;
+            let stored = find_stored(alloc, conn, docks, &accepted.moved)?;
             let reply = accepted.reply;
             let spelled = reply.text();
             let key = request.key.as_str();

@@ -10,6 +10,5 @@ mod sums;
 pub use bike_fixed::{Cents, Moment};
 pub use entry::{Entry, EntryKind, EntryNumber};
 pub use sums::{
-    GREATEST_BALANCE, balance_after, bound_law, cash_after, entry_law, is_balance, money_law,
-    refundable, revenue_after,
+    GREATEST_BALANCE, balance_after, bound_law, entry_law, is_balance, money_law, refundable,
 };

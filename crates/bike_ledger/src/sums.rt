@@ -34,30 +34,6 @@ pub fn balance_after(balance: Cents, entry: &Entry) -> Cents
     }
 }
 
-/// The cash after the entry, in hundredths: a top-up comes in, nothing else moves cash.
-pub fn cash_after(cash: Cents, entry: &Entry) -> Cents
-    requires cash { IsBalance cash }
-    ensures { result ≡ cash +ℤ cash_in entry.now.kind entry.now.amount }
-{
-    match entry.kind() {
-        EntryKind::TopUp => Cents::new(cash.hundredths() + entry.amount().hundredths()),
-        EntryKind::Fare | EntryKind::Refund => cash,
-    }
-}
-
-/// The revenue after the entry, in hundredths: a fare is earned, and a refund is given back out of it.
-pub fn revenue_after(revenue: Cents, entry: &Entry) -> Cents
-    requires revenue { IsBalance revenue }
-    ensures { result ≡ revenue +ℤ revenue_in entry.now.kind entry.now.amount }
-{
-    let earned = entry.amount().hundredths();
-    match entry.kind() {
-        EntryKind::TopUp => revenue,
-        EntryKind::Fare => Cents::new(revenue.hundredths() + earned),
-        EntryKind::Refund => Cents::new(revenue.hundredths() - earned),
-    }
-}
-
 /// What of a fare may still be refunded.
 pub fn refundable(fare: Cents, refunded: Cents) -> Cents
     requires low { pos 0 ≤ℤ refunded }

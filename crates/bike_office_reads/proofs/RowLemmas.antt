@@ -10,6 +10,7 @@ use Rattle.std.specs.Ordering.{nat_cmp, is_lt, eq_by_cmp, MatchOrdering}
 use Rattle.std.specs.Cmp.{ranks}
 use Rattle.std.specs.FinMap as fin
 use Rattle.std.specs.FinMap.Entries.{is_sorted, below_all}
+use Rattle.sqlite_value.specs.declared.value.Value.{Value}
 use Rattle.sqlite_value.specs.declared.value.Value.TheVariants.{Int}
 use Rattle.sqlite_value.specs.Order.{Row, column}
 use Rattle.sqlite_rules.specs.Lists.{Has}
@@ -36,8 +37,9 @@ use Rattle.bike_schema.specs.declared.fault.StatementFault.{StatementFault}
 use Rattle.bike_schema.specs.Columns.{number_in, moment_in, whole_in, flag_in, ident_in, name_in, request_count_in, or_none, read_or_failed}
 use Rattle.bike_schema.proofs.ReadLemmas.{flag_read, name_read, number_read, moment_read, whole_read, ident_read, optional_moment_read, optional_whole_read, optional_ident_read}
 use Rattle.bike_office_reads.specs.declared.kept.KeptRow.{KeptRow}
+use Rattle.bike_office_reads.specs.declared.kept.LastRequest.{LastRequest}
 use Rattle.bike_office_reads.specs.Accounts.{KeepsSame, stored_rental_at}
-use Rattle.bike_office_reads.specs.ReadRows.{HasClosing, KeepsRow}
+use Rattle.bike_office_reads.specs.ReadRows.{HasClosing, KeepsRow, IsLastRead}
 
 -- ---- riders
 
@@ -206,11 +208,15 @@ pub nothing_kept : (o : Option AcceptedRequest) → AreRowOf o None → KeepsSam
 nothing_kept None is = tt
 nothing_kept (Some a) is = absurd is
 
--- the number of the last row
-pub count_read : (row : Option Row) {found : Row} (result : Result ℕ StatementFault) → row ≡ Some found → result ≡ read_or_failed (request_count_in (column found 0))
-    → IfOk result (λ x. (n : ℕ) → IsLast n row → x ≡ n)
-count_read row {found} result there read = subst (λ o. IfOk result (λ x. (n : ℕ) → IsLast n o → x ≡ n)) (sym there) (by result read)
-  where
-    by : (result : Result ℕ StatementFault) → result ≡ read_or_failed (request_count_in (column found 0)) → IfOk result (λ x. (n : ℕ) → IsLast n (Some found) → x ≡ n)
-    by (Ok x) read = λ n is. let same : ◌≡◌ {A = Result ℕ StatementFault} (Ok x) (Ok n) = read ∙ ap (λ v. read_or_failed (request_count_in v)) is in cc
-    by (Err e) read = tt
+-- the number and the moment of the last row
+count_told : {x n : ℕ} {v : Value} → Told x (request_count_in v) → v ≡ number_value n → x ≡ n
+count_told {x} {n} told is = let same : ◌≡◌ {A = Result ℕ StatementFault} (Ok x) (Ok n) = told ∙ ap (λ w. read_or_failed (request_count_in w)) is in cc
+
+last_told : (found : Row) (x : LastRequest) → Told x.number (request_count_in (column found 0)) → Told x.moment (moment_in (column found 1)) → IsLastRead (Some found) x
+last_told found x n t number moment is at =
+    let same = count_told n is in
+    let when = moment_read t at in
+    λ i. record { number = same i; moment = when i }
+
+pub last_read : (row : Option Row) {found : Row} {x : LastRequest} → row ≡ Some found → Told x.number (request_count_in (column found 0)) → Told x.moment (moment_in (column found 1)) → IsLastRead row x
+last_read row {found} {x} there number moment = subst (λ (o : Option Row). IsLastRead o x) (sym there) (last_told found x number moment)

@@ -1,16 +1,17 @@
 -- What the reads answer of an operator.
-use Rattle.std.specs.Prelude.{◌≡◌, ℕ, ℤ, List, Option, Some, None, option_map, string_bytes}
-use Rattle.bike_ledger.specs.Ledger.{cash_of, revenue_of, refunded_of}
+use Rattle.std.specs.Prelude.{◌≡◌, ℕ, ℤ, length, List, Option, Some, None, option_map, string_bytes}
+use Rattle.bike_ledger.specs.Ledger.{refunded_of}
 use Rattle.bike_commands.specs.Commands.{text_of}
 use Rattle.bike_catalogue.specs.Rows.{SystemRow}
 use Rattle.bike_operator.specs.declared.records.Rental.{Rental}
 use Rattle.bike_operator.specs.Operator.{Operator, AcceptedRequest, item_numbered}
-use Rattle.bike_office_reads.specs.declared.meta.MetaRow.{MetaRow}
+use Rattle.bike_laws.specs.History.{last_moment_of}
 use Rattle.bike_office_reads.specs.declared.kept.KeptRow.{KeptRow}
+use Rattle.bike_office_reads.specs.declared.kept.LastRequest.{LastRequest}
 
--- the moment and the sums of the operator
-abbrev pub meta_of : Operator → MetaRow
-meta_of s = record { now = s.now; cash = cash_of s.entries; revenue = revenue_of s.entries }
+-- the number of the last accepted request, and its moment
+abbrev pub last_request_of : Operator → LastRequest
+last_request_of s = record { number = length s.history; moment = last_moment_of 0 s.history }
 
 -- the row keeps what the operator keeps, or neither keeps anything
 abbrev pub KeepsSame : Option AcceptedRequest → Option KeptRow → Type 0

@@ -13,7 +13,9 @@ use Rattle.bike_operator.specs.Operator.{AcceptedRequest, NameKey}
 use Rattle.bike_operator.specs.Names.{part_at}
 use Rattle.bike_book.specs.Rows.{closing_columns}
 use Rattle.bike_book.specs.Stored.{stored_name, stored_request}
+use Rattle.bike_book.specs.Found.{IsLast, IsLastMoment}
 use Rattle.bike_office_reads.specs.declared.kept.KeptRow.{KeptRow}
+use Rattle.bike_office_reads.specs.declared.kept.LastRequest.{LastRequest}
 use Rattle.bike_office_reads.specs.Accounts.{KeepsSame}
 use Rattle.bike_schema.specs.Within.{is_within}
 
@@ -30,6 +32,12 @@ abbrev pub KeepsRow : Row → KeptRow → Type 0
 KeepsRow row x =
     (number : ℕ) (a : AcceptedRequest) → IsReply a.reply → row ≡ stored_request (number, a)
     → KeepsSame (Some a) (Some x)
+
+-- what the last row of the history tells of its request
+abbrev pub IsLastRead : Option Row → LastRequest → Type 0
+IsLastRead row last =
+    (number moment : ℕ) → IsLast number row → IsLastMoment moment row
+    → last ≡ record { number = number; moment = moment }
 
 -- the further name of an entry of the operator's
 abbrev pub named_in : NameKey × List ℕ → MoreNameRow

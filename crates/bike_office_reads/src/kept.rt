@@ -1,18 +1,19 @@
 //! The history of accepted requests.
 
-ghost use Rattle.std.specs.Prelude.{◌≡◌, [], ◌∷◌, slice_get, length, IfOk};
+ghost use Rattle.std.specs.Prelude.{◌≡◌, [], ◌∷◌, slice_get, IfOk};
 ghost use Rattle.sqlite_value.specs.declared.value.Value.TheVariants.{Text};
 ghost use Rattle.bike_operator.specs.Operator.{key_of, kept_under};
 ghost use Rattle.bike_book.specs.Tables.{History};
-ghost use Rattle.bike_book.specs.Found.{rows_by, last_row, IsLast};
+ghost use Rattle.bike_book.specs.Found.{rows_by, last_row};
 ghost use Rattle.bike_schema.specs.Answers.{Answers};
-ghost use Rattle.bike_office_reads.specs.Accounts.{KeepsSame};
-ghost use Rattle.bike_office_reads.specs.ReadRows.{KeepsRow};
+ghost use Rattle.bike_office_reads.specs.Accounts.{KeepsSame, last_request_of};
+ghost use Rattle.bike_office_reads.specs.ReadRows.{KeepsRow, IsLastRead};
 
 use bike_book::RequestCount;
 use bike_book::columns::history;
 use bike_commands::Reply;
-use bike_schema::{StatementFault, request_count_at, text_at};
+use bike_fixed::Moment;
+use bike_schema::{StatementFault, moment_at, request_count_at, text_at};
 use bike_sql::lookup::first_row;
 use sqlite::{Alter, Connection, Row, params};
 use std::alloc::Global;
@@ -24,6 +25,15 @@ pub struct KeptRow {
     pub command: String,
     /// The reply that it was given.
     pub reply: Reply,
+}
+
+/// The number of the last accepted request, which is how many there are, and its moment; both 0 where there is none.
+#[derive(Clone, Copy)]
+pub struct LastRequest {
+    /// Its number.
+    pub number: RequestCount,
+    /// Its moment.
+    pub moment: Moment,
 }
 
 /// The row of `history` of this caller and key.
@@ -83,20 +93,28 @@ fn find_last_request<S: Alter>(conn: &mut Connection<S>) -> Result<Option<Row>, 
     )
 }
 
-/// The number with which the last row begins, and 0 where there is none.
-fn last_request(row: &Option<Row>) -> Result<RequestCount, StatementFault>
-    ensures { IfOk result (λ x. (n : _) → IsLast n row.now → x ≡ n) }
+/// The number and the moment in the last row, and 0 where there is none.
+fn read_last(row: &Option<Row>) -> Result<LastRequest, StatementFault>
+    ensures { IfOk result (IsLastRead row.now) }
 {
     match row {
-        Some(row) => request_count_at(row, history::NUMBER),
-        None => RequestCount::new(0).ok_or(StatementFault::StoreFailed),
+        Some(row) => {
+            let number = request_count_at(row, history::NUMBER)?;
+            let moment = moment_at(row, history::MOMENT)?;
+            Ok(LastRequest { number, moment })
+        }
+        None => {
+            let number = RequestCount::new(0).ok_or(StatementFault::StoreFailed)?;
+            let moment = Moment::new(0).ok_or(StatementFault::StoreFailed)?;
+            Ok(LastRequest { number, moment })
+        }
     }
 }
 
-/// How many requests were accepted, as the last one's number says. Every fault is the database's.
-pub fn request_count<S: Alter>(conn: &mut Connection<S>) -> Result<RequestCount, StatementFault>
-    ensures { Answers S.Store conn.old conn.new result (λ s m x. x ≡ length s.history) }
+/// The last accepted request. Every fault is the database's.
+pub fn last_request<S: Alter>(conn: &mut Connection<S>) -> Result<LastRequest, StatementFault>
+    ensures { Answers S.Store conn.old conn.new result (λ s m last. last ≡ last_request_of s) }
 {
     let row = find_last_request(conn)?;
-    last_request(&row)
+    read_last(&row)
 }

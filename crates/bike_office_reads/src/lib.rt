@@ -19,8 +19,8 @@ mod segments;
 
 pub use collect::{ReadRow, collect_rows, short_text_at};
 pub use entries::entry_count;
-pub use kept::{KeptRow, find_kept, request_count};
-pub use meta::{MetaRow, find_meta};
+pub use kept::{KeptRow, LastRequest, find_kept, last_request};
+pub use meta::find_since;
 pub use names::{NameRow, find_names, find_system_key, read_names, select_names};
 pub use newest::newest_tells;
 pub use plans::{are_plans_full, find_plan, find_plan_row_from, has_plan, has_system};

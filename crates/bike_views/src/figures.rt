@@ -6,10 +6,10 @@ ghost use Rattle.bike_booking.specs.Figures.{figures_of};
 ghost use Rattle.bike_schema.specs.Answers.{Answers};
 ghost use Rattle.bike_views.specs.Open.{AnswersOpen};
 
-use bike_booking::{Figures, Sums};
+use bike_booking::Figures;
 use bike_fleet_reads::order_count;
 use bike_laws::ledger_room_law;
-use bike_office_reads::{entry_count, find_meta, open_rental_count, rental_count, request_count};
+use bike_office_reads::{entry_count, find_since, last_request, open_rental_count, rental_count};
 use bike_operator::{MOST_BIKES, MOST_ENTRIES};
 use bike_schema::StatementFault;
 use sqlite::{Alter, Connection};
@@ -27,22 +27,17 @@ pub struct KnownFigures {
 pub fn find_figures<S: Alter>(conn: &mut Connection<S>) -> Result<Figures, StatementFault>
     ensures { Answers S.Store conn.old conn.new result (λ s m figures. figures ≡ figures_of s) }
 {
-    let meta = find_meta(conn)?;
+    let since = find_since(conn)?;
     let rentals = rental_count(conn)?;
     let orders = order_count(conn)?;
     let entries = entry_count(conn)?;
-    let requests = request_count(conn)?;
-    let sums = Sums {
-        cash: meta.cash,
-        revenue: meta.revenue,
-    };
+    let last = last_request(conn)?;
     Ok(Figures {
-        now: meta.now,
-        sums,
+        now: since.later(&last.moment),
         rentals,
         orders,
         entries,
-        requests,
+        requests: last.number,
     })
 }
 

@@ -15,7 +15,7 @@ ghost use Rattle.bike_views.specs.StoredParts.{AreDocks, counts_read, dock_read}
 use crate::StationDocks;
 use bike_accepted::{DockAt, DockOccupant, Movement};
 use bike_book::{CountedType, counts_by_type, counts_of};
-use bike_booking::{Stored, StoredCounts, StoredDock, Sums};
+use bike_booking::{Stored, StoredCounts, StoredDock};
 use bike_fields::{DockTotal, Ident};
 use bike_fleet_reads::{DockNumbers, StationNumbers, find_dock_numbers, find_mark, no_docks};
 use bike_schema::StatementFault;
@@ -146,9 +146,7 @@ fn find_listing<S: Alter>(
 }
 
 /// What is stored where no dock is touched.
-fn untouched(alloc: Global, sums: Sums) -> Stored
-    ensures { result.sums ≡ sums }
-{
+fn untouched(alloc: Global) -> Stored {
     Stored {
         dock: StoredDock {
             free: no_docks(),
@@ -157,24 +155,21 @@ fn untouched(alloc: Global, sums: Sums) -> Stored
         },
         by_type: Vec::new(alloc),
         counts: no_counts(),
-        sums,
     }
 }
 
 /// What is stored of a station's docks and bicycles, and of the type that is touched.
-fn stored_at(numbers: StationNumbers, is_listed: bool, counts: StoredCounts, sums: Sums) -> Stored
+fn stored_at(numbers: StationNumbers, is_listed: bool, counts: StoredCounts) -> Stored
     ensures { result ≡ record {
       dock = dock_read numbers.docks is_listed;
       by_type = numbers.by_type;
       counts = counts;
-      sums = sums;
     } }
 {
     Stored {
         dock: stored_dock(numbers.docks, is_listed),
         by_type: numbers.by_type,
         counts,
-        sums,
     }
 }
 
@@ -184,37 +179,35 @@ fn find_moved<S: Alter>(
     conn: &mut Connection<S>,
     docks: Option<StationDocks>,
     moved: &Movement<'_>,
-    sums: Sums,
 ) -> Result<Stored, StatementFault>
-    ensures stored { AnswersOpen S.Store conn.old conn.new result
+    ensures { AnswersOpen S.Store conn.old conn.new result
         (λ s m stored. AreDocks s m docks → IsMovedStored s m stored moved.now) }
-    ensures sums { IfOk result (λ stored. stored.sums ≡ sums) }
 {
     counts_by_type();
     match moved {
-        Movement::Away { .. } => Ok(untouched(alloc, sums)),
+        Movement::Away { .. } => Ok(untouched(alloc)),
         Movement::AtDock { at, type_id, .. } => {
             let numbers = find_numbers(alloc, conn, docks, at.station)?;
             let counts = counts_at(numbers.by_type.as_slice(), type_id)?;
-            Ok(stored_at(numbers, false, counts, sums))
+            Ok(stored_at(numbers, false, counts))
         }
         Movement::AddDocks { station, .. } => {
             let numbers = find_numbers(alloc, conn, docks, station)?;
-            Ok(stored_at(numbers, false, no_counts(), sums))
+            Ok(stored_at(numbers, false, no_counts()))
         }
         Movement::Marked { at, held, .. } => {
             let is_listed = find_listing(conn, &docks, at)?;
             let numbers = find_numbers(alloc, conn, docks, at.station)?;
             let counts = held_counts(numbers.by_type.as_slice(), held)?;
-            Ok(stored_at(numbers, is_listed, counts, sums))
+            Ok(stored_at(numbers, is_listed, counts))
         }
     }
 }
 
-/// What the tables store of what an accepted command puts or marks, beside the operator's sums: the numbers of the
-/// dock's station, its bicycles by type, the counts there of the bicycle's type, and of a dock that is marked whether
-/// it has a row. `docks` came with the view of a command: what it tells of the dock isn't read again, and its list of
-/// the bicycles by type goes into what is answered. Where no dock is touched, nothing is read.
+/// What the tables store of what an accepted command puts or marks: the numbers of the dock's station, its bicycles by
+/// type, the counts there of the bicycle's type, and of a dock that is marked whether it has a row. `docks` came with
+/// the view of a command: what it tells of the dock isn't read again, and its list of the bicycles by type goes into
+/// what is answered. Where no dock is touched, nothing is read.
 ///
 /// `NoMemory` comes where memory is refused, and `StoreFailed` where the engine fails otherwise, a row holds what the
 /// product never writes, or the station isn't there. In each case the tables are as before the call, or as before the
@@ -224,14 +217,12 @@ pub fn find_stored<S: Alter>(
     conn: &mut Connection<S>,
     docks: Option<StationDocks>,
     moved: &Option<Movement<'_>>,
-    sums: Sums,
 ) -> Result<Stored, StatementFault>
-    ensures stored { AnswersOpen S.Store conn.old conn.new result (λ s m stored. (c : Command)
+    ensures { AnswersOpen S.Store conn.old conn.new result (λ s m stored. (c : Command)
         → told_of docks ≡ docks_for s m c → IfSome moved.now (IsMovedStored s m stored)) }
-    ensures sums { IfOk result (λ stored. stored.sums ≡ sums) }
 {
     match moved {
-        None => Ok(untouched(alloc, sums)),
-        Some(moved) => find_moved(alloc, conn, docks, moved, sums),
+        None => Ok(untouched(alloc)),
+        Some(moved) => find_moved(alloc, conn, docks, moved),
     }
 }

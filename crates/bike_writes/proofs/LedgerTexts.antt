@@ -1,18 +1,17 @@
--- The statements on entries, history and meta.
-use Rattle.std.proofs.Common.{List, ℕ, ℤ, pos, [], ◌∷◌, codes, refl}
+-- The statements on entries and history.
+use Rattle.std.proofs.Common.{List, ℕ, refl}
 use Rattle.std.specs.Borrow.{Bor}
-use Rattle.sqlite_value.specs.declared.value.Value.TheVariants.{Int}
 use Rattle.bike_ledger.specs.Entries.{Entry}
-use Rattle.bike_book.specs.Tables.{Entries, History, Meta}
-use Rattle.bike_book.specs.Rows.{number_value, entry_row, history_row}
+use Rattle.bike_book.specs.Tables.{Entries, History}
+use Rattle.bike_book.specs.Rows.{entry_row, history_row}
 use Rattle.bike_writes.proofs.TextLemmas.{Makes}
 use Rattle.sqlite_tied.specs.Compute.{everything}
-use Rattle.bike_sql.proofs.WriteLaws.{row_put, row_updated}
+use Rattle.bike_sql.proofs.WriteLaws.{row_put}
 use Rattle.bike_book.specs.declared.row_change.RowChange.TheVariants as row
 use Rattle.bike_book.specs.Writes.{write_of}
 use Rattle.bike_schema.proofs.InsertTexts.{insert_text}
 use Rattle.bike_schema.proofs.KeyLemmas.{unique_key}
-use Rattle.bike_schema.proofs.MakesLemmas.{adds_row, sets_columns}
+use Rattle.bike_schema.proofs.MakesLemmas.{adds_row}
 
 pub adds_entry : (e : Bor Entry) → Makes (insert_text Entries) (entry_row e.now.number e.now) (write_of (row.AddEntry e))
 unfolding everything
@@ -22,8 +21,3 @@ pub adds_request : (number moment : ℕ) (caller key command reply : Bor (List �
     (write_of (row.AddRequest number moment caller key command reply))
 unfolding everything
 adds_request number moment caller key command reply = adds_row History (row_put (unique_key History) (λ s tree. (refl, refl, refl, λ base. refl)) refl refl (λ rows. refl))
-
-pub sets_meta : (now : ℕ) (cash revenue : ℤ) → Makes (codes "UPDATE meta SET now = ?2, cash = ?3, revenue = ?4 WHERE one = ?1") (Int (pos 1) ∷ number_value now ∷ Int cash ∷ Int revenue ∷ [])
-    (write_of (row.SetMeta now cash revenue))
-unfolding everything
-sets_meta now cash revenue = sets_columns Meta _ _ (row_updated (unique_key Meta) 0 ((3, 1) ∷ (4, 2) ∷ (5, 3) ∷ []) _ (λ tree. (refl, refl, refl), refl) refl refl refl (λ r. refl) (λ r. refl))

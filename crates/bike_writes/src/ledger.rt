@@ -1,4 +1,4 @@
-//! The statements on `entries`, `history` and `meta`.
+//! The statements on `entries` and `history`.
 
 ghost use Rattle.bike_book.specs.declared.row_change.RowChange.TheVariants as row;
 ghost use Rattle.bike_book.specs.Writes.{write_of};
@@ -6,7 +6,7 @@ ghost use Rattle.bike_schema.specs.Calls.{Writes};
 
 use crate::columns::{kind_number, seconds_of};
 use bike_book::{RequestCount, table};
-use bike_fixed::{Cents, Moment};
+use bike_fixed::Moment;
 use bike_ledger::Entry;
 use bike_schema::{OpenTransaction, StatementFault};
 use bike_sql::write::run;
@@ -56,27 +56,6 @@ pub(crate) fn add_request<S: Alter>(
             key,
             command,
             reply
-        ],
-    )
-}
-
-/// Sets the operator's moment and sums.
-pub(crate) fn set_meta<S: Alter>(
-    tx: &mut OpenTransaction<'_, S>,
-    now: Moment,
-    cash: Cents,
-    revenue: Cents,
-) -> Result<(), StatementFault>
-    ensures { Writes S.Store tx.old.conn tx.new.conn result (write_of (row.SetMeta now cash revenue)) }
-{
-    run(
-        tx,
-        "UPDATE meta SET now = ?2, cash = ?3, revenue = ?4 WHERE one = ?1",
-        params![
-            1_i64,
-            seconds_of(now),
-            cash.hundredths(),
-            revenue.hundredths()
         ],
     )
 }

@@ -9,7 +9,7 @@ use crate::catalogue::{
     add_plan, add_region, add_segment, add_type, change_system, set_plan, set_system,
 };
 use crate::fleet::{add_bike, add_truck, set_bike};
-use crate::ledger::{add_entry, add_request, set_meta};
+use crate::ledger::{add_entry, add_request};
 use crate::names::{add_name, remove_name, set_further_name, set_own_name};
 use crate::orders::{add_order, set_order};
 use crate::rentals::{add_rental, close_rental, set_refunded};
@@ -171,7 +171,6 @@ fn put_with<S: Alter>(
             command,
             reply,
         } => add_request(tx, number, moment, caller, key, command, reply),
-        RowChange::SetMeta { now, cash, revenue } => set_meta(tx, now, cash, revenue),
     }
 }
 

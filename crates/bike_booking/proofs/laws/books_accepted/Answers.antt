@@ -1,11 +1,8 @@
-use Rattle.bike_booking.proofs.Accepted.{books_accepted, figures_follow, sums_take_one_more}
+use Rattle.bike_booking.proofs.Accepted.{books_accepted, figures_follow}
 use Rattle.bike_booking.proofs.laws.books_accepted.Goals as goal
 
 pub returns-clause-books : goal.returns-clause-books
 returns-clause-books c = books_accepted
-
-pub returns-clause-sums : goal.returns-clause-sums
-returns-clause-sums c = sums_take_one_more
 
 pub returns-clause-figures : goal.returns-clause-figures
 returns-clause-figures c = figures_follow

@@ -34,7 +34,7 @@ returns c =
           (ap writes_of (ap items w.rows-is) ∙ w.push_entry.ensures.added)
       | in_default-entry w ↦ not_booked r2 r3 a.entry w.in_default-entry.is (ap items w.rows-is)
     ] in
-    let close = close_rows now n.sums c.args.number c.args.texts.now in
+    let close = close_rows now c.args.number c.args.texts.now in
     let closed : AreAdded (writes_of close) r3 c.push_close.new.rows.items = added_rows r3 close c.push_close.new.rows.items c.push_close.ensures in
     let ms = where_moved_writes now n a.moved in
     let cs = where_changed_writes a.change in
