@@ -1,11 +1,10 @@
 -- The rows found by their keys.
-use Rattle.std.proofs.Common.{◌≡◌, ℕ, List, [], ◌∷◌, Bool, true, false, Option, Some, None, is_some, refl, ap, ◌∙◌}
+use Rattle.std.proofs.Common.{◌≡◌, ℕ, pos, List, [], ◌∷◌, Bool, true, false, Option, Some, None, is_some, refl, ap, ◌∙◌}
 use Rattle.std.specs.Prelude.{option_map}
 use Rattle.std.specs.FinMap as fin
 use Rattle.sqlite_value.specs.declared.value.Value.TheVariants.{Text}
 use Rattle.bike_sql.specs.View.{row_with}
 use Rattle.bike_operator.specs.Rows.{SystemRow}
-use Rattle.bike_ledger.specs.Ledger.{cash_of, revenue_of}
 use Rattle.bike_operator.specs.Operator.{Operator, DockKey, name_key, dock_key}
 use Rattle.bike_operator.specs.Counts.{is_broken}
 use Rattle.bike_book.specs.declared.version.TheConstants.{NEWEST}
