@@ -85,6 +85,7 @@ pub none_listing : IsListing no_operator none_listed
 none_listing = record {
   docks = λ key there. absurd (no_dock_row key there);
   marked = λ key broken. absurd (no_broken_dock key broken);
+  now_is = refl;
 }
 
 pub fresh_stands : (old db : Database) → IsFresh old db → StandsFor db no_operator

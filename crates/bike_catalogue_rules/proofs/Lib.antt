@@ -12,6 +12,5 @@ pub mod CatalogueTests
 pub mod SegmentOrder
 pub mod SegmentRules
 pub mod Judged
-pub mod EntrySums
 pub mod MetaRules
 pub mod MetaJudged

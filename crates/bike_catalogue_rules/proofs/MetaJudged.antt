@@ -1,11 +1,9 @@
 -- What a judge of meta finds is the verdict on meta.
-use Rattle.std.proofs.Common.{◌≡◌, ℤ, pos, ◌+ℤ◌, List, [], ◌∷◌, Bool, true, false, cond, Option, Some, None, option_map, refl, sym, ap, ◌∙◌, subst, arith}
-use Rattle.std.specs.Prelude.{take, fold}
+use Rattle.std.proofs.Common.{◌≡◌, List, [], ◌∷◌, Bool, true, false, cond, Option, Some, None, option_map, refl, sym, ap, ◌∙◌, subst}
+use Rattle.std.specs.Prelude.{take}
 use Rattle.std.specs.Ordering.{is_lt}
-use Rattle.std.proofs.lemmas.Int.{ints}
 use Rattle.sqlite_value.specs.Order.{Row, row_cmp}
 use Rattle.sqlite.specs.Effect.{Database}
-use Rattle.bike_ledger.specs.Ledger.{cash_of, revenue_of}
 use Rattle.bike_book.specs.Tables.{Meta}
 use Rattle.bike_schema.specs.Tables.{tables_of}
 use Rattle.bike_readings.proofs.RulesLaws.{stored_in_order}
@@ -13,25 +11,13 @@ use Rattle.bike_judges.specs.declared.key.BadKey.{BadKey}
 use Rattle.bike_judges.specs.Judging.{key_row, Continues}
 use Rattle.bike_judges.specs.Verdicts.{IsTableVerdict, JudgesTable}
 use Rattle.bike_judges.specs.Least.{least_key}
-use Rattle.bike_catalogue_rules.specs.declared.meta.CashAndRevenue.{CashAndRevenue}
-use Rattle.bike_catalogue_rules.specs.Sums.{after_entry, is_meta, one_key, first_meta}
-use Rattle.bike_catalogue_rules.proofs.EntrySums.{entries_of, cash_sum, revenue_sum}
+use Rattle.bike_catalogue_rules.specs.OneRow.{is_meta, one_key, first_meta}
 use Rattle.bike_catalogue_rules.proofs.Judged.{Finds}
 use Rattle.bike_catalogue_rules.proofs.MetaRules.{meta_verdict}
 
--- nothing is added up yet
-abbrev pub no_sums : CashAndRevenue
-no_sums = record { cash = pos 0; revenue = pos 0 }
-
-from_none : (z : ℤ) → pos 0 +ℤ z ≡ z
-from_none z = omega (arith, ints)
-
-pub meta_judged : (db : Database) (sums : CashAndRevenue) → sums ≡ fold after_entry no_sums (tables_of db).entries → (found : Option BadKey)
-    → Finds (first_meta (is_meta sums) false (tables_of db).meta) found → JudgesTable Meta db found
-meta_judged db sums total found finds earlier =
-    let cash : sums.cash ≡ cash_of (entries_of (tables_of db).entries) = ap (λ (s : CashAndRevenue). s.cash) total ∙ cash_sum no_sums (tables_of db).entries ∙ from_none _ in
-    let revenue : sums.revenue ≡ revenue_of (entries_of (tables_of db).entries) = ap (λ (s : CashAndRevenue). s.revenue) total ∙ revenue_sum no_sums (tables_of db).entries ∙ from_none _ in
-    subst (IsTableVerdict (tables_of db) Meta) (sym (finds (first_meta (is_meta sums) false (tables_of db).meta) refl)) (meta_verdict (tables_of db) (stored_in_order db) sums cash revenue)
+pub meta_judged : (db : Database) (found : Option BadKey) → Finds (first_meta is_meta false (tables_of db).meta) found → JudgesTable Meta db found
+meta_judged db found finds earlier =
+    subst (IsTableVerdict (tables_of db) Meta) (sym (finds (first_meta is_meta false (tables_of db).meta) refl)) (meta_verdict (tables_of db) (stored_in_order db))
 
 -- ---- one more row
 

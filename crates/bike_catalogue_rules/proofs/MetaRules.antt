@@ -1,5 +1,5 @@
--- The first row of meta that isn't the one with these sums, or that this is missing, is the verdict on meta.
-use Rattle.std.proofs.Common.{◌≡◌, inl, inr, ℕ, ℤ, List, [], ◌∷◌, Bool, true, false, cond, ◌&&◌, Option, Some, None, refl, sym, ap, ◌∙◌, subst}
+-- The first row of meta that isn't the one of the newest version with no sums, or that this is missing, is the verdict on meta.
+use Rattle.std.proofs.Common.{◌≡◌, inl, inr, ℕ, ℤ, pos, List, [], ◌∷◌, Bool, true, false, cond, ◌&&◌, Option, Some, None, refl, sym, ap, ◌∙◌, subst}
 use Rattle.std.specs.Prelude.{take, IfSome, ◌==◌}
 use Rattle.std.specs.Option.{IsSomeAnd}
 use Rattle.std.specs.Ordering.{int_eq, is_lt, ordering_reverse}
@@ -15,7 +15,6 @@ use Rattle.bike_fields.proofs.Lengths.{both_hold}
 use Rattle.bike_sql.specs.View.{by_key}
 use Rattle.bike_sql.proofs.OrderLemmas.{Rises, all_has}
 use Rattle.bike_sql.proofs.TreeLemmas.{by_key_total}
-use Rattle.bike_ledger.specs.Ledger.{cash_of, revenue_of}
 use Rattle.bike_book.specs.declared.version.TheConstants.{NEWEST}
 use Rattle.bike_book.specs.Tables.{Tables, Meta}
 use Rattle.bike_readings.specs.Readings.{meta_read}
@@ -27,47 +26,45 @@ use Rattle.bike_readings.proofs.Places.{has_under, under_has}
 use Rattle.bike_readings.proofs.RowRules.{some_with}
 use Rattle.bike_judges.specs.Verdicts.{IsTableVerdict}
 use Rattle.bike_judges.specs.Least.{least_key}
-use Rattle.bike_catalogue_rules.specs.declared.meta.CashAndRevenue.{CashAndRevenue}
-use Rattle.bike_catalogue_rules.specs.Sums.{has_sums, is_meta, one_key, first_meta}
-use Rattle.bike_catalogue_rules.proofs.EntrySums.{entries_of}
+use Rattle.bike_catalogue_rules.specs.OneRow.{has_no_sums, is_meta, one_key, first_meta}
 
-module _ (t : Tables) (up : AreInOrder t) (sums : CashAndRevenue) (cash : sums.cash ≡ cash_of (entries_of t.entries)) (revenue : sums.revenue ≡ revenue_of (entries_of t.entries)) where
+module _ (t : Tables) (up : AreInOrder t) where
   abbrev IsGood : Row → Type 0
   IsGood r = (n : ℕ) → IsSomeAnd (meta_read r) (IsGoodMeta (operator_of t) n)
 
   -- ---- one row
 
-  meta_good : (r : Row) → is_meta sums r ≡ true → IsGood r
+  meta_good : (r : Row) → is_meta r ≡ true → IsGood r
   meta_good r h n = go (meta_read r) refl h where
-    go : (o : Option (ℕ × ℕ × ℤ × ℤ)) → meta_read r ≡ o → has_sums sums o ≡ true → IsSomeAnd o (IsGoodMeta (operator_of t) n)
+    go : (o : Option (ℕ × ℕ × ℤ × ℤ)) → meta_read r ≡ o → has_no_sums o ≡ true → IsSomeAnd o (IsGoodMeta (operator_of t) n)
     go None e h = absurd cc
     go (Some x) e h =
-        let all = both_hold ((x.0 == NEWEST) && int_eq x.2 sums.cash) (int_eq x.3 sums.revenue) h in
-        let two = both_hold (x.0 == NEWEST) (int_eq x.2 sums.cash) all.0 in
-        record { version_is = eqb-true x.0 NEWEST two.0; cash_is = (Decides-int_eq x.2 sums.cash).0 two.1 ∙ cash; revenue_is = (Decides-int_eq x.3 sums.revenue).0 all.1 ∙ revenue }
+        let all = both_hold ((x.0 == NEWEST) && int_eq x.2 (pos 0)) (int_eq x.3 (pos 0)) h in
+        let two = both_hold (x.0 == NEWEST) (int_eq x.2 (pos 0)) all.0 in
+        record { version_is = eqb-true x.0 NEWEST two.0; cash_is = (Decides-int_eq x.2 (pos 0)).0 two.1; revenue_is = (Decides-int_eq x.3 (pos 0)).0 all.1 }
 
-  good_meta : (n : ℕ) (r : Row) → IsSomeAnd (meta_read r) (IsGoodMeta (operator_of t) n) → is_meta sums r ≡ true
+  good_meta : (n : ℕ) (r : Row) → IsSomeAnd (meta_read r) (IsGoodMeta (operator_of t) n) → is_meta r ≡ true
   good_meta n r good =
       let it = some_with (IsGoodMeta (operator_of t) n) (meta_read r) good in
       let x = it.value in
-      ap (has_sums sums) it.value_is
-      ∙ and_from ((it.value.0 == NEWEST) && int_eq it.value.2 sums.cash) (int_eq it.value.3 sums.revenue)
-      (and_from (it.value.0 == NEWEST) (int_eq it.value.2 sums.cash) (eq-eqb it.value.0 NEWEST it.fact.version_is) ((Decides-int_eq it.value.2 sums.cash).1 (it.fact.cash_is ∙ sym cash)))
-      ((Decides-int_eq it.value.3 sums.revenue).1 (it.fact.revenue_is ∙ sym revenue))
+      ap (has_no_sums) it.value_is
+      ∙ and_from ((it.value.0 == NEWEST) && int_eq it.value.2 (pos 0)) (int_eq it.value.3 (pos 0))
+      (and_from (it.value.0 == NEWEST) (int_eq it.value.2 (pos 0)) (eq-eqb it.value.0 NEWEST it.fact.version_is) ((Decides-int_eq it.value.2 (pos 0)).1 it.fact.cash_is))
+      ((Decides-int_eq it.value.3 (pos 0)).1 it.fact.revenue_is)
 
   -- the key of a good row is 1
-  good_key : (r : Row) → is_meta sums r ≡ true → take 1 r ≡ one_key
+  good_key : (r : Row) → is_meta r ≡ true → take 1 r ≡ one_key
   good_key r h = let it = some_with (IsGoodMeta (operator_of t) 0) (meta_read r) (meta_good r h 0) in ap (take 1) (meta_reading.sound r it.value it.value_is).0
 
   -- ---- a key
 
-  good_under : (key : Row) → ((r : Row) → row_under t Meta key ≡ Some r → is_meta sums r ≡ true) → (row_under t Meta key ≡ None → key ≡ one_key → ⊥) → IsGoodKey t Meta key
+  good_under : (key : Row) → ((r : Row) → row_under t Meta key ≡ Some r → is_meta r ≡ true) → (row_under t Meta key ≡ None → key ≡ one_key → ⊥) → IsGoodKey t Meta key
   good_under key row none = go (row_under t Meta key) refl where
     go : (o : Option Row) → row_under t Meta key ≡ o → IsGoodAt t (operator_of t) Meta key (rows_below t Meta key) o
     go None e = none e
     go (Some r) e = meta_good r (row r e) (rows_below t Meta key)
 
-  row_good : (key r : Row) → row_under t Meta key ≡ Some r → IsGoodKey t Meta key → is_meta sums r ≡ true
+  row_good : (key r : Row) → row_under t Meta key ≡ Some r → IsGoodKey t Meta key → is_meta r ≡ true
   row_good key r under good = good_meta (rows_below t Meta key) r (subst (IsGoodAt t (operator_of t) Meta key (rows_below t Meta key)) under good)
 
   none_bad : row_under t Meta one_key ≡ None → IsGoodKey t Meta one_key → ⊥
@@ -107,7 +104,7 @@ module _ (t : Tables) (up : AreInOrder t) (sums : CashAndRevenue) (cash : sums.c
         lowest x (had x it.0) (row_cmp_total.congr (take 1 x) other (take 1 r) it.1 ∙ low)
 
     -- the first row is bad, and its key isn't above 1
-    first_bad : is_meta sums r ≡ false → (row_cmp one_key (take 1 r) ≡ Less → ⊥) → IsTableVerdict t Meta (Some (take 1 r))
+    first_bad : is_meta r ≡ false → (row_cmp one_key (take 1 r) ≡ Less → ⊥) → IsTableVerdict t Meta (Some (take 1 r))
     first_bad fails high = record {
       bad = λ good. let passes = row_good (take 1 r) r (found r (inl refl)) good in absurd cc;
       own = subst (λ (o : Option Row). IfSome o (λ row. take 1 row ≡ take 1 r)) (sym (found r (inl refl))) refl;
@@ -127,19 +124,19 @@ module _ (t : Tables) (up : AreInOrder t) (sums : CashAndRevenue) (cash : sums.c
       }
 
     -- the row is there
-    there : is_meta sums r ≡ true → row_under t Meta one_key ≡ Some r
+    there : is_meta r ≡ true → row_under t Meta one_key ≡ Some r
     there passes = ap (row_under t Meta) (sym (good_key r passes)) ∙ found r (inl refl)
 
-    lacks : is_meta sums r ≡ true → (key : Row) → row_under t Meta key ≡ None → key ≡ one_key → ⊥
+    lacks : is_meta r ≡ true → (key : Row) → row_under t Meta key ≡ None → key ≡ one_key → ⊥
     lacks passes key none one = let both : ◌≡◌ {A = Option Row} None (Some r) = sym none ∙ ap (row_under t Meta) one ∙ there passes in absurd cc
 
-  only : (r : Row) → t.meta ≡ r ∷ [] → is_meta sums r ≡ true → IsTableVerdict t Meta None
+  only : (r : Row) → t.meta ≡ r ∷ [] → is_meta r ≡ true → IsTableVerdict t Meta None
   only r is passes = λ key. good_under key (λ x under. one x (had r [] is x (under_has 1 key t.meta x under).0)) (lacks r [] is passes key) where
-    one : (x : Row) → Has (r ∷ []) x → is_meta sums x ≡ true
-    one x (inl same) = ap (is_meta sums) same ∙ passes
+    one : (x : Row) → Has (r ∷ []) x → is_meta x ≡ true
+    one x (inl same) = ap is_meta same ∙ passes
     one x (inr none) = elim none [ ]
 
-  second : (r x : Row) (rest : List Row) → t.meta ≡ r ∷ x ∷ rest → is_meta sums r ≡ true → IsTableVerdict t Meta (Some (take 1 x))
+  second : (r x : Row) (rest : List Row) → t.meta ≡ r ∷ x ∷ rest → is_meta r ≡ true → IsTableVerdict t Meta (Some (take 1 x))
   second r x rest is passes = record {
     bad = λ good. (
         let also = row_good (take 1 x) x (found r (x ∷ rest) is x (inr (inl refl))) good in
@@ -150,8 +147,8 @@ module _ (t : Tables) (up : AreInOrder t) (sums : CashAndRevenue) (cash : sums.c
         (row_cmp_total.congr (take 1 y) other (take 1 x) (under_has 1 other t.meta y under).1 ∙ low)) (lacks r (x ∷ rest) is passes other);
   }
     where
-      below : (y : Row) → Has (r ∷ x ∷ rest) y → by_key 1 y x ≡ Less → is_meta sums y ≡ true
-      below y (inl same) low = ap (is_meta sums) same ∙ passes
+      below : (y : Row) → Has (r ∷ x ∷ rest) y → by_key 1 y x ≡ Less → is_meta y ≡ true
+      below y (inl same) low = ap is_meta same ∙ passes
       below y (inr (inl same)) low = absurd (not_less (take 1 x) (ap (λ (z : Row). by_key 1 z x) (sym same) ∙ low))
       below y (inr (inr later)) low =
           let above : by_key 1 x y ≡ Less = all_has (λ z. by_key 1 x z ≡ Less) rest y (rise r (x ∷ rest) is).1.0 later in
@@ -171,12 +168,12 @@ module _ (t : Tables) (up : AreInOrder t) (sums : CashAndRevenue) (cash : sums.c
       none : (key : Row) → row_under t Meta key ≡ None
       none key = ap (λ (rows : List Row). row_under (record t { meta = rows }) Meta key) is
 
-  after_first : (r : Row) (rest : List Row) → t.meta ≡ r ∷ rest → is_meta sums r ≡ true → IsTableVerdict t Meta (first_meta (is_meta sums) true rest)
+  after_first : (r : Row) (rest : List Row) → t.meta ≡ r ∷ rest → is_meta r ≡ true → IsTableVerdict t Meta (first_meta is_meta true rest)
   unfolding first_meta
   after_first r [] is passes = only r is passes
   after_first r (x ∷ rest) is passes = second r x rest is passes
 
-  at_first : (r : Row) (rest : List Row) → t.meta ≡ r ∷ rest → is_meta sums r ≡ false → IsTableVerdict t Meta (least_key (Some (take 1 r)) (Some one_key))
+  at_first : (r : Row) (rest : List Row) → t.meta ≡ r ∷ rest → is_meta r ≡ false → IsTableVerdict t Meta (least_key (Some (take 1 r)) (Some one_key))
   at_first r rest is fails = go (row_cmp one_key (take 1 r)) refl where
     go : (o : Ordering) → row_cmp one_key (take 1 r) ≡ o → IsTableVerdict t Meta (cond (is_lt (row_cmp one_key (take 1 r))) (Some one_key) (Some (take 1 r)))
     go Less e = subst (λ (b : Bool). IsTableVerdict t Meta (cond b (Some one_key) (Some (take 1 r)))) (sym (ap is_lt e)) (missing r rest is e)
@@ -187,12 +184,12 @@ module _ (t : Tables) (up : AreInOrder t) (sums : CashAndRevenue) (cash : sums.c
         (first_bad r rest is fails (λ low. let both : Less ≡ Greater = sym low ∙ e in absurd cc))
 
   -- THE VERDICT on meta
-  pub meta_verdict : IsTableVerdict t Meta (first_meta (is_meta sums) false t.meta)
+  pub meta_verdict : IsTableVerdict t Meta (first_meta is_meta false t.meta)
   unfolding first_meta
   meta_verdict = go t.meta refl where
-    go : (rows : List Row) → t.meta ≡ rows → IsTableVerdict t Meta (first_meta (is_meta sums) false t.meta)
-    go [] is = subst (λ (rows : List Row). IsTableVerdict t Meta (first_meta (is_meta sums) false rows)) (sym is) (none_there is)
-    go (r ∷ rest) is = subst (λ (rows : List Row). IsTableVerdict t Meta (first_meta (is_meta sums) false rows)) (sym is) (by (is_meta sums r) refl) where
-      by : (b : Bool) → is_meta sums r ≡ b → IsTableVerdict t Meta (cond (is_meta sums r) (first_meta (is_meta sums) true rest) (least_key (Some (take 1 r)) (Some one_key)))
-      by true e = subst (λ (b : Bool). IsTableVerdict t Meta (cond b (first_meta (is_meta sums) true rest) (least_key (Some (take 1 r)) (Some one_key)))) (sym e) (after_first r rest is e)
-      by false e = subst (λ (b : Bool). IsTableVerdict t Meta (cond b (first_meta (is_meta sums) true rest) (least_key (Some (take 1 r)) (Some one_key)))) (sym e) (at_first r rest is e)
+    go : (rows : List Row) → t.meta ≡ rows → IsTableVerdict t Meta (first_meta is_meta false t.meta)
+    go [] is = subst (λ (rows : List Row). IsTableVerdict t Meta (first_meta is_meta false rows)) (sym is) (none_there is)
+    go (r ∷ rest) is = subst (λ (rows : List Row). IsTableVerdict t Meta (first_meta is_meta false rows)) (sym is) (by (is_meta r) refl) where
+      by : (b : Bool) → is_meta r ≡ b → IsTableVerdict t Meta (cond (is_meta r) (first_meta is_meta true rest) (least_key (Some (take 1 r)) (Some one_key)))
+      by true e = subst (λ (b : Bool). IsTableVerdict t Meta (cond b (first_meta is_meta true rest) (least_key (Some (take 1 r)) (Some one_key)))) (sym e) (after_first r rest is e)
+      by false e = subst (λ (b : Bool). IsTableVerdict t Meta (cond b (first_meta is_meta true rest) (least_key (Some (take 1 r)) (Some one_key)))) (sym e) (at_first r rest is e)

@@ -1,3 +1,3 @@
 pub mod Tests
-pub mod Sums
+pub mod OneRow
 pub mod Names

@@ -2,8 +2,8 @@
 //! types, of regions, and of names in further languages.
 //!
 //! Each function names the first bad key of its table, where all tables before it are good. It reads the table's
-//! lines once and keeps one line at a time; the sums in `meta` take a pass over all entries too, and names are read
-//! three times: in their order, with the places that have them, and with the types and plans.
+//! lines once and keeps one line at a time; names are read three times: in their order, with the
+//! places that have them, and with the types and plans.
 #![tactic(auto)]
 
 mod key;

@@ -19,3 +19,4 @@ pub mod ApartLines
 pub mod QueryLaws
 pub mod ReadsLaw
 pub mod Lookups
+mod Moments

@@ -6,3 +6,4 @@ pub mod Showing
 pub mod Texts
 pub mod Closing
 pub mod Least
+pub mod Moments

@@ -6,7 +6,7 @@
 //! `StretchJudge` opens an account at each head, adds the lines after it, and names the key of the first head whose
 //! account isn't good. The lemmas `lines_verdict`, `merged_verdict`, `merged_of_three_verdict` and `least_verdict` say
 //! what that is over tables: the least key of which a demand fails. `specs/Verdicts` says what the rules of a table
-//! answer.
+//! answer. `find_now` looks up the operator's moment.
 #![tactic(auto)]
 
 mod fold;
@@ -15,6 +15,7 @@ mod key;
 mod lesser;
 mod line_judge;
 mod lines;
+mod moment;
 mod pass;
 mod query;
 mod stretch;
@@ -26,6 +27,7 @@ pub use key::BadKey;
 pub use lesser::least;
 pub use line_judge::LineJudge;
 pub use lines::judge_lines;
+pub use moment::find_now;
 pub use pass::{Account, LineTest, Opening};
 pub use query::Query;
 pub use stretch::StretchJudge;

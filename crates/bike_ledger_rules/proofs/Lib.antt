@@ -15,7 +15,6 @@ pub mod KnownFolds
 pub mod KnownRows
 pub mod Earlier
 pub mod RentalRules
-pub mod MetaRow
 pub mod RentalFolds
 pub mod RentalVerdict
 pub mod EntryRules

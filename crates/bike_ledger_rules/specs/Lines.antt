@@ -2,9 +2,8 @@
 use Rattle.std.specs.Prelude.{ℕ, Bool, take, Option, option_map}
 use Rattle.sqlite_value.specs.Order.{Row}
 use Rattle.sqlite.specs.Effect.{Database}
-use Rattle.bike_book.specs.Tables.{TableName, Tables, Meta}
+use Rattle.bike_book.specs.Tables.{TableName, Tables}
 use Rattle.bike_schema.specs.Tables.{tables_of}
-use Rattle.bike_readings.specs.Rules.{IsGoodKey}
 use Rattle.bike_judges.specs.declared.key.BadKey.{BadKey}
 use Rattle.bike_judges.specs.Judging.{key_row}
 use Rattle.bike_judges.specs.Passes.{Demands}
@@ -13,10 +12,6 @@ use Rattle.bike_judges.specs.Verdicts.{IsFirstFailing}
 -- the key of a line
 abbrev pub first_column : Row → Row
 first_column = take 1
-
--- all keys of meta are good
-abbrev pub MetaGood : Tables → Type 0
-MetaGood t = (key : Row) → IsGoodKey t Meta key
 
 -- what was found is the first key of the table whose row fails the test
 abbrev pub FindsFailing : TableName → (Tables → ℕ → Row → Bool) → Database → Option BadKey → Type 0

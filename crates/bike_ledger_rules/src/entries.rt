@@ -11,13 +11,12 @@ ghost use Rattle.bike_ledger_rules.specs.Entries.{is_of, is_booked, line_rental,
 
 use crate::columns::number_key;
 use crate::known::read_riders;
-use crate::moment::find_moment;
 use crate::numbers::ByNumber;
 use crate::open_rentals::count_rentals;
 use crate::sums::NumberedSums;
 use bike_book::columns::{entries, rentals};
 use bike_fixed::Moment;
-use bike_judges::{BadKey, Judge, Query, judge_lines};
+use bike_judges::{BadKey, Judge, Query, find_now, judge_lines};
 use bike_ledger::EntryKind;
 use bike_operator::MOST_ENTRIES;
 use bike_readings::{Part, StoredEntry, StoredRental, read_entry, read_rental};
@@ -63,7 +62,7 @@ fn is_booked(entry: &StoredEntry, line: &Row) -> bool
 struct EntryJudge {
     /// The riders that are there.
     riders: ByNumber<()>,
-    /// The greatest moment of an accepted request.
+    /// The operator's moment.
     moment: Moment,
     /// How many rentals are open.
     riding: u64,
@@ -136,7 +135,7 @@ pub fn judge_entries<S: Alter>(
 ) -> Result<Option<BadKey>, StatementFault>
     ensures { ReadsWhere S.Store IsOurs conn.old conn.new result (JudgesTable Entries) }
 {
-    let moment = find_moment(conn)?;
+    let moment = find_now(conn)?;
     let rentals = count_rentals(conn)?;
     let riders = read_riders(alloc, conn)?;
     let fares = NumberedSums::zeros(alloc, rentals.next)?;

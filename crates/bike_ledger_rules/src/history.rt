@@ -14,9 +14,8 @@ ghost use Rattle.bike_ledger_rules.specs.History.{is_next_request, next_moment, 
 ghost use Rattle.bike_ledger_rules.specs.History.{has_same_key, number_again, least_again};
 
 use crate::columns::{number_at, number_key};
-use crate::moment::find_moment;
 use bike_fixed::Moment;
-use bike_judges::{BadKey, Judge, Query, judge_lines, least};
+use bike_judges::{BadKey, Judge, Query, find_now, judge_lines, least};
 use bike_readings::{Part, StoredRequest, read_request};
 use bike_schema::StatementFault;
 use sqlite::types::ValueRef;
@@ -28,7 +27,7 @@ use std::alloc::Global;
 #[derive(Drop)]
 struct RequestJudge {
     alloc: Global,
-    /// The greatest moment of an accepted request.
+    /// The operator's moment.
     moment: Moment,
     /// The moment of the request before, if there was one.
     last: Option<Moment>,
@@ -155,7 +154,7 @@ pub fn judge_history<S: Alter>(
 ) -> Result<Option<BadKey>, StatementFault>
     ensures { ReadsWhere S.Store IsOurs conn.old conn.new result (JudgesTable History) }
 {
-    let moment = find_moment(conn)?;
+    let moment = find_now(conn)?;
     let requests = RequestJudge {
         alloc,
         moment,

@@ -14,7 +14,6 @@ mod entries;
 mod history;
 mod idents;
 mod known;
-mod moment;
 mod numbers;
 mod open_rentals;
 mod rental_entries;

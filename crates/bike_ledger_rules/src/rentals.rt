@@ -13,10 +13,9 @@ ghost use Rattle.bike_ledger_rules.specs.Rentals.{is_out, names_test, closes, en
 
 use crate::columns::number_key;
 use crate::known::{Names, read_names};
-use crate::moment::find_moment;
 use crate::rental_entries::{RentalEntries, sum_entries};
 use bike_fixed::Moment;
-use bike_judges::{BadKey, LineJudge, LineTest, Query, judge_lines};
+use bike_judges::{BadKey, LineJudge, LineTest, Query, find_now, judge_lines};
 use bike_readings::{Part, StoredClosing, StoredRental, read_rental};
 use bike_schema::StatementFault;
 use sqlite::{Alter, Connection, Row};
@@ -36,7 +35,7 @@ fn is_out(rental: &StoredRental<'_>, bike: Option<Option<u32>>) -> bool
 /// What a rental is tested with.
 #[derive(Debug, Drop)]
 struct RentalTest {
-    /// The greatest moment of an accepted request.
+    /// The operator's moment.
     moment: Moment,
     /// What there is of what rentals name.
     names: Names,
@@ -115,7 +114,7 @@ pub fn judge_rentals<S: Alter>(
 ) -> Result<Option<BadKey>, StatementFault>
     ensures { ReadsWhere S.Store IsOurs conn.old conn.new result (JudgesTable Rentals) }
 {
-    let moment = find_moment(conn)?;
+    let moment = find_now(conn)?;
     let names = read_names(alloc, conn)?;
     let sums = sum_entries(alloc, conn)?;
     let test = RentalTest {

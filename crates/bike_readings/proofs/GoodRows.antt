@@ -14,7 +14,7 @@ use Rattle.bike_catalogue.specs.Rows.{SystemRow}
 use Rattle.bike_ledger.specs.Entries.{Entry}
 use Rattle.bike_ledger.specs.declared.entry.EntryKind.{EntryKind}
 use Rattle.bike_ledger.specs.declared.entry.EntryKind.TheVariants.{TopUp, Fare, Refund}
-use Rattle.bike_ledger.specs.Ledger.{balance_of, cash_of, revenue_of, refunded_of}
+use Rattle.bike_ledger.specs.Ledger.{balance_of, refunded_of}
 use Rattle.bike_operator.specs.declared.limits.TheConstants.{MOST_FURTHER_NAMES}
 use Rattle.bike_operator.specs.declared.records.Place.{Place}
 use Rattle.bike_operator.specs.declared.records.Place.TheVariants as place
@@ -78,9 +78,9 @@ module _ {X A : Type 0} (row : ℕ × X → Row) (begins : BeginsWithKey numbers
 module _ (s : Operator) (m : Listed) (sound : IsSound s) (listing : IsListing s m) where
   -- ---- meta, system, segments
 
-  meta_good : (r : Row) (below : ℕ) → Has (meta_rows s) r → IsSomeAnd (meta_read r) (IsGoodMeta s below)
+  meta_good : (r : Row) (below : ℕ) → Has (meta_rows m.since) r → IsSomeAnd (meta_read r) (IsGoodMeta s below)
   meta_good r below (inl is) =
-      some_and (IsGoodMeta s below) (meta_read r) (NEWEST, s.now, cash_of s.entries, revenue_of s.entries) (ap meta_read is ∙ meta_is s m sound listing)
+      some_and (IsGoodMeta s below) (meta_read r) (NEWEST, m.since, pos 0, pos 0) (ap meta_read is ∙ meta_is s m sound listing)
       (record { version_is = refl; cash_is = refl; revenue_is = refl })
   meta_good r below (inr none) = elim none [ ]
 
@@ -277,11 +277,11 @@ module _ (s : Operator) (m : Listed) (sound : IsSound s) (listing : IsListing s 
 
   -- ---- what is missing
 
-  meta_there : (key : Row) → row_with 1 key (meta_rows s) ≡ None → key ≡ number_value 1 ∷ [] → ⊥
+  meta_there : (key : Row) → row_with 1 key (meta_rows m.since) ≡ None → key ≡ number_value 1 ∷ [] → ⊥
   meta_there key none is =
-      let there : row_with 1 (number_value 1 ∷ []) (meta_rows s) ≡ Some (meta_row NEWEST s.now (cash_of s.entries) (revenue_of s.entries)) =
-      has_under 1 (meta_rows s) (meta_row NEWEST s.now (cash_of s.entries) (revenue_of s.entries)) (tt, tt) (inl refl) in
-      let both : ◌≡◌ {A = Option Row} None (Some (meta_row NEWEST s.now (cash_of s.entries) (revenue_of s.entries))) = sym none ∙ ap (λ (k : Row). row_with 1 k (meta_rows s)) is ∙ there in
+      let there : row_with 1 (number_value 1 ∷ []) (meta_rows m.since) ≡ Some (meta_row NEWEST m.since (pos 0) (pos 0)) =
+      has_under 1 (meta_rows m.since) (meta_row NEWEST m.since (pos 0) (pos 0)) (tt, tt) (inl refl) in
+      let both : ◌≡◌ {A = Option Row} None (Some (meta_row NEWEST m.since (pos 0) (pos 0))) = sym none ∙ ap (λ (k : Row). row_with 1 k (meta_rows m.since)) is ∙ there in
       absurd cc
 
   pub none_lacking : LacksNone (tables_for s m)

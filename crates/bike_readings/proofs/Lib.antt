@@ -19,6 +19,7 @@ pub mod Segments
 pub mod Broken
 pub mod RowRules
 pub mod Histories
+pub mod Moments
 pub mod ReadOffBack
 pub mod Fares
 pub mod GoodRows

@@ -1,24 +1,26 @@
 -- The operator is what is read off its tables.
-use Rattle.std.proofs.Common.{◌≡◌, ℕ, ◌+◌, pos, List, [], true, Option, Some, None, is_some, refl, sym, ap, ◌∙◌, subst, arith, Bool}
-use Rattle.std.specs.Prelude.{option_map, unwrap_or}
+use Rattle.std.proofs.Common.{◌≡◌, ℕ, ◌+◌, ◌≤◌, max, pos, List, [], true, Option, Some, None, is_some, refl, sym, ap, ◌∙◌, subst, arith, Bool}
+use Rattle.std.specs.Prelude.{map, option_map, unwrap_or}
 use Rattle.std.specs.List.{filter_map, cons_option}
 use Rattle.std.specs.FinMap as fin
 use Rattle.std.specs.FinSet as set
+use native.Mathlib.Nat.{le-max_left}
 use Rattle.bike_fields.specs.declared.name_kind.NameKind.{NameKind}
 use Rattle.bike_fields.specs.Values.{SegmentRow}
 use Rattle.bike_catalogue.specs.Rows.{PlanRow, TypeRow, RegionRow, MoreNameRow, SystemRow, IsPlan}
 use Rattle.bike_ledger.specs.Entries.{Entry}
-use Rattle.bike_ledger.specs.Ledger.{balance_of, cash_of, revenue_of, refunded_of}
+use Rattle.bike_ledger.specs.Ledger.{balance_of, refunded_of}
 use Rattle.bike_operator.specs.declared.records.Bike.{Bike}
 use Rattle.bike_operator.specs.declared.records.Rental.{Rental}
 use Rattle.bike_operator.specs.declared.records.Order.{Order}
 use Rattle.bike_operator.specs.Operator.{Operator, Station, Truck, Rider, AcceptedRequest, NameKey, DockKey, dock_key, name_key, item_numbered}
 use Rattle.bike_operator.specs.Counts.{docks_available, docks_broken}
 use Rattle.bike_operator.specs.Sound.{IsSound, IsSetSystem, HasDock, IsNameAt}
+use Rattle.bike_laws.specs.History.{last_moment_of}
 use Rattle.bike_book.specs.declared.version.TheConstants.{NEWEST}
 use Rattle.bike_book.specs.ByType.{types_at, by_type_text}
 use Rattle.bike_book.specs.Stored.{Listed, IsListing, tables_for, meta_rows, system_rows, plans_segments, stored_plan, stored_type, stored_region, stored_station, stored_dock, stored_bike}
-use Rattle.bike_book.specs.Stored.{stored_truck, stored_rider, stored_rental, stored_order, stored_entry, stored_request, stored_name}
+use Rattle.bike_book.specs.Stored.{stored_truck, stored_rider, stored_rental, stored_order, stored_entry, stored_request, stored_name, with_numbers}
 use Rattle.bike_book.proofs.Keys.{numbers, texts, triples, docks}
 use Rattle.bike_readings.specs.Readings.{meta_read, system_read, plan_read, type_read, region_read, station_read, dock_read, bike_read, truck_read, rider_read, rental_read, order_read, entry_read}
 use Rattle.bike_readings.specs.Readings.{request_read, name_read}
@@ -27,11 +29,12 @@ use Rattle.bike_readings.proofs.CatalogueRows.{meta_reading, plan_reading, type_
 use Rattle.bike_readings.proofs.FleetRows.{bike_reading, truck_reading, order_reading}
 use Rattle.bike_readings.proofs.LedgerRows.{rider_reading, rental_reading, entry_reading}
 use Rattle.bike_readings.proofs.RequestRows.{request_reading}
-use Rattle.bike_readings.specs.ReadOff.{first, moment_of, with_segments, plan_in, station_in, rider_in, rental_in, entry_in, name_in, dock_in, segments_of, operator_of, listed_of, first_of}
+use Rattle.bike_readings.specs.ReadOff.{first, since_of, last_moment_in, moment_of, with_segments, plan_in, station_in, rider_in, rental_in, entry_in, name_in, dock_in, segments_of, operator_of, listed_of, first_of}
 use Rattle.bike_readings.specs.ReadOff.{misplaced_bike, bike_in}
 use Rattle.bike_readings.proofs.ReadBack.{map_back, numbered_back}
 use Rattle.bike_readings.proofs.Segments.{segments_back}
 use Rattle.bike_readings.proofs.Broken.{broken_back}
+use Rattle.bike_readings.proofs.Moments.{last_back}
 use Rattle.bike_readings.proofs.SoundBounds.{meta_stored, segment_stored, dock_stored, type_stored, region_stored, station_stored, bike_stored, truck_stored, rider_stored, rental_stored, order_stored}
 use Rattle.bike_readings.proofs.SoundBounds.{entry_stored, request_stored}
 use Rattle.bike_book.specs.Rows.{meta_row}
@@ -39,8 +42,10 @@ use Rattle.bike_book.specs.Rows.{meta_row}
 module _ (s : Operator) (m : Listed) (sound : IsSound s) (listing : IsListing s m) where
   -- ---- what the rows of each table spell
 
-  pub meta_is : meta_read (meta_row NEWEST s.now (cash_of s.entries) (revenue_of s.entries)) ≡ Some (NEWEST, s.now, cash_of s.entries, revenue_of s.entries)
-  meta_is = meta_reading.full (NEWEST, s.now, cash_of s.entries, revenue_of s.entries) (meta_stored s sound)
+  pub meta_is : meta_read (meta_row NEWEST m.since (pos 0) (pos 0)) ≡ Some (NEWEST, m.since, pos 0, pos 0)
+  meta_is =
+      let now = listing.now_is in
+      meta_reading.full (NEWEST, m.since, pos 0, pos 0) (meta_stored s sound m.since (subst (λ (n : ℕ). m.since ≤ n) (sym now) (le-max_left m.since (last_moment_of 0 s.history))))
 
   abbrev bare : PlanRow → PlanRow
   bare p = record p { segments = [] }
@@ -121,8 +126,13 @@ module _ (s : Operator) (m : Listed) (sound : IsSound s) (listing : IsListing s 
   system_back None good = refl
   system_back (Some x) good = ap (λ (o : Option SystemRow). first (cons_option o [])) (system_reading.full x good)
 
-  moment_back : moment_of (meta_rows s) ≡ s.now
-  moment_back = ap (λ (o : _). unwrap_or (option_map (λ (e : _). e.1) (first (cons_option o []))) 0) meta_is
+  since_back : since_of (meta_rows m.since) ≡ m.since
+  since_back = ap (λ (o : _). unwrap_or (option_map (λ (e : _). e.1) (first (cons_option o []))) 0) meta_is
+
+  moment_back : moment_of (tables_for s m) ≡ s.now
+  moment_back =
+      let last : last_moment_in (map stored_request (with_numbers s.history)) ≡ last_moment_of 0 s.history = last_back s.history (λ n a found. (request_stored s sound n a found).moment) in
+      (λ i. max (since_back i) (last i)) ∙ sym listing.now_is
 
   dock_back : (key : DockKey) → fin.contains_key m.docks key ≡ true → (station : List ℕ) × (dock : ℕ) × (key ≡ dock_key station dock)
       × (dock_read (stored_dock s.broken (key, tt)) ≡ Some (station, dock, set.contains s.broken key))
@@ -173,4 +183,5 @@ module _ (s : Operator) (m : Listed) (sound : IsSound s) (listing : IsListing s 
   pub listed_back : listed_of (tables_for s m) ≡ m
   listed_back =
       let listed_docks = map_back docks dock_in (stored_dock s.broken) m.docks listed_dock_back in
-      λ i. record { docks = listed_docks i }
+      let since = since_back in
+      λ i. record { docks = listed_docks i; since = since i }

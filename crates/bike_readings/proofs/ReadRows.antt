@@ -1,5 +1,5 @@
 -- What good rows spell: the rows of a map, of a numbered list, and the one row of meta and of system.
-use Rattle.std.proofs.Common.{◌≡◌, inl, inr, ℕ, ℤ, suc, ◌+◌, ◌≤◌, List, [], ◌∷◌, length, map, Option, Some, None, refl, sym, ap, ◌∙◌, subst, arith}
+use Rattle.std.proofs.Common.{◌≡◌, inl, inr, ℕ, ℤ, pos, suc, ◌+◌, ◌≤◌, List, [], ◌∷◌, length, map, Option, Some, None, refl, sym, ap, ◌∙◌, subst, arith}
 use Rattle.std.specs.Prelude.{option_map, take, unwrap_or}
 use Rattle.std.proofs.lemmas.Option.{same_Some}
 use Rattle.std.specs.Option.{IsSomeAnd}
@@ -18,7 +18,6 @@ use Rattle.bike_fixed.specs.Whole.{last_moment}
 use Rattle.bike_catalogue.specs.Rows.{SystemRow}
 use Rattle.bike_operator.specs.Operator.{Operator, item_numbered}
 use Rattle.bike_operator.specs.Sound.{IsSetSystem}
-use Rattle.bike_ledger.specs.Ledger.{cash_of, revenue_of}
 use Rattle.bike_book.specs.declared.version.TheConstants.{NEWEST}
 use Rattle.bike_book.specs.Rows.{number_value, meta_row}
 use Rattle.bike_book.specs.Stored.{system_rows, with_numbers}
@@ -26,7 +25,7 @@ use Rattle.bike_book.proofs.MapRows.{StoresKeys, BeginsWithKey}
 use Rattle.bike_book.proofs.FoundNumbers.{same_length}
 use Rattle.bike_readings.specs.Readings.{meta_read, system_read}
 use Rattle.bike_readings.proofs.CatalogueRows.{meta_reading, system_reading}
-use Rattle.bike_readings.specs.ReadOff.{first, moment_of}
+use Rattle.bike_readings.specs.ReadOff.{first, since_of}
 use Rattle.bike_readings.specs.Demands.{IsGoodMeta}
 use Rattle.bike_readings.proofs.ReadLists.{IsRead, IsStored, AreRowsOf, read_of, read_stored}
 use Rattle.bike_readings.proofs.Places.{lesser, read_numbered}
@@ -102,10 +101,10 @@ never_two a b p q less =
     absurd cc
 
 module _ (s : Operator) where
-  -- The rows are the one of these sums.
+  -- The rows are the one with no sums.
   pub record IsMeta (rows : List Row) : Type 0 where
-    pub rows_are : rows ≡ meta_row NEWEST (moment_of rows) (cash_of s.entries) (revenue_of s.entries) ∷ []
-    pub by_last : moment_of rows ≤ last_moment
+    pub rows_are : rows ≡ meta_row NEWEST (since_of rows) (pos 0) (pos 0) ∷ []
+    pub by_last : since_of rows ≤ last_moment
 
   meta_key : (n : ℕ) (r : Row) → IsSomeAnd (meta_read r) (IsGoodMeta s n) → take 1 r ≡ number_value 1 ∷ []
   meta_key n r good = let it = some_with (IsGoodMeta s n) (meta_read r) good in ap (take 1) (meta_reading.sound r it.value it.value_is).0
@@ -117,7 +116,7 @@ module _ (s : Operator) where
       let good = each r (inl refl) in
       let it = some_with (IsGoodMeta s good.0) (meta_read r) good.1 in
       let law_is = meta_reading.sound r it.value it.value_is in
-      let now : moment_of (r ∷ []) ≡ it.value.1 = ap (λ (o : Option (ℕ × ℕ × ℤ × ℤ)). unwrap_or (option_map (λ (e : ℕ × ℕ × ℤ × ℤ). e.1) (first (cons_option o []))) 0) it.value_is in
+      let now : since_of (r ∷ []) ≡ it.value.1 = ap (λ (o : Option (ℕ × ℕ × ℤ × ℤ)). unwrap_or (option_map (λ (e : ℕ × ℕ × ℤ × ℤ). e.1) (first (cons_option o []))) 0) it.value_is in
       let version = it.fact.version_is in
       let cash = it.fact.cash_is in
       let revenue = it.fact.revenue_is in

@@ -1,5 +1,5 @@
 -- The operator that is read off tables whose keys are all good is sound, and its docks are listed right.
-use Rattle.std.proofs.Common.{◌≡◌, inl, ℕ, ℤ, ◌+◌, ◌-◌, ◌<◌, ◌≤◌, List, [], ◌∷◌, length, Bool, true, false, Option, Some, None, is_some, refl, sym, ap, ◌∙◌, subst, arith}
+use Rattle.std.proofs.Common.{◌≡◌, inl, ℕ, ℤ, max, ◌+◌, ◌-◌, ◌<◌, ◌≤◌, List, [], ◌∷◌, length, Bool, true, false, Option, Some, None, is_some, refl, sym, ap, ◌∙◌, subst, arith}
 use Rattle.std.specs.Prelude.{option_map, take}
 use Rattle.std.specs.Ordering.{nat_cmp}
 use Rattle.std.specs.declared.cmp.Ordering.{Ordering}
@@ -29,6 +29,7 @@ use Rattle.bike_operator.specs.Counts.{is_open, open_rentals}
 use Rattle.bike_operator.specs.Names.{part_at}
 use Rattle.bike_operator.specs.Sound.{IsSound, IsCatalogueSound, AreNamesSound, IsNameAt, AreBikesSound, AreOrdersSound, AreRentalsSound, IsLedgerSound, IsTypeAt, IsRegionAt, IsStationAt, HasDock}
 use Rattle.bike_operator.specs.Sound.{IsBrokenDock, IsBikeAt, IsPlace, IsTruckAt, IsOrderAt, IsRentalAt, IsRiderNumber, IsEntryAt, IsAccepted, IsHistory, fares_of, fares_in}
+use Rattle.bike_laws.specs.History.{last_moment_of}
 use Rattle.bike_laws.proofs.SingleSteps.MapLemmas.{there_of}
 use Rattle.bike_book.specs.Tables.{TableName, Tables, keys_of, Meta, Plans, Types, Regions, Stations, Docks, Bikes, Trucks, Riders, Rentals, Orders, Entries, History, MoreNames}
 use Rattle.bike_book.specs.Rows.{number_value}
@@ -42,7 +43,7 @@ use Rattle.bike_readings.proofs.CatalogueRows.{region_reading, name_reading}
 use Rattle.bike_readings.proofs.LedgerRows.{rental_reading}
 use Rattle.bike_readings.proofs.RequestRows.{request_reading}
 use Rattle.bike_readings.proofs.Histories.{IsNext, history_of}
-use Rattle.bike_readings.specs.ReadOff.{plan_in, station_in, rider_in, rental_in, dock_in, operator_of, listed_of, first_of, misplaced_bike, bike_in}
+use Rattle.bike_readings.specs.ReadOff.{plan_in, station_in, rider_in, rental_in, dock_in, since_of, last_moment_in, operator_of, listed_of, first_of, misplaced_bike, bike_in}
 use Rattle.bike_readings.specs.Demands.{IsGoodPlan, IsGoodType, IsGoodRegion, IsGoodStation, IsGoodDock, IsGoodPlace, IsGoodBike, IsGoodTruck, IsGoodRider, IsGoodRental, IsGoodOrder, IsGoodEntry}
 use Rattle.bike_readings.specs.Demands.{IsGoodRequest, IsGoodName, names_before, IsRiding, HasFare, IsFareOf, IsFirstFare, IsOneFare}
 use Rattle.bike_readings.specs.Rules.{AreInOrder, rows_below, AreOf}
@@ -54,6 +55,7 @@ use Rattle.bike_readings.proofs.FurtherNames.{same_kind, name_parts, IsNameIn, f
 use Rattle.bike_readings.proofs.Fares.{counted, is_fare_of, fare_parts, no_fares, one_fare, rentals_few}
 use Rattle.bike_readings.proofs.RowRules.{some_with, some_is, AreGoodRows, LacksNone}
 use Rattle.bike_readings.proofs.ReadRows.{mapped, few_in, IsMeta, meta_are}
+use Rattle.bike_readings.proofs.Moments.{last_back, moment_by_last}
 use Rattle.bike_readings.proofs.TablesRead.{system_table, plans_table, plan_read_off, segments_table, types_table, regions_table, stations_table, docks_table, bikes_table, trucks_table}
 use Rattle.bike_readings.proofs.TablesRead.{riders_table, names_table, rentals_table, orders_table, entries_table, requests_table}
 
@@ -392,15 +394,21 @@ module _ (t : Tables) (up : AreInOrder t) (rows : AreGoodRows (operator_of t) t)
       ap is_some (has_get docks.total (listed_of t).docks (key, tt) (subst (λ (es : List (DockKey × Unit {0})). Has es (key, tt)) (sym listed) has))
 
   module _ (lacks : LacksNone t) where
+    -- the last row of the history has the moment of the last request
+    last_read : last_moment_in t.history ≡ last_moment_of 0 s.history
+    last_read =
+        ap last_moment_in (requests_table t up rows).rows_are
+        ∙ last_back s.history (λ n a found. let at = (requests_table t up rows).found n a found in (request_reading.sound at.item (n, a) at.read_is).1.moment)
+
     listing : IsListing s (listed_of t)
-    listing = record { docks = dock_listed; marked = broken_listed }
+    listing = record { docks = dock_listed; marked = broken_listed; now_is = ap (max (since_of t.meta)) last_read }
 
     meta : IsMeta s t.meta
     meta = meta_are s t.meta (up Meta) (λ r has. (below_of Meta r, rows Meta r has)) (λ none. lacks Meta (number_value 1 ∷ []) none refl)
 
     sound : IsSound s
     sound =
-        record { catalogue = catalogue_sound; bikes = bikes_sound; orders = orders_sound; rentals = rentals_sound; ledger = ledger_sound; history = history_sound; names = names_sound; now = meta.by_last }
+        record { catalogue = catalogue_sound; bikes = bikes_sound; orders = orders_sound; rentals = rentals_sound; ledger = ledger_sound; history = history_sound; names = names_sound; now = moment_by_last t meta.by_last }
 
     tables : t ≡ tables_for s (listed_of t)
     tables =

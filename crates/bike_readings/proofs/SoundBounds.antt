@@ -109,8 +109,8 @@ module _ (s : Operator) (sound : IsSound s) where
 
   -- ---- the rows of the operator
 
-  pub meta_stored : IsStoredMeta NEWEST s.now
-  meta_stored = record { good_version = (omega arith, omega arith); good_now = sound.now }
+  pub meta_stored : (since : ℕ) → since ≤ s.now → IsStoredMeta NEWEST since
+  meta_stored since low = record { good_version = (omega arith, omega arith); good_now = by_now since low }
 
   pub system_stored : (x : SystemRow) → s.system ≡ Some x → IsSystem x
   system_stored x is = subst IsSetSystem is sound.catalogue.system

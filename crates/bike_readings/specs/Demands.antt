@@ -34,7 +34,7 @@ use Rattle.bike_fields.specs.declared.name_kind.NameKind.{NameKind}
 use Rattle.bike_ledger.specs.Entries.{Entry}
 use Rattle.bike_ledger.specs.declared.entry.EntryKind.{EntryKind}
 use Rattle.bike_ledger.specs.declared.entry.EntryKind.TheVariants.{TopUp, Fare, Refund}
-use Rattle.bike_ledger.specs.Ledger.{balance_of, cash_of, revenue_of, refunded_of}
+use Rattle.bike_ledger.specs.Ledger.{balance_of, refunded_of}
 use Rattle.bike_operator.specs.declared.limits.TheConstants.{MOST_PLANS, MOST_TYPES, MOST_REGIONS, MOST_FURTHER_NAMES}
 use Rattle.bike_operator.specs.declared.limits.TheConstants.{MOST_STATIONS, MOST_BIKES, MOST_TRUCKS, MOST_RIDERS}
 use Rattle.bike_operator.specs.declared.limits.TheConstants.{MOST_ORDERS, MOST_ENTRIES}
@@ -135,11 +135,11 @@ module _ (t : Tables) (s : Operator) where
 module _ (s : Operator) (below : ℕ) where
   -- ---- the system and the catalogue
 
-  -- version, now, cash, revenue
+  -- version, moment, cash, revenue: no sum is stored
   pub record IsGoodMeta (e : ℕ × ℕ × ℤ × ℤ) : Type 0 where
     pub version_is : e.0 ≡ NEWEST
-    pub cash_is : e.2 ≡ cash_of s.entries
-    pub revenue_is : e.3 ≡ revenue_of s.entries
+    pub cash_is : e.2 ≡ pos 0
+    pub revenue_is : e.3 ≡ pos 0
 
   pub record IsGoodPlan (e : List ℕ × PlanRow) : Type 0 where
     pub room : below < MOST_PLANS

@@ -1,8 +1,8 @@
--- The operator that is read off tables, and which docks have a row
--- there: what the rows spell. A row that spells nothing is absent.
+-- The operator that is read off tables, and what they hold beside it:
+-- what the rows spell. A row that spells nothing is absent.
 -- No sum and no count is read: they are figures of the records.
 use Rattle.std.specs.Prelude.{ℕ, zero, suc, List, [], ◌∷◌, map, if◌then◌else◌, Option, Some, None, option_map}
-use Rattle.std.specs.Prelude.{option_and_then, unwrap_or}
+use Rattle.std.specs.Prelude.{option_and_then, unwrap_or, max, slice_get}
 use Rattle.std.specs.List.{filter_map}
 use Rattle.std.specs.FinMap as fin
 use Rattle.std.specs.FinSet as set
@@ -19,11 +19,11 @@ use Rattle.bike_operator.specs.declared.records.Bike.{Bike}
 use Rattle.bike_operator.specs.declared.records.Rental.{Rental}
 use Rattle.bike_operator.specs.declared.records.Order.{Order}
 use Rattle.bike_operator.specs.Operator.{Operator, Station, Rider, NameKey, DockKey, name_key, dock_key}
-use Rattle.bike_sql.specs.View.{row_with}
+use Rattle.bike_sql.specs.View.{row_with, last_of}
 use Rattle.bike_book.specs.Tables.{Tables}
 use Rattle.bike_book.specs.Rows.{number_value}
 use Rattle.bike_book.specs.Stored.{Listed}
-use Rattle.bike_schema.specs.Columns.{ident_in, state_in, or_none}
+use Rattle.bike_schema.specs.Columns.{ident_in, state_in, moment_in, or_none}
 use Rattle.bike_readings.specs.ColumnReaders.{where_wide, numbered_in, serial_in, dock_in as dock_number_in}
 use Rattle.bike_readings.specs.Readings.{meta_read, system_read, plan_read, segment_read, type_read, region_read}
 use Rattle.bike_readings.specs.Readings.{station_read, dock_read, bike_read, truck_read, rider_read, rental_read}
@@ -153,9 +153,17 @@ broken_in row = option_and_then (λ e. if e.2 then Some (dock_key e.0 e.1) else 
 
 -- ---- the operator
 
--- the moment of the one row of meta, and 0 where there is none
-abbrev pub moment_of : List Row → ℕ
-moment_of rows = unwrap_or (option_map (λ e. e.1) (first (filter_map meta_read rows))) 0
+-- the moment in the one row of meta, and 0 where there is none
+abbrev pub since_of : List Row → ℕ
+since_of rows = unwrap_or (option_map (λ e. e.1) (first (filter_map meta_read rows))) 0
+
+-- the moment in the last row of the history; 0 where there is no row, and where no moment stands in its place
+abbrev pub last_moment_in : List Row → ℕ
+last_moment_in rows = unwrap_or (option_and_then (λ row. moment_in (column row 1)) (slice_get (last_of rows) 0)) 0
+
+-- the operator's moment
+abbrev pub moment_of : Tables → ℕ
+moment_of t = max (since_of t.meta) (last_moment_in t.history)
 
 -- THE OPERATOR THAT IS READ OFF TABLES
 abbrev pub operator_of : Tables → Operator
@@ -174,9 +182,9 @@ operator_of t = record {
   entries = map (λ e. e.1) (filter_map entry_in t.entries);
   history = map (λ e. e.1) (filter_map request_read t.history);
   more_names = fin.from_sorted (filter_map name_in t.more_names);
-  now = moment_of t.meta;
+  now = moment_of t;
 }
 
--- which docks have a row
+-- which docks have a row, and the moment in meta
 abbrev pub listed_of : Tables → Listed
-listed_of t = record { docks = fin.from_sorted (filter_map dock_in t.docks) }
+listed_of t = record { docks = fin.from_sorted (filter_map dock_in t.docks); since = since_of t.meta }

@@ -1,5 +1,5 @@
 -- Which bounds the records of a sound operator keep as rows.
-use Rattle.std.specs.Prelude.{◌≡◌, ℕ, ◌+◌, List, Some}
+use Rattle.std.specs.Prelude.{◌≡◌, ℕ, ◌+◌, ◌≤◌, List, Some}
 use Rattle.std.specs.FinMap as fin
 use Rattle.bike_fields.specs.Values.{SegmentRow}
 use Rattle.bike_catalogue.specs.Rows.{PlanRow, TypeRow, RegionRow, SystemRow, IsSystem}
@@ -18,9 +18,10 @@ use Rattle.bike_readings.specs.Bounds.{IsNumbered, IsStoredMeta, IsStoredPlan, I
 use Rattle.bike_readings.specs.Bounds.{IsStoredRegion, IsStoredStation, IsStoredDock, IsStoredBike, IsStoredTruck}
 use Rattle.bike_readings.specs.Bounds.{IsStoredRental, IsStoredOrder, IsStoredEntry, IsStoredRequest, IsStoredName}
 
--- Each record keeps the bounds of its row. The segment at position n of its plan, from 0, has the number n + 1.
+-- Each record keeps the bounds of its row. The segment at position n of its plan, from 0, has the number n + 1. The
+-- moment in meta is any that isn't after the operator's.
 pub record HasBounds (s : Operator) : Type 0 where
-  pub meta : IsStoredMeta NEWEST s.now
+  pub meta : (since : ℕ) → since ≤ s.now → IsStoredMeta NEWEST since
   pub system : (x : SystemRow) → s.system ≡ Some x → IsSystem x
   pub plans : (id : List ℕ) (p : PlanRow) → fin.get s.plans id ≡ Some p → IsStoredPlan id p
   pub segments : (id : List ℕ) (p : PlanRow) → fin.get s.plans id ≡ Some p → (n : ℕ) (g : SegmentRow)

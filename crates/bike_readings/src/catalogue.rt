@@ -24,11 +24,11 @@ use bike_fixed::{Cents, Moment, Within};
 pub struct StoredMeta {
     /// The version of the schema.
     pub version: Within<1, 4_294_967_295>,
-    /// The greatest moment of an accepted request.
+    /// The moment of the last request of an earlier version, and 0 where there was none.
     pub now: Moment,
-    /// All top-ups, in hundredths.
+    /// 0 in a good row, in hundredths.
     pub cash: Cents,
-    /// All fares less all refunds, in hundredths.
+    /// 0 in a good row, in hundredths.
     pub revenue: Cents,
 }
 

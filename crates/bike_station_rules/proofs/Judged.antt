@@ -24,12 +24,12 @@ use Rattle.bike_judges.proofs.QueryLaws.{stations_verdict, stored_whole}
 use Rattle.bike_judges.proofs.LeastLaw.{least_verdict}
 use Rattle.bike_station_rules.specs.StationRows.{is_good_station}
 use Rattle.bike_station_rules.specs.Stations.{begins, more, good, key, owner, station_opening}
-use Rattle.bike_station_rules.specs.StationVerdicts.{FindsByRow, FindsByNumber, meta_in, now_in, with_region, is_good_row, is_accounted}
+use Rattle.bike_station_rules.specs.StationVerdicts.{FindsByRow, FindsByNumber, with_region, is_good_row, is_accounted}
 use Rattle.bike_station_rules.specs.declared.account.StationAccount.{StationAccount}
 use Rattle.bike_station_rules.specs.declared.dock_set.TheConstants.{PLACES}
 use Rattle.bike_station_rules.proofs.Folds.{others_same}
 use Rattle.bike_station_rules.proofs.RegionLines.{station_key}
-use Rattle.bike_station_rules.proofs.StationVerdict.{now_known, station_verdict}
+use Rattle.bike_station_rules.proofs.StationVerdict.{station_verdict}
 use Rattle.bike_station_rules.specs.Docks.{is_good_dock}
 use Rattle.bike_station_rules.proofs.Widths.{wide}
 use Rattle.bike_station_rules.proofs.DockTest.{dock_verdict, dock_key, joined_dock}
@@ -50,7 +50,7 @@ docks_judged db ours found before zero told earlier =
 -- ---- stations
 
 -- what is found where stations are tested by their rows
-pub rows_judged : (db : Database) → IsOurs db → (now asked : Option ℕ) → asked ≡ now → (found : Option BadKey) (before : ℕ) → before ≡ 0
+pub rows_judged : (db : Database) → IsOurs db → (now asked : ℕ) → asked ≡ now → (found : Option BadKey) (before : ℕ) → before ≡ 0
     → ((verdict : Option Row) → first_failing (is_good_station asked) (take 1) before (lines_of query.StationRows (tables_of db)) ≡ verdict → option_map key_row found ≡ verdict)
     → FindsByRow now db found
 rows_judged db ours now asked same found before zero told =
@@ -104,19 +104,18 @@ numbers_judged db ours found account none closed zero told =
     ((λ i. pass begins more good key (take 1) (sym none i) (sym zero i) (lines_of query.Stations t)) ∙ sym (told _ refl))
 
 -- the moment that was read, and what both passes found
-pub record AreFound (now : Option ℕ) (row : Option BadKey) (db : Database) (number : Option BadKey) : Type 0 where
+pub record AreFound (now : ℕ) (row : Option BadKey) (db : Database) (number : Option BadKey) : Type 0 where
   pub ours : IsOurs db
-  pub now_is : now ≡ now_in (meta_in (tables_of db))
+  pub now_is : now ≡ moment_of (tables_of db)
   pub by_row : FindsByRow now db row
   pub by_number : FindsByNumber db number
 
 -- the lesser of the two keys that were found is the verdict
-pub stations_judged : (db : Database) (now : Option ℕ) (row number least : Option BadKey) → option_map key_row least ≡ least_key (option_map key_row row) (option_map key_row number)
+pub stations_judged : (db : Database) (now : ℕ) (row number least : Option BadKey) → option_map key_row least ≡ least_key (option_map key_row row) (option_map key_row number)
     → AreFound now row db number → JudgesTable Stations db least
 stations_judged db now row number least least_is found earlier =
     let t = tables_of db in
     let up = stored_in_order db in
-    let known : now ≡ Some (moment_of t.meta) = found.now_is ∙ now_known t up earlier in
     subst (IsTableVerdict t Stations) (sym least_is)
-    (station_verdict t up (wide db found.ours.has) now known (least_key (option_map key_row row) (option_map key_row number))
+    (station_verdict t up (wide db found.ours.has) now found.now_is (least_key (option_map key_row row) (option_map key_row number))
     (least_verdict t Stations (Demands t Stations (is_good_row now t)) (Demands t Stations (is_accounted t)) (option_map key_row row) (option_map key_row number) found.by_row found.by_number))

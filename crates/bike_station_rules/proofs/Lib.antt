@@ -9,5 +9,4 @@ pub mod Judged
 pub mod TypesTest
 pub mod StationTest
 pub mod RegionLines
-mod MetaText
 pub mod StationVerdict

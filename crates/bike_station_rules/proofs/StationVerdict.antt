@@ -1,70 +1,35 @@
 -- The verdict on stations: of the row of each and of its numbers.
-use Rattle.std.proofs.Common.{◌≡◌, inl, inr, ℕ, ℤ, List, [], ◌∷◌, Bool, true, ◌&&◌, Option, Some, None, refl, sym, ap, ◌∙◌, subst, arith}
-use Rattle.std.specs.Prelude.{take, nat_lt, option_map, unwrap_or}
-use Rattle.std.specs.List.{cons_option}
+use Rattle.std.proofs.Common.{◌≡◌, ℕ, ℤ, leb, List, Bool, true, ◌&&◌, Option, Some, None, refl, sym, ap, ◌∙◌, subst, arith}
+use Rattle.std.specs.Prelude.{nat_lt}
 use Rattle.std.specs.Option.{IsSomeAnd}
 use Rattle.std.proofs.lemmas.Bool.{and_parts, leb-true, le-leb}
 use Rattle.std.proofs.lemmas.Bool.Decides.{nat_tests}
 use Rattle.sqlite_value.specs.Order.{Row}
 use Rattle.sqlite_rules.specs.Lists.{Has}
-use Rattle.bike_sql.specs.View.{row_with}
 use Rattle.bike_operator.specs.declared.limits.TheConstants.{MOST_STATIONS}
 use Rattle.bike_operator.specs.Rows.{RegionRow}
 use Rattle.bike_operator.specs.Operator.{Station}
-use Rattle.bike_book.specs.Tables.{Tables, Meta, Stations}
+use Rattle.bike_book.specs.Tables.{Tables, Stations}
 use Rattle.bike_book.specs.declared.columns.regions.TheConstants as regions
 use Rattle.bike_book.specs.declared.columns.stations.TheConstants as stations
-use Rattle.bike_book.specs.Rows.{number_value}
-use Rattle.bike_readings.specs.Readings.{meta_read, region_read, station_read}
+use Rattle.bike_readings.specs.Readings.{region_read, station_read}
 use Rattle.bike_readings.proofs.CatalogueRows.{station_reading}
-use Rattle.bike_readings.specs.ReadOff.{operator_of, moment_of, first}
-use Rattle.bike_readings.specs.Demands.{IsGoodMeta, IsGoodStation}
-use Rattle.bike_readings.specs.Rules.{AreInOrder, row_under, rows_below, IsGoodKey, IsGoodAt}
-use Rattle.bike_readings.proofs.Places.{has_under, under_has}
-use Rattle.bike_readings.proofs.ReadRows.{IsMeta, meta_are}
-use Rattle.bike_readings.proofs.RowRules.{some_with}
+use Rattle.bike_readings.specs.ReadOff.{operator_of, moment_of}
+use Rattle.bike_readings.specs.Demands.{IsGoodStation}
+use Rattle.bike_readings.specs.Rules.{AreInOrder, row_under, rows_below, IsGoodKey}
 use Rattle.bike_judges.specs.Lines.{part}
 use Rattle.bike_judges.specs.Passes.{Demands, OfRow}
-use Rattle.bike_judges.specs.Verdicts.{EarlierGood, IsFirstFailing, IsTableVerdict}
-use Rattle.bike_station_rules.specs.StationRows.{is_by, has_region, stands_well}
-use Rattle.bike_station_rules.specs.StationVerdicts.{meta_in, now_in, with_region, is_good_row, is_accounted}
+use Rattle.bike_judges.specs.Verdicts.{IsFirstFailing, IsTableVerdict}
+use Rattle.bike_station_rules.specs.StationRows.{has_region, stands_well}
+use Rattle.bike_station_rules.specs.StationVerdicts.{with_region, is_good_row, is_accounted}
 use Rattle.bike_station_rules.proofs.OfRows.{IsTestOf, demands_good, good_demands, same_verdict}
 use Rattle.bike_station_rules.proofs.DockTest.{AreWide}
 use Rattle.bike_station_rules.proofs.RegionLines.{own_part, region_is}
 use Rattle.bike_station_rules.proofs.StationTest.{HasNumbers, with_all_good, good_with_all}
 
--- ---- the operator's moment
-
-module _ (t : Tables) (up : AreInOrder t) (earlier : EarlierGood t Stations) where
-  good_meta : (r : Row) → Has t.meta r → IsSomeAnd (meta_read r) (IsGoodMeta (operator_of t) (rows_below t Meta (take 1 r)))
-  good_meta r has = subst (IsGoodAt t (operator_of t) Meta (take 1 r) (rows_below t Meta (take 1 r))) (has_under 1 t.meta r (up Meta) has) (earlier Meta (take 1 r) (omega arith))
-
-  never_none : row_with 1 (number_value 1 ∷ []) t.meta ≡ None → ⊥
-  never_none none = subst (IsGoodAt t (operator_of t) Meta (number_value 1 ∷ []) (rows_below t Meta (number_value 1 ∷ []))) none (earlier Meta (number_value 1 ∷ []) (omega arith)) refl
-
-  one_meta : IsMeta (operator_of t) t.meta
-  one_meta = meta_are (operator_of t) t.meta (up Meta) (λ r has. (rows_below t Meta (take 1 r), good_meta r has)) never_none
-
-  pub now_known : now_in (meta_in t) ≡ Some (moment_of t.meta)
-  now_known = go (meta_in t) refl where
-    only : (r m : Row) → Has (m ∷ []) r → m ≡ r
-    only r m (inl is) = sym is
-    only r m (inr none) = elim none [ ]
-
-    go : (o : Option Row) → meta_in t ≡ o → now_in o ≡ Some (moment_of t.meta)
-    go None e = absurd (never_none e)
-    go (Some r) e =
-        let has = (under_has 1 (number_value 1 ∷ []) t.meta r e).0 in
-        let it = some_with (IsGoodMeta (operator_of t) (rows_below t Meta (take 1 r))) (meta_read r) (good_meta r has) in
-        let all = one_meta.rows_are in
-        let same = only r _ (subst (λ (rows : List Row). Has rows r) all has) in
-        let now : moment_of t.meta ≡ it.value.1 =
-        ap moment_of (all ∙ ap (λ (m : Row). m ∷ []) same) ∙ ap (λ (o : Option (ℕ × ℕ × ℤ × ℤ)). unwrap_or (option_map (λ (x : ℕ × ℕ × ℤ × ℤ). x.1) (first (cons_option o []))) 0) it.value_is in
-        ap (option_map (λ (x : ℕ × ℕ × ℤ × ℤ). x.1)) it.value_is ∙ ap Some (sym now)
-
 -- ---- what is demanded of a station
 
-module _ (t : Tables) (up : AreInOrder t) (wide : AreWide t) (now : Option ℕ) (now_is : now ≡ Some (moment_of t.meta)) where
+module _ (t : Tables) (up : AreInOrder t) (wide : AreWide t) (now : ℕ) (now_is : now ≡ moment_of t) where
   abbrev both : ℕ → Row → Bool
   both n row = is_good_row now t n row && is_accounted t n row
 
@@ -86,13 +51,13 @@ module _ (t : Tables) (up : AreInOrder t) (wide : AreWide t) (now : Option ℕ) 
       go None e room numbers = absurd cc
       go (Some x) e room numbers =
           let law = (station_reading.sound row x e).1 in
-          let there = and_parts (nat_lt below MOST_STATIONS && is_by now x.1.reported) (has_region x.1.region (region_beside row)) room in
-          let two = and_parts (nat_lt below MOST_STATIONS) (is_by now x.1.reported) there.0 in
+          let there = and_parts (nat_lt below MOST_STATIONS && leb x.1.reported now) (has_region x.1.region (region_beside row)) room in
+          let two = and_parts (nat_lt below MOST_STATIONS) (leb x.1.reported now) there.0 in
           let fits = two.0 in
-          let by = ap (λ (o : Option ℕ). is_by o x.1.reported) (sym now_is) ∙ two.1 in
+          let by = ap (leb x.1.reported) (sym now_is) ∙ two.1 in
           record {
             room = grind (arith, nat_tests, fits);
-            good = record { id_is = law.id_is; good = law.good; by_now = leb-true x.1.reported (moment_of t.meta) by; region = sym (region_is t up wide row x has e) ∙ there.1 };
+            good = record { id_is = law.id_is; good = law.good; by_now = leb-true x.1.reported (moment_of t) by; region = sym (region_is t up wide row x has e) ∙ there.1 };
             free_is = numbers.free_is;
             broken_is = numbers.broken_is;
             by_type_is = numbers.by_type_is;
@@ -105,7 +70,7 @@ module _ (t : Tables) (up : AreInOrder t) (wide : AreWide t) (now : Option ℕ) 
     go (Some x) e g =
         let room = g.room in
         let fits : nat_lt below MOST_STATIONS ≡ true = grind (arith, nat_tests, room) in
-        let by : is_by now x.1.reported ≡ true = ap (λ (o : Option ℕ). is_by o x.1.reported) now_is ∙ le-leb x.1.reported (moment_of t.meta) g.good.by_now in
+        let by : leb x.1.reported now ≡ true = ap (leb x.1.reported) now_is ∙ le-leb x.1.reported (moment_of t) g.good.by_now in
         let there = region_is t up wide row x has e ∙ g.good.region in
         let alone : is_good_row now t below row ≡ true = asked below row has ∙ ap (λ (o : Option (List ℕ × Station × ℤ × ℕ × List ℕ)). stands_well now below o (region_beside row)) e ∙ (λ i. ((fits i && by i) && there i)) in
         let numbers : IsSomeAnd (station_read row) (HasNumbers t up wide) = subst (λ (o : Option (List ℕ × Station × ℤ × ℕ × List ℕ)). IsSomeAnd o (HasNumbers t up wide)) (sym e) (record { free_is = g.free_is; broken_is = g.broken_is; by_type_is = g.by_type_is }) in

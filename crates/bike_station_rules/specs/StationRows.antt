@@ -9,23 +9,18 @@ use Rattle.bike_operator.specs.Operator.{Station}
 use Rattle.bike_readings.specs.Readings.{region_read, station_read}
 use Rattle.bike_judges.specs.Lines.{part}
 
--- not after now, where that is known
-abbrev pub is_by : Option ℕ → ℕ → Bool
-is_by None moment = false
-is_by (Some now) moment = leb moment now
-
 -- the region that was read is there, or the station names none
 abbrev pub has_region : Option (List ℕ) → Option (List ℕ × RegionRow) → Bool
 has_region None region = true
 has_region (Some id) region = is_some region
 
-abbrev pub stands_well : Option ℕ → ℕ → Option (List ℕ × Station × ℤ × ℕ × List ℕ) → Option (List ℕ × RegionRow) → Bool
+abbrev pub stands_well : ℕ → ℕ → Option (List ℕ × Station × ℤ × ℕ × List ℕ) → Option (List ℕ × RegionRow) → Bool
 stands_well now before None region = false
 stands_well now before (Some e) region =
-    (nat_lt before MOST_STATIONS && is_by now e.1.reported) && has_region e.1.region region
+    (nat_lt before MOST_STATIONS && leb e.1.reported now) && has_region e.1.region region
 
 -- a line has a station's row and that of its region
-abbrev pub is_good_station : Option ℕ → ℕ → Row → Bool
+abbrev pub is_good_station : ℕ → ℕ → Row → Bool
 is_good_station now before line =
     stands_well now before (station_read (part 0 stations.COLUMNS line))
     (region_read (part stations.COLUMNS regions.COLUMNS line))

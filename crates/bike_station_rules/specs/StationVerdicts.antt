@@ -1,13 +1,11 @@
 -- What the two passes over stations find.
-use Rattle.std.specs.Prelude.{ℕ, [], ◌∷◌, ◌++◌, map, take, Bool, Option, option_map, option_and_then}
+use Rattle.std.specs.Prelude.{ℕ, [], ◌∷◌, ◌++◌, map, take, Bool, Option, option_map}
 use Rattle.sqlite_value.specs.Order.{Row, column}
 use Rattle.sqlite.specs.Effect.{Database}
-use Rattle.bike_sql.specs.View.{row_with, partner}
+use Rattle.bike_sql.specs.View.{partner}
 use Rattle.bike_book.specs.Tables.{Tables, Stations}
-use Rattle.bike_book.specs.Rows.{number_value}
 use Rattle.bike_book.specs.declared.columns.regions.TheConstants as regions
 use Rattle.bike_schema.specs.Tables.{tables_of}
-use Rattle.bike_readings.specs.Readings.{meta_read}
 use Rattle.bike_judges.specs.Judging.{key_row}
 use Rattle.bike_judges.specs.Lines.{with_one, station_line, station_dock_line, station_bike_line}
 use Rattle.bike_judges.specs.Passes.{Demands, is_good_with}
@@ -16,22 +14,15 @@ use Rattle.bike_judges.specs.declared.key.BadKey.{BadKey}
 use Rattle.bike_station_rules.specs.StationRows.{is_good_station}
 use Rattle.bike_station_rules.specs.Stations.{begins, more, good, key}
 
--- row 1 of meta, and the moment that it tells
-abbrev pub meta_in : Tables → Option Row
-meta_in t = row_with 1 (number_value 1 ∷ []) t.meta
-
-abbrev pub now_in : Option Row → Option ℕ
-now_in row = option_map (λ e. e.1) (option_and_then meta_read row)
-
 -- a station's row with that of its region
 abbrev pub with_region : Tables → Row → Row
 with_region t row = with_one regions.COLUMNS row (partner 1 (column row 11 ∷ []) t.regions)
 
-abbrev pub is_good_row : Option ℕ → Tables → ℕ → Row → Bool
+abbrev pub is_good_row : ℕ → Tables → ℕ → Row → Bool
 is_good_row now t n row = is_good_station now n (with_region t row)
 
 -- the first station whose row isn't good, where it is now that moment
-abbrev pub FindsByRow : Option ℕ → Database → Option BadKey → Type 0
+abbrev pub FindsByRow : ℕ → Database → Option BadKey → Type 0
 FindsByRow now db found =
     IsFirstFailing (tables_of db) Stations (Demands (tables_of db) Stations (is_good_row now (tables_of db)))
     (option_map key_row found)

@@ -5,7 +5,7 @@ ghost use Rattle.bike_book.specs.declared.columns.regions.TheConstants as region
 ghost use Rattle.bike_readings.specs.Readings.{region_read};
 ghost use Rattle.bike_judges.specs.Lines.{part};
 ghost use Rattle.bike_station_rules.specs.declared.station_rows.TheConstants.{REGION_AT};
-ghost use Rattle.bike_station_rules.specs.StationRows.{is_by, has_region, is_good_station};
+ghost use Rattle.bike_station_rules.specs.StationRows.{has_region, is_good_station};
 
 use bike_book::columns::{regions, stations};
 use bike_fixed::Moment;
@@ -25,18 +25,8 @@ const REGION_AT: usize = STATION_AT + stations::COLUMNS;
 /// A line has the row of a station with that of its region.
 #[derive(Drop)]
 pub(crate) struct StationTest {
-    /// The operator's moment, where it is known.
-    pub(crate) now: Option<Moment>,
-}
-
-/// Whether the moment isn't after now, where that is known.
-fn is_by(now: Option<Moment>, moment: Moment) -> bool
-    ensures { result ≡ is_by now moment }
-{
-    match now {
-        Some(now) => moment.seconds() <= now.seconds(),
-        None => false,
-    }
+    /// The operator's moment.
+    pub(crate) now: Moment,
 }
 
 /// Whether the region is there that a station names, if it names one.
@@ -61,7 +51,7 @@ impl LineTest for StationTest {
         };
         Ok(
             before < u64::from(MOST_STATIONS)
-                && is_by(self.now, station.reported)
+                && station.reported.seconds() <= self.now.seconds()
                 && has_region(station.region, line),
         )
     }

@@ -1,6 +1,4 @@
-use Rattle.std.proofs.Common.{arith}
 use Rattle.bike_sql.proofs.ChainLaws.{reads_both, reads_failed, reads_refused}
-use Rattle.bike_book.specs.Tables.{Meta}
 use Rattle.bike_ledger_rules.proofs.EntryVerdict.{entries_judged}
 use Rattle.bike_ledger_rules.proofs.ReadLaws.{reads_ours}
 use Rattle.bike_ledger_rules.proofs.entries.judge_entries.Goals as goal
@@ -20,5 +18,5 @@ returns g c =
     reads_ours
     (reads_both c.in_ok-moment.ensures (reads_both c.in_ok-rentals.ensures (reads_both c.in_ok-riders.ensures c.judge_lines.ensures)))
     (λ db ours found it earlier.
-    entries_judged db ours c.in_ok-moment.moment (it.0 (λ key. earlier Meta key (omega arith)))
+    entries_judged db ours c.in_ok-moment.moment it.0
     c.in_ok-rentals.rentals it.1.0 c.in_ok-fares.fares c.in_ok-fares.ensures c.in_ok-riders.riders it.1.1.0 earlier found it.1.1.1)

@@ -1,6 +1,4 @@
-use Rattle.std.proofs.Common.{arith}
 use Rattle.bike_sql.proofs.ChainLaws.{reads_both, reads_failed}
-use Rattle.bike_book.specs.Tables.{Meta}
 use Rattle.bike_ledger_rules.proofs.HistoryVerdict.{history_judged}
 use Rattle.bike_ledger_rules.proofs.ReadLaws.{reads_ours_as}
 use Rattle.bike_ledger_rules.proofs.history.judge_history.Goals as goal
@@ -17,5 +15,5 @@ returns g c =
     reads_ours_as
     (reads_both c.in_ok-moment.ensures (reads_both c.in_ok-by_order.ensures c.in_ok-by_keys.ensures))
     (λ db ours it earlier.
-    history_judged db ours c.in_ok-moment.moment (it.0 (λ key. earlier Meta key (omega arith))) c.in_ok-by_order.by_order c.in_ok-by_keys.by_keys c.least.result
+    history_judged db ours c.in_ok-moment.moment it.0 c.in_ok-by_order.by_order c.in_ok-by_keys.by_keys c.least.result
     c.least.ensures it.1.0 it.1.1)

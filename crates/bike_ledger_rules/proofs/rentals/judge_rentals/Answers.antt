@@ -1,6 +1,4 @@
-use Rattle.std.proofs.Common.{arith}
 use Rattle.bike_sql.proofs.ChainLaws.{reads_both, reads_failed}
-use Rattle.bike_book.specs.Tables.{Meta}
 use Rattle.bike_schema.specs.Tables.{tables_of}
 use Rattle.bike_ledger_rules.proofs.ReadLaws.{reads_ours}
 use Rattle.bike_ledger_rules.proofs.RentalFolds.{rentals_failing}
@@ -21,6 +19,6 @@ returns g c =
     reads_ours
     (reads_both c.in_ok-moment.ensures (reads_both c.in_ok-names.ensures (reads_both c.in_ok-sums.ensures c.judge_lines.ensures)))
     (λ db ours found it earlier.
-    rentals_judged db earlier now (it.0 (λ key. earlier Meta key (omega arith))) found
+    rentals_judged db earlier now it.0 found
     (rentals_failing db now c.in_ok-names.names it.1.0 c.in_ok-sums.sums it.1.1.0 found
     (λ v is. it.1.1.1 v (c.new.ensures.says (tables_of db).rentals v is))))
