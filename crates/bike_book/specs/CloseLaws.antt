@@ -42,7 +42,7 @@ module _ (s : Operator) (m : Listed) (now : ℕ) (q : Request) (r : Reply) (numb
       (cash revenue : ℤ) → cash ≡ cash_of s.entries → revenue ≡ revenue_of s.entries
       → Books (row.SetMeta now cash revenue ∷ row.AddRequest number now caller key command reply ∷ []) s m (after_close now q r s) m
 
-  -- a top-up or a fare, which gives nothing back
+  -- an entry that gives nothing back, as a top-up or a fare
   abbrev pub EntryCloseLaw : Type 0
   EntryCloseLaw =
       (e : Bor Entry) (balance cash revenue : ℤ) → AreNumbersWith s e.now balance cash revenue

@@ -29,32 +29,38 @@ pub fn balance_after(balance: Cents, entry: &Entry) -> Cents
 {
     let amount = entry.amount().hundredths();
     match entry.kind() {
-        EntryKind::TopUp | EntryKind::Refund => Cents::new(balance.hundredths() + amount),
-        EntryKind::Fare => Cents::new(balance.hundredths() - amount),
+        EntryKind::TopUp | EntryKind::Refund | EntryKind::Credit => {
+            Cents::new(balance.hundredths() + amount)
+        }
+        EntryKind::Fare | EntryKind::Withdrawal | EntryKind::Charge => {
+            Cents::new(balance.hundredths() - amount)
+        }
     }
 }
 
-/// The cash after the entry, in hundredths: a top-up comes in, nothing else moves cash.
+/// The cash after the entry, in hundredths: a top-up comes in, a withdrawal goes out, nothing else moves cash.
 pub fn cash_after(cash: Cents, entry: &Entry) -> Cents
     requires cash { IsBalance cash }
     ensures { result ≡ cash +ℤ cash_in entry.now.kind entry.now.amount }
 {
     match entry.kind() {
         EntryKind::TopUp => Cents::new(cash.hundredths() + entry.amount().hundredths()),
-        EntryKind::Fare | EntryKind::Refund => cash,
+        EntryKind::Withdrawal => Cents::new(cash.hundredths() - entry.amount().hundredths()),
+        EntryKind::Fare | EntryKind::Refund | EntryKind::Charge | EntryKind::Credit => cash,
     }
 }
 
-/// The revenue after the entry, in hundredths: a fare is earned, and a refund is given back out of it.
+/// The revenue after the entry, in hundredths: a fare and a charge are earned, and a refund and a credit are given out
+/// of it.
 pub fn revenue_after(revenue: Cents, entry: &Entry) -> Cents
     requires revenue { IsBalance revenue }
     ensures { result ≡ revenue +ℤ revenue_in entry.now.kind entry.now.amount }
 {
     let earned = entry.amount().hundredths();
     match entry.kind() {
-        EntryKind::TopUp => revenue,
-        EntryKind::Fare => Cents::new(revenue.hundredths() + earned),
-        EntryKind::Refund => Cents::new(revenue.hundredths() - earned),
+        EntryKind::TopUp | EntryKind::Withdrawal => revenue,
+        EntryKind::Fare | EntryKind::Charge => Cents::new(revenue.hundredths() + earned),
+        EntryKind::Refund | EntryKind::Credit => Cents::new(revenue.hundredths() - earned),
     }
 }
 
