@@ -64,7 +64,7 @@ def agree(table, row):
         return (row["propulsion"] == b"human") == (row["range_m"] == 0)
     if table == "entries":
         least, most = (0, formats.GREATEST_FARE) if row["kind"] == 2 else (1, 1_000_000)
-        return least <= row["amount"] <= most and (row["rental"] == 0) == (row["kind"] == 1)
+        return least <= row["amount"] <= most and (row["rental"] > 0) == (row["kind"] in (2, 3))
     if table == "rentals":
         return (row["finish"] is None) == (row["fare"] is None) and (
             row["finish"] is not None or row["to_station"] is None
@@ -221,7 +221,8 @@ class Audit:
 
     def riders(self, row, at):
         riding = sum(it["rider"] == row["rider"] and it["finish"] is None for it in self.good["rentals"])
-        balance = self.sum(1, rider=row["rider"]) - self.sum(2, rider=row["rider"]) + self.sum(3, rider=row["rider"])
+        signs = {1: 1, 2: -1, 3: 1, 4: -1, 5: -1, 6: 1}
+        balance = sum(sign * self.sum(kind, rider=row["rider"]) for kind, sign in signs.items())
         return row["balance"] == balance and riding <= 1
 
     def rentals(self, row, at):
@@ -261,7 +262,7 @@ class Audit:
     def entries(self, row, at):
         if row["entry"] != at + 1 or row["rider"] not in self.by["riders"] or row["at"] > self.now():
             return False
-        if row["kind"] == 1:
+        if row["rental"] == 0:
             return True
         rental = self.by["rentals"].get(row["rental"])
         if rental is None or rental["finish"] is None or rental["rider"] != row["rider"]:

@@ -90,6 +90,23 @@ def test_recovered_rental_ends_nowhere(program):
     )
 
 
+def test_entries_of_kinds_that_no_command_makes(program):
+    """A withdrawal, a charge and a credit are written into the file, with the balance that they leave."""
+    ask(program, CITY)
+    added = [(2, 4, "withdrawal", 100, "1.00"), (3, 5, "charge", 1, "0.01"), (4, 6, "credit", 1000000, "10000.00")]
+    rows = ", ".join(f"({number}, {kind}, 17, 0, {amount}, 1699999200)" for number, kind, _, amount, _ in added)
+    change = f"INSERT INTO entries VALUES {rows}; UPDATE riders SET balance = 1002399 WHERE rider = 17"
+    changed(Path(program.folder, "city.db"), change)
+    is_sound(program)
+    lines = [f"{number},{name},17,0,{amount}" for number, _, name, _, amount in added]
+    lines = "".join(f"{it},2023-11-14T22:00:00Z\n" for it in ["1,topup,17,0,25.00", *lines])
+    assert table(program, "entries", "2023-11-14", "UTC0") == ENTRIES + lines
+    assert ask(program, ["top-up\t17\t1"], first=50) == ["balance\t1002400"]
+    lines += "5,topup,17,0,0.01,2023-11-14T22:00:00Z\n"
+    assert table(program, "entries", "2023-11-14", "UTC0") == ENTRIES + lines
+    is_sound(program)
+
+
 def test_a_file_without_tables_has_an_empty_day(program):
     changed(Path(program.folder, "city.db"), "CREATE TABLE notes (note TEXT)")
     assert table(program, "entries", "2024-03-31", "UTC0") == ENTRIES

@@ -359,6 +359,42 @@ def test_history(program):
     holds(program, city, changes, of_rows, "history")
 
 
+def with_entry(number, kind, rental, amount, more):
+    """One more entry of rider 17, and so much more on the rider's balance."""
+    return by_script(
+        f"INSERT INTO entries VALUES ({number}, {kind}, 17, {rental}, {amount}, 1700000000); "
+        f"UPDATE riders SET balance = balance + {more} WHERE rider = 17"
+    )
+
+
+def test_entries_of_each_kind(program):
+    """An entry more of each kind and of others, of no rental, of a closed one and of an open one, with a balance that
+    fits and with others. First by hand, and then all of it in one sample of its own."""
+    city, _ = made(program)
+    number = len(tables_of(city, program)["entries"]) + 1
+    for salt, right, rows in (
+        ("sound kinds", SOUND, [(4, 0, 30, -30), (5, 0, 30, -30), (6, 0, 30, 30), (4, 0, 1_000_000, -1_000_000)]),
+        ("balances", (5, b"", b"unsound riders 17\n"), [(4, 0, 30, 30), (5, 0, 30, 0), (6, 0, 30, -30)]),
+        (
+            "no kinds", (5, b"", f"unsound entries {number}\n".encode()),
+            [
+                (7, 0, 30, 0), (0, 0, 30, 0), (4, 1, 30, 0), (5, 1, 30, 0), (6, 1, 30, 0), (4, 0, 0, 0),
+                (6, 0, 1_000_001, 0),
+            ],
+        ),
+    ):
+        changes = [(repr(it), with_entry(number, *it)) for it in rows]
+        holds(program, city, changes, lambda file, told, right=right: [right], salt)
+    changes = [
+        (repr((kind, rental, amount, sign)), with_entry(number, kind, rental, amount, sign * amount))
+        for kind in range(9)
+        for rental in (0, 1, 4)
+        for amount in (0, 1, 1_000_000, 1_000_001)
+        for sign in (-1, 0, 1)
+    ]
+    holds(program, city, changes, of_rows, "entries")
+
+
 def with_names(*rows):
     """Rows of more_names, whatever stood under their keys."""
     sql = f"INSERT OR REPLACE INTO more_names VALUES {', '.join(['(?, ?, ?, ?)'] * len(rows))}"

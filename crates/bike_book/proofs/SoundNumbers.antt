@@ -9,7 +9,7 @@ use Rattle.std.proofs.lemmas.Bool.Decides.{eqb_tells}
 use Rattle.std.proofs.lemmas.Slice.Eq.{bytes_eq-Decides}
 use Rattle.bike_ledger.specs.Entries.{Entry}
 use Rattle.bike_ledger.specs.declared.entry.EntryKind.{EntryKind}
-use Rattle.bike_ledger.specs.declared.entry.EntryKind.TheVariants.{TopUp, Fare, Refund}
+use Rattle.bike_ledger.specs.declared.entry.EntryKind.TheVariants.{TopUp, Fare, Refund, Withdrawal, Charge, Credit}
 use Rattle.bike_ledger.specs.Ledger.{total, credit, given_back, given_back_of, share}
 use Rattle.bike_operator.specs.declared.records.Place.{Place}
 use Rattle.bike_operator.specs.declared.records.Place.TheVariants as place
@@ -53,6 +53,9 @@ module _ (s : Operator) (sound : IsSound s) where
   none_given n low e TopUp b = either_none (e.rental == n) (pos 0) refl
   none_given n low e Fare b = either_none (e.rental == n) (pos 0) refl
   none_given n low e Refund b = ap (λ (c : Bool). cond c e.amount (pos 0)) (other_rental n low e b.0)
+  none_given n low e Withdrawal b = either_none (e.rental == n) (pos 0) refl
+  none_given n low e Charge b = either_none (e.rental == n) (pos 0) refl
+  none_given n low e Credit b = either_none (e.rental == n) (pos 0) refl
 
   refunds : NoRefundsYet s
   refunds n low = nothing_added (given_back_of n) s.entries (λ i e is. none_given n low e e.kind (sound.ledger.entries (suc i) e is).booking)

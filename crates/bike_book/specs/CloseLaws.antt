@@ -37,7 +37,7 @@ module _ (s : Operator) (m : Listed) (now : ℕ) (q : Request) (r : Reply) (numb
   abbrev pub QuietCloseLaw : Type 0
   QuietCloseLaw = Books (row.AddRequest number now caller key command reply ∷ []) s m (after_close now q r s) m
 
-  -- a top-up or a fare, which gives nothing back
+  -- an entry that gives nothing back, as a top-up or a fare
   abbrev pub EntryCloseLaw : Type 0
   EntryCloseLaw =
       (e : Bor Entry) (balance : ℤ) → AreNumbersWith s e.now balance

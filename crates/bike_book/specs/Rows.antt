@@ -10,7 +10,7 @@ use Rattle.bike_operator.specs.Rows.{PlanRow, TypeRow, RegionRow, SystemRow}
 use Rattle.bike_fields.specs.Vehicle.{form_text, propulsion_text}
 use Rattle.bike_ledger.specs.Entries.{Entry}
 use Rattle.bike_ledger.specs.declared.entry.EntryKind.{EntryKind}
-use Rattle.bike_ledger.specs.declared.entry.EntryKind.TheVariants.{TopUp, Fare, Refund}
+use Rattle.bike_ledger.specs.declared.entry.EntryKind.TheVariants.{TopUp, Fare, Refund, Withdrawal, Charge, Credit}
 use Rattle.bike_operator.specs.OrderEnd.{OrderEnd}
 use Rattle.bike_operator.specs.OrderEnd.TheVariants as end
 use Rattle.bike_operator.specs.declared.records.BikeState.{BikeState}
@@ -123,13 +123,16 @@ order_row ord o =
     ∷ number_value o.count ∷ number_value o.delivered
     ∷ Int (truth o.is_open) ∷ []
 
--- 1 topup, 2 fare, 3 refund
+-- 1 topup, 2 fare, 3 refund, 4 withdrawal, 5 charge, 6 credit
 abbrev pub kind_number : EntryKind → ℤ
 kind_number TopUp = pos 1
 kind_number Fare = pos 2
 kind_number Refund = pos 3
+kind_number Withdrawal = pos 4
+kind_number Charge = pos 5
+kind_number Credit = pos 6
 
--- entry, kind, rider, rental (0 for a top-up), amount (hundredths), at (seconds)
+-- entry, kind, rider, rental (0 but for a fare and a refund), amount (hundredths), at (seconds)
 abbrev pub entry_row : ℕ → Entry → Row
 entry_row entry e =
     number_value entry ∷ Int (kind_number e.kind) ∷ number_value e.rider ∷ number_value e.rental ∷ Int e.amount

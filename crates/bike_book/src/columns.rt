@@ -333,13 +333,13 @@ pub mod entries {
     /// The entry's number.
     pub const ENTRY: usize = 0;
 
-    /// The number of its kind: top-up, fare or refund.
+    /// The number of its kind: 1 to 6.
     pub const KIND: usize = 1;
 
     /// The rider's number.
     pub const RIDER: usize = 2;
 
-    /// 0 for a top-up.
+    /// 0 but for a fare and a refund.
     pub const RENTAL: usize = 3;
 
     /// Hundredths.

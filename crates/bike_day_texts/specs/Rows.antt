@@ -4,7 +4,7 @@ use Rattle.std.specs.List.{flat_map}
 use Rattle.csv.specs.Writing.{default_writer, row_text}
 use Rattle.bike_fixed.specs.Text.{cents_text, moment_text}
 use Rattle.bike_ledger.specs.declared.entry.EntryKind.{EntryKind}
-use Rattle.bike_ledger.specs.declared.entry.EntryKind.TheVariants.{TopUp, Fare, Refund}
+use Rattle.bike_ledger.specs.declared.entry.EntryKind.TheVariants.{TopUp, Fare, Refund, Withdrawal, Charge, Credit}
 use Rattle.bike_ledger.specs.Entries.{Entry}
 use Rattle.bike_day_texts.specs.declared.table.DayTable.{DayTable}
 use Rattle.bike_day_texts.specs.declared.table.DayTable.TheVariants.{Entries, Rentals}
@@ -28,8 +28,11 @@ abbrev pub kind_name : EntryKind → List ℕ
 kind_name TopUp = codes "topup"
 kind_name Fare = codes "fare"
 kind_name Refund = codes "refund"
+kind_name Withdrawal = codes "withdrawal"
+kind_name Charge = codes "charge"
+kind_name Credit = codes "credit"
 
--- a top-up shows the rental 0
+-- an entry of no rental shows the rental 0
 abbrev pub entry_fields : Entry → List (List ℕ)
 entry_fields e =
     decimal e.number ∷ kind_name e.kind ∷ decimal e.rider ∷ decimal e.rental ∷ cents_text e.amount ∷ moment_text e.at

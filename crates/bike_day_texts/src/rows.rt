@@ -59,10 +59,13 @@ fn name_of(kind: EntryKind) -> &'static str
         EntryKind::TopUp => "topup",
         EntryKind::Fare => "fare",
         EntryKind::Refund => "refund",
+        EntryKind::Withdrawal => "withdrawal",
+        EntryKind::Charge => "charge",
+        EntryKind::Credit => "credit",
     }
 }
 
-/// Writes an entry's row as one line; a top-up's rental is 0. Faults come as those of `write_header` do.
+/// Writes an entry's row as one line; the rental is 0 where it is of none. Faults come as those of `write_header` do.
 pub fn write_entry<W: Write>(alloc: Global, entry: &Entry, out: &mut W) -> Result<(), LineFault>
     ensures { WritesLine (W.contents out.old) (W.contents out.new) (entry_line entry.now) result }
 {

@@ -7,7 +7,7 @@ use Rattle.std.proofs.lemmas.List.{map-append}
 use Rattle.std.proofs.lemmas.List.Elements.{filter-append}
 use Rattle.bike_ledger.specs.Entries.{Entry}
 use Rattle.bike_ledger.specs.declared.entry.EntryKind.{EntryKind}
-use Rattle.bike_ledger.specs.declared.entry.EntryKind.TheVariants.{TopUp, Fare, Refund}
+use Rattle.bike_ledger.specs.declared.entry.EntryKind.TheVariants.{TopUp, Fare, Refund, Withdrawal, Charge, Credit}
 use Rattle.bike_ledger.specs.Ledger.{credit, balance_of, given_back, given_back_of, refunded_of, IsAmount, AreAmounts}
 use Rattle.bike_ledger.specs.Entries.{greatest_amount}
 use Rattle.bike_ledger.proofs.SumLemmas.{total-append}
@@ -26,6 +26,9 @@ booking_amount : (s : Operator) (e : Entry) (k : EntryKind) → IsBooking s e k 
 booking_amount s e TopUp b = payment_amount e.amount b.1
 booking_amount s e Fare b = record { low = b.1; high = b.2 }
 booking_amount s e Refund b = payment_amount e.amount b.1
+booking_amount s e Withdrawal b = payment_amount e.amount b.1
+booking_amount s e Charge b = payment_amount e.amount b.1
+booking_amount s e Credit b = payment_amount e.amount b.1
 
 each_amount : (es : List Entry) → ((n : ℕ) (e : Entry) → item_at n es ≡ Some e → IsAmount e.amount) → AreAmounts es
 each_amount [] each = tt
@@ -49,6 +52,9 @@ credit_share : (k : EntryKind) (z : ℤ) → IsAmount z → IsShare (credit k z)
 credit_share TopUp z is = let low = is.low in let high = is.high in record { low = omega (arith, ints, low); high = omega (arith, ints, high) }
 credit_share Fare z is = let low = is.low in let high = is.high in record { low = omega (arith, ints, high); high = omega (arith, ints, low) }
 credit_share Refund z is = let low = is.low in let high = is.high in record { low = omega (arith, ints, low); high = omega (arith, ints, high) }
+credit_share Withdrawal z is = let low = is.low in let high = is.high in record { low = omega (arith, ints, high); high = omega (arith, ints, low) }
+credit_share Charge z is = let low = is.low in let high = is.high in record { low = omega (arith, ints, high); high = omega (arith, ints, low) }
+credit_share Credit z is = let low = is.low in let high = is.high in record { low = omega (arith, ints, low); high = omega (arith, ints, high) }
 
 own_share : (own : Bool) (z : ℤ) → IsShare z → IsShare (cond own z (pos 0))
 own_share true z is = is
@@ -77,6 +83,9 @@ own_refund : (own : Bool) (k : EntryKind) (z : ℤ) → IsAmount z → pos 0 ≤
 own_refund true TopUp z is = omega (arith, ints)
 own_refund true Fare z is = omega (arith, ints)
 own_refund true Refund z is = is.low
+own_refund true Withdrawal z is = omega (arith, ints)
+own_refund true Charge z is = omega (arith, ints)
+own_refund true Credit z is = omega (arith, ints)
 own_refund false k z is = omega (arith, ints)
 
 pub refunded_low : (es : List Entry) (rental : ℕ) → AreAmounts es → pos 0 ≤ℤ refunded_of rental es

@@ -5,7 +5,7 @@ use Rattle.std.specs.FinMap as finmap
 use Rattle.std.proofs.lemmas.Option.{same_Some}
 use Rattle.bike_ledger.specs.Entries.{Entry}
 use Rattle.bike_ledger.specs.declared.entry.EntryKind.{EntryKind}
-use Rattle.bike_ledger.specs.declared.entry.EntryKind.TheVariants.{TopUp, Fare, Refund}
+use Rattle.bike_ledger.specs.declared.entry.EntryKind.TheVariants.{TopUp, Fare, Refund, Withdrawal, Charge, Credit}
 use Rattle.bike_operator.specs.declared.records.Rental.{Rental}
 use Rattle.bike_operator.specs.declared.records.Closing.{Closing}
 use Rattle.bike_operator.specs.declared.view.RentalView.{RentalView}
@@ -39,6 +39,9 @@ booking_stands : (s next : Operator) (e : Entry) (kind : EntryKind) → KeepsBoo
 booking_stands s next e TopUp k b = b
 booking_stands s next e Fare k b = (of_rental_stands s next e k b.0, b.1, b.2)
 booking_stands s next e Refund k b = (of_rental_stands s next e k b.0, b.1)
+booking_stands s next e Withdrawal k b = b
+booking_stands s next e Charge k b = b
+booking_stands s next e Credit k b = b
 
 entry_stands : (s next : Operator) (number : ℕ) (e : Entry) → KeepsBooked s next → IsEntryAt s number e → IsEntryAt next number e
 entry_stands s next number e k at =

@@ -12,7 +12,7 @@ use Rattle.std.proofs.lemmas.Int.{ints}
 use Rattle.bike_catalogue.specs.Rows.{TypeRow}
 use Rattle.bike_ledger.specs.Entries.{Entry}
 use Rattle.bike_ledger.specs.declared.entry.EntryKind.{EntryKind}
-use Rattle.bike_ledger.specs.declared.entry.EntryKind.TheVariants.{TopUp, Fare, Refund}
+use Rattle.bike_ledger.specs.declared.entry.EntryKind.TheVariants.{TopUp, Fare, Refund, Withdrawal, Charge, Credit}
 use Rattle.bike_ledger.specs.Ledger.{given_back}
 use Rattle.bike_operator.specs.declared.records.Place.{Place}
 use Rattle.bike_operator.specs.declared.records.Place.TheVariants as place
@@ -66,6 +66,9 @@ apart_booking : (s : Operator) (e : Entry) (k : EntryKind) → IsBooking s e k
 apart_booking s e TopUp b = (refl, same_either (eqb e.rental (length s.rentals + 1)) (pos 0) refl)
 apart_booking s e Fare b = (apart_rental s e b.0, same_either (eqb e.rental (length s.rentals + 1)) (pos 0) refl)
 apart_booking s e Refund b = (refl, ap (λ (x : Bool). cond x e.amount (pos 0)) (apart_rental s e b.0))
+apart_booking s e Withdrawal b = (refl, same_either (eqb e.rental (length s.rentals + 1)) (pos 0) refl)
+apart_booking s e Charge b = (refl, same_either (eqb e.rental (length s.rentals + 1)) (pos 0) refl)
+apart_booking s e Credit b = (refl, same_either (eqb e.rental (length s.rentals + 1)) (pos 0) refl)
 
 apart_entry : (s : Operator) (n : ℕ) (e : Entry) → IsSound s → item_at n s.entries ≡ Some e → IsApart (length s.rentals + 1) e
 apart_entry s n e order i =

@@ -3,7 +3,7 @@ use Rattle.std.proofs.Common.{ℕ, ℤ, pos, neg_ℤ, ◌*ℤ◌, ◌<◌, ◌�
 use Rattle.std.proofs.lemmas.Int.{ints}
 use Rattle.bike_fields.specs.declared.numbers.TheConstants.{GREATEST_SERIAL}
 use Rattle.bike_ledger.specs.declared.entry.EntryKind.{EntryKind}
-use Rattle.bike_ledger.specs.declared.entry.EntryKind.TheVariants.{TopUp, Fare, Refund}
+use Rattle.bike_ledger.specs.declared.entry.EntryKind.TheVariants.{TopUp, Fare, Refund, Withdrawal, Charge, Credit}
 use Rattle.bike_ledger.specs.Entries.{Entry}
 use Rattle.bike_ledger.specs.Ledger.{total, credit, cash_in, revenue_in, share, balance_of, cash_of, revenue_of, IsAmount, AreAmounts, IsBalance}
 use Rattle.bike_ledger.specs.Entries.{greatest_amount}
@@ -38,16 +38,25 @@ credit-figure : (kind : EntryKind) (amount : ℤ) → IsAmount amount → IsFigu
 credit-figure TopUp amount is = let low = is.low in let high = is.high in record { low = omega (arith, ints, low); high = omega (arith, ints, high) }
 credit-figure Fare amount is = let low = is.low in let high = is.high in record { low = omega (arith, ints, high); high = omega (arith, ints, low) }
 credit-figure Refund amount is = let low = is.low in let high = is.high in record { low = omega (arith, ints, low); high = omega (arith, ints, high) }
+credit-figure Withdrawal amount is = let low = is.low in let high = is.high in record { low = omega (arith, ints, high); high = omega (arith, ints, low) }
+credit-figure Charge amount is = let low = is.low in let high = is.high in record { low = omega (arith, ints, high); high = omega (arith, ints, low) }
+credit-figure Credit amount is = let low = is.low in let high = is.high in record { low = omega (arith, ints, low); high = omega (arith, ints, high) }
 
 cash_in-figure : (kind : EntryKind) (amount : ℤ) → IsAmount amount → IsFigure (cash_in kind amount)
 cash_in-figure TopUp amount is = let low = is.low in let high = is.high in record { low = omega (arith, ints, low); high = omega (arith, ints, high) }
 cash_in-figure Fare amount is = record { low = omega (arith, ints); high = omega (arith, ints) }
 cash_in-figure Refund amount is = record { low = omega (arith, ints); high = omega (arith, ints) }
+cash_in-figure Withdrawal amount is = let low = is.low in let high = is.high in record { low = omega (arith, ints, high); high = omega (arith, ints, low) }
+cash_in-figure Charge amount is = record { low = omega (arith, ints); high = omega (arith, ints) }
+cash_in-figure Credit amount is = record { low = omega (arith, ints); high = omega (arith, ints) }
 
 revenue_in-figure : (kind : EntryKind) (amount : ℤ) → IsAmount amount → IsFigure (revenue_in kind amount)
 revenue_in-figure TopUp amount is = record { low = omega (arith, ints); high = omega (arith, ints) }
 revenue_in-figure Fare amount is = let low = is.low in let high = is.high in record { low = omega (arith, ints, low); high = omega (arith, ints, high) }
 revenue_in-figure Refund amount is = let low = is.low in let high = is.high in record { low = omega (arith, ints, high); high = omega (arith, ints, low) }
+revenue_in-figure Withdrawal amount is = record { low = omega (arith, ints); high = omega (arith, ints) }
+revenue_in-figure Charge amount is = let low = is.low in let high = is.high in record { low = omega (arith, ints, low); high = omega (arith, ints, high) }
+revenue_in-figure Credit amount is = let low = is.low in let high = is.high in record { low = omega (arith, ints, high); high = omega (arith, ints, low) }
 
 either-figure : (own : Bool) (z : ℤ) → IsFigure z → IsFigure (cond own z (pos 0))
 either-figure true z is = is

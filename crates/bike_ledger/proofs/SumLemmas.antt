@@ -4,7 +4,7 @@ use Rattle.std.specs.Prelude.{◌||◌}
 use Rattle.std.proofs.lemmas.Int.{ints}
 use Rattle.std.proofs.lemmas.Bool.Decides.{eqb_tells}
 use Rattle.bike_ledger.specs.declared.entry.EntryKind.{EntryKind}
-use Rattle.bike_ledger.specs.declared.entry.EntryKind.TheVariants.{TopUp, Fare, Refund}
+use Rattle.bike_ledger.specs.declared.entry.EntryKind.TheVariants.{TopUp, Fare, Refund, Withdrawal, Charge, Credit}
 use Rattle.bike_ledger.specs.Entries.{Entry}
 use Rattle.bike_ledger.specs.Ledger.{total, credit, cash_in, revenue_in, share, balance_of}
 use Rattle.bike_ledger.specs.Money.{is_among, AreDistinct, AreOf, balances, IsConserved}
@@ -86,6 +86,9 @@ kinds_agree : (kind : EntryKind) (amount : ℤ) → credit kind amount +ℤ reve
 kinds_agree TopUp amount = omega (arith, ints)
 kinds_agree Fare amount = omega (arith, ints)
 kinds_agree Refund amount = omega (arith, ints)
+kinds_agree Withdrawal amount = omega (arith, ints)
+kinds_agree Charge amount = omega (arith, ints)
+kinds_agree Credit amount = omega (arith, ints)
 
 pub conserved : (riders : List ℕ) (es : List Entry) → AreDistinct riders → AreOf riders es → IsConserved riders es
 conserved riders [] apart known = let none = balances_of_none riders in omega (arith, ints, none)

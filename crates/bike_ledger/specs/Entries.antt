@@ -2,7 +2,7 @@
 use Rattle.std.specs.Prelude.{◌≡◌, ℕ, ℤ, ◌≤◌, pos, ◌≤ℤ◌}
 use Rattle.bike_fixed.specs.declared.cents.TheConstants.{GREATEST_FARE}
 use Rattle.bike_ledger.specs.declared.entry.EntryKind.{EntryKind}
-use Rattle.bike_ledger.specs.declared.entry.EntryKind.TheVariants.{TopUp, Fare, Refund}
+use Rattle.bike_ledger.specs.declared.entry.EntryKind.TheVariants.{TopUp, Fare, Refund, Withdrawal, Charge, Credit}
 
 -- one entry: amounts are hundredths, `at` is a moment in seconds
 pub record Entry : Type 0 where
@@ -17,11 +17,14 @@ pub record Entry : Type 0 where
 abbrev pub greatest_amount : ℤ
 greatest_amount = GREATEST_FARE
 
--- An entry is of no rental, which is the number 0, exactly where it is a top-up.
+-- A fare and a refund are of a rental; an entry of another kind is of none, which is the number 0.
 abbrev pub IsOfKind : EntryKind → ℕ → Type 0
 IsOfKind TopUp rental = rental ≡ 0
 IsOfKind Fare rental = 1 ≤ rental
 IsOfKind Refund rental = 1 ≤ rental
+IsOfKind Withdrawal rental = rental ≡ 0
+IsOfKind Charge rental = rental ≡ 0
+IsOfKind Credit rental = rental ≡ 0
 
 -- What every entry keeps.
 pub record IsEntry (e : Entry) : Type 0 where

@@ -18,9 +18,15 @@ pub enum EntryKind {
     Fare,
     /// From revenue back to the rider of a rental.
     Refund,
+    /// From the rider to cash: paid out, or charged back.
+    Withdrawal,
+    /// From the rider to revenue, beside a rental: a fee.
+    Charge,
+    /// From revenue to the rider: goodwill.
+    Credit,
 }
 
-/// One entry of the ledger. It is of no rental exactly where it is a top-up, and its amount is 0 to
+/// One entry of the ledger. It is of a rental exactly where it is a fare or a refund, and its amount is 0 to
 /// `GREATEST_FARE` hundredths.
 #[derive(Clone, Copy, Debug, PartialEq, Eq)]
 pub struct Entry {
@@ -145,6 +151,69 @@ impl Entry {
         }
     }
 
+    /// The entry of a withdrawal, of 1 to 1,000,000 hundredths.
+    pub fn withdrawal(number: EntryNumber, rider: RiderNumber, amount: Payment, at: Moment) -> Entry
+        ensures { result ≡ record {
+          number = number;
+          kind = EntryKind.Withdrawal;
+          rider = rider;
+          rental = 0;
+          amount = pos amount;
+          at = at;
+        } }
+    {
+        Entry {
+            number,
+            kind: EntryKind::Withdrawal,
+            rider,
+            rental: none(),
+            amount: Cents::new(i64::from(amount.get())),
+            at,
+        }
+    }
+
+    /// The entry of a charge, of 1 to 1,000,000 hundredths.
+    pub fn charge(number: EntryNumber, rider: RiderNumber, amount: Payment, at: Moment) -> Entry
+        ensures { result ≡ record {
+          number = number;
+          kind = EntryKind.Charge;
+          rider = rider;
+          rental = 0;
+          amount = pos amount;
+          at = at;
+        } }
+    {
+        Entry {
+            number,
+            kind: EntryKind::Charge,
+            rider,
+            rental: none(),
+            amount: Cents::new(i64::from(amount.get())),
+            at,
+        }
+    }
+
+    /// The entry of a credit, of 1 to 1,000,000 hundredths.
+    pub fn credit(number: EntryNumber, rider: RiderNumber, amount: Payment, at: Moment) -> Entry
+        ensures { result ≡ record {
+          number = number;
+          kind = EntryKind.Credit;
+          rider = rider;
+          rental = 0;
+          amount = pos amount;
+          at = at;
+        } }
+    {
+        Entry {
+            number,
+            kind: EntryKind::Credit,
+            rider,
+            rental: none(),
+            amount: Cents::new(i64::from(amount.get())),
+            at,
+        }
+    }
+
     /// Its number: entries are numbered 1, 2, 3, ..
     pub fn number(&self) -> EntryNumber
         ensures { result ≡ self.now.number }
@@ -166,7 +235,7 @@ impl Entry {
         self.rider
     }
 
-    /// The rental of a fare or refund, 1 or more; 0 exactly with a top-up.
+    /// The rental of a fare or refund, 1 or more; 0 with every other kind.
     pub fn rental(&self) -> Within<0, GREATEST_SERIAL>
         ensures { result ≡ self.now.rental }
     {

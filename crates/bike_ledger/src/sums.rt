@@ -29,8 +29,12 @@ pub fn balance_after(balance: Cents, entry: &Entry) -> Cents
 {
     let amount = entry.amount().hundredths();
     match entry.kind() {
-        EntryKind::TopUp | EntryKind::Refund => Cents::new(balance.hundredths() + amount),
-        EntryKind::Fare => Cents::new(balance.hundredths() - amount),
+        EntryKind::TopUp | EntryKind::Refund | EntryKind::Credit => {
+            Cents::new(balance.hundredths() + amount)
+        }
+        EntryKind::Fare | EntryKind::Withdrawal | EntryKind::Charge => {
+            Cents::new(balance.hundredths() - amount)
+        }
     }
 }
 

@@ -12,7 +12,7 @@ use Rattle.sqlite_value.specs.Order.{Row, column}
 use Rattle.bike_sql.specs.View.{partner, row_with}
 use Rattle.bike_ledger.specs.Entries.{Entry}
 use Rattle.bike_ledger.specs.declared.entry.EntryKind.{EntryKind}
-use Rattle.bike_ledger.specs.declared.entry.EntryKind.TheVariants.{TopUp, Fare, Refund}
+use Rattle.bike_ledger.specs.declared.entry.EntryKind.TheVariants.{TopUp, Fare, Refund, Withdrawal, Charge, Credit}
 use Rattle.bike_operator.specs.declared.limits.TheConstants.{MOST_ENTRIES}
 use Rattle.bike_operator.specs.declared.records.Rental.{Rental}
 use Rattle.bike_operator.specs.declared.records.Closing.{Closing}
@@ -71,11 +71,17 @@ abbrev pub Paid : EntryKind → ℤ → Closing → Type 0
 Paid TopUp amount c = Unit {0}
 Paid Fare amount c = amount ≡ c.fare
 Paid Refund amount c = Unit {0}
+Paid Withdrawal amount c = Unit {0}
+Paid Charge amount c = Unit {0}
+Paid Credit amount c = Unit {0}
 
 paid_decides : (k : EntryKind) (amount : ℤ) (c : Closing) → Decides (is_paid k amount c) (Paid k amount c)
 paid_decides TopUp amount c = (λ e. tt, λ h. refl)
 paid_decides Fare amount c = Decides-int_eq amount c.fare
 paid_decides Refund amount c = (λ e. tt, λ h. refl)
+paid_decides Withdrawal amount c = (λ e. tt, λ h. refl)
+paid_decides Charge amount c = (λ e. tt, λ h. refl)
+paid_decides Credit amount c = (λ e. tt, λ h. refl)
 
 -- a closed rental of the entry's rider, at the amount of a fare
 pub record OfRental (s : Operator) (k : EntryKind) (e : Entry) : Type 0 where
@@ -111,11 +117,17 @@ abbrev pub Booked : Operator → EntryKind → Entry → Type 0
 Booked s TopUp e = Unit {0}
 Booked s Fare e = OfRental s Fare e
 Booked s Refund e = OfRental s Refund e
+Booked s Withdrawal e = Unit {0}
+Booked s Charge e = Unit {0}
+Booked s Credit e = Unit {0}
 
 booked_decides : (s : Operator) (k : EntryKind) (e : Entry) → Decides (is_booked k e (item_numbered e.rental s.rentals)) (Booked s k e)
 booked_decides s TopUp e = (λ h. tt, λ h. refl)
 booked_decides s Fare e = of_decides s Fare e
 booked_decides s Refund e = of_decides s Refund e
+booked_decides s Withdrawal e = (λ h. tt, λ h. refl)
+booked_decides s Charge e = (λ h. tt, λ h. refl)
+booked_decides s Credit e = (λ h. tt, λ h. refl)
 
 -- ---- what an entry is asked by itself
 

@@ -16,7 +16,7 @@ use Rattle.sqlite_rules.specs.Lists.{Has}
 use Rattle.sqlite.specs.Effect.{Database}
 use Rattle.bike_ledger.specs.Entries.{Entry}
 use Rattle.bike_ledger.specs.declared.entry.EntryKind.{EntryKind}
-use Rattle.bike_ledger.specs.declared.entry.EntryKind.TheVariants.{TopUp, Fare, Refund}
+use Rattle.bike_ledger.specs.declared.entry.EntryKind.TheVariants.{TopUp, Fare, Refund, Withdrawal, Charge, Credit}
 use Rattle.bike_operator.specs.declared.records.Rental.{Rental}
 use Rattle.bike_operator.specs.declared.records.Closing.{Closing}
 use Rattle.bike_operator.specs.Operator.{Operator, item_numbered}
@@ -66,12 +66,18 @@ module _ (s : Operator) (e : Entry) where
   booking TopUp rental amount it = (rental, amount)
   booking Fare rental amount it = (of_rental Fare it, amount.0, amount.1)
   booking Refund rental amount it = (of_rental Refund it, amount)
+  booking Withdrawal rental amount it = (rental, amount)
+  booking Charge rental amount it = (rental, amount)
+  booking Credit rental amount it = (rental, amount)
 
   one_fare : (k : EntryKind) → Booked s k e → (k ≡ Fare → IsFirstFare s e.number e.rental) → IsOneFare s e k
   one_fare TopUp it first = tt
   one_fare Fare it first =
       (record { row = it.row; closing = it.closing; found = it.found; closed = it.closed; fare_is = it.paid }, first refl)
   one_fare Refund it first = tt
+  one_fare Withdrawal it first = tt
+  one_fare Charge it first = tt
+  one_fare Credit it first = tt
 
   booked_of : (k : EntryKind) → IsBooking s e k → IsOneFare s e k → Booked s k e
   booked_of TopUp book one = tt
@@ -91,17 +97,26 @@ module _ (s : Operator) (e : Entry) where
   booked_of Refund book one =
       let of = book.0 in
       record { row = of.row; closing = of.closing; found = of.found; closed = of.closed; rider_is = of.rider_is; paid = tt }
+  booked_of Withdrawal book one = tt
+  booked_of Charge book one = tt
+  booked_of Credit book one = tt
 
   -- a fare has its rental, and is the first of it
   first_of : (k : EntryKind) → IsOneFare s e k → k ≡ Fare → IsFareOf s e.rental e.amount × IsFirstFare s e.number e.rental
   first_of TopUp one is = absurd cc
   first_of Fare one is = (one.0, one.1)
   first_of Refund one is = absurd cc
+  first_of Withdrawal one is = absurd cc
+  first_of Charge one is = absurd cc
+  first_of Credit one is = absurd cc
 
   booked_rental : (k : EntryKind) → Booked s k e → k ≡ Fare → (r : Rental) × (item_numbered e.rental s.rentals ≡ Some r)
   booked_rental TopUp it is = absurd cc
   booked_rental Fare it is = (it.row, it.found)
   booked_rental Refund it is = absurd cc
+  booked_rental Withdrawal it is = absurd cc
+  booked_rental Charge it is = absurd cc
+  booked_rental Credit it is = absurd cc
 
 same_pos : (a b : ℕ) → pos a ≡ pos b → a ≡ b
 same_pos a b e = cc

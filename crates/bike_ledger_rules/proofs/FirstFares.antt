@@ -8,7 +8,7 @@ use Rattle.std.proofs.lemmas.List.{take_at}
 use Rattle.sqlite_value.specs.Order.{Row}
 use Rattle.bike_ledger.specs.Entries.{Entry}
 use Rattle.bike_ledger.specs.declared.entry.EntryKind.{EntryKind}
-use Rattle.bike_ledger.specs.declared.entry.EntryKind.TheVariants.{TopUp, Fare, Refund}
+use Rattle.bike_ledger.specs.declared.entry.EntryKind.TheVariants.{TopUp, Fare, Refund, Withdrawal, Charge, Credit}
 use Rattle.bike_operator.specs.Counts.{count}
 use Rattle.bike_operator.specs.Sound.{is_fare}
 use Rattle.bike_readings.specs.Readings.{entry_read}
@@ -81,13 +81,22 @@ pub first_finds : (k : EntryKind) (z : ℤ) → cond (is_fare k) (int_eq z (pos 
 first_finds TopUp z is fare = absurd cc
 first_finds Fare z is fare = (Decides-int_eq z (pos 0)).0 is
 first_finds Refund z is fare = absurd cc
+first_finds Withdrawal z is fare = absurd cc
+first_finds Charge z is fare = absurd cc
+first_finds Credit z is fare = absurd cc
 
 pub finds_first : (k : EntryKind) (z : ℤ) → (k ≡ Fare → z ≡ pos 0) → cond (is_fare k) (int_eq z (pos 0)) true ≡ true
 finds_first TopUp z none = refl
 finds_first Fare z none = (Decides-int_eq z (pos 0)).1 (none refl)
 finds_first Refund z none = refl
+finds_first Withdrawal z none = refl
+finds_first Charge z none = refl
+finds_first Credit z none = refl
 
 pub kind_of_fare : (k : EntryKind) → is_fare k ≡ true → k ≡ Fare
 kind_of_fare TopUp is = absurd cc
 kind_of_fare Fare is = refl
 kind_of_fare Refund is = absurd cc
+kind_of_fare Withdrawal is = absurd cc
+kind_of_fare Charge is = absurd cc
+kind_of_fare Credit is = absurd cc

@@ -5,7 +5,7 @@ use Rattle.std.specs.Ordering.{int_eq}
 use Rattle.sqlite_value.specs.Order.{Row, column}
 use Rattle.bike_ledger.specs.Entries.{Entry}
 use Rattle.bike_ledger.specs.declared.entry.EntryKind.{EntryKind}
-use Rattle.bike_ledger.specs.declared.entry.EntryKind.TheVariants.{TopUp, Fare, Refund}
+use Rattle.bike_ledger.specs.declared.entry.EntryKind.TheVariants.{TopUp, Fare, Refund, Withdrawal, Charge, Credit}
 use Rattle.bike_operator.specs.declared.limits.TheConstants.{MOST_ENTRIES}
 use Rattle.bike_operator.specs.declared.records.Rental.{Rental}
 use Rattle.bike_operator.specs.declared.records.Closing.{Closing}
@@ -52,6 +52,9 @@ abbrev pub is_paid : EntryKind → ℤ → Closing → Bool
 is_paid TopUp amount c = true
 is_paid Fare amount c = int_eq amount c.fare
 is_paid Refund amount c = true
+is_paid Withdrawal amount c = true
+is_paid Charge amount c = true
+is_paid Credit amount c = true
 
 abbrev pub is_closed_for : EntryKind → ℤ → Option Closing → Bool
 is_closed_for kind amount None = false
@@ -67,6 +70,9 @@ abbrev pub is_booked : EntryKind → Entry → Option Rental → Bool
 is_booked TopUp e r = true
 is_booked Fare e r = is_of Fare e r
 is_booked Refund e r = is_of Refund e r
+is_booked Withdrawal e r = true
+is_booked Charge e r = true
+is_booked Credit e r = true
 
 -- the rental in the line
 abbrev pub line_rental : Row → Option Rental

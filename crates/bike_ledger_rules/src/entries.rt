@@ -44,16 +44,18 @@ fn is_of(entry: &StoredEntry, rental: &StoredRental<'_>) -> bool
     }
 }
 
-/// Whether it is a top-up or of such a rental, which is in the line.
+/// Whether it is neither a fare nor a refund, or of such a rental, which is in the line.
 fn is_booked(entry: &StoredEntry, line: &Row) -> bool
     ensures { result ≡ is_booked (entry_of entry.now).kind (entry_of entry.now) (line_rental line.now) }
 {
-    if entry.kind == EntryKind::TopUp {
-        return true;
-    }
-    match read_rental(Part::of(line, RENTAL_AT, rentals::COLUMNS)) {
-        Some(rental) => is_of(entry, &rental),
-        None => false,
+    match entry.kind {
+        EntryKind::Fare | EntryKind::Refund => {
+            match read_rental(Part::of(line, RENTAL_AT, rentals::COLUMNS)) {
+                Some(rental) => is_of(entry, &rental),
+                None => false,
+            }
+        }
+        EntryKind::TopUp | EntryKind::Withdrawal | EntryKind::Charge | EntryKind::Credit => true,
     }
 }
 

@@ -33,9 +33,11 @@ impl LineFold for RentalEntries {
             return Ok(());
         };
         let (fares, refunded) = match entry.kind {
-            EntryKind::TopUp => (0, 0),
             EntryKind::Fare => (1, 0),
             EntryKind::Refund => (0, entry.amount.hundredths()),
+            EntryKind::TopUp | EntryKind::Withdrawal | EntryKind::Charge | EntryKind::Credit => {
+                (0, 0)
+            }
         };
         let rental = entry.rental as usize;
         self.fares.add(rental, fares)?;

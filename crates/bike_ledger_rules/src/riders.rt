@@ -53,8 +53,12 @@ impl LineFold for Balances {
             return Ok(());
         };
         let credit = match entry.kind {
-            EntryKind::TopUp | EntryKind::Refund => Some(entry.amount.hundredths()),
-            EntryKind::Fare => entry.amount.hundredths().checked_neg(),
+            EntryKind::TopUp | EntryKind::Refund | EntryKind::Credit => {
+                Some(entry.amount.hundredths())
+            }
+            EntryKind::Fare | EntryKind::Withdrawal | EntryKind::Charge => {
+                entry.amount.hundredths().checked_neg()
+            }
         };
         let credit = credit.ok_or(StatementFault::StoreFailed)?;
         self.sums.add(entry.rider.get() as usize, credit)

@@ -12,7 +12,7 @@ use Rattle.bike_commands.specs.Rows.{PlanRow, TypeRow, RegionRow, SystemRow, IsP
 use Rattle.bike_commands.specs.Rows.{IsMoreName, IsSystem}
 use Rattle.bike_ledger.specs.Entries.{Entry}
 use Rattle.bike_ledger.specs.declared.entry.EntryKind.{EntryKind}
-use Rattle.bike_ledger.specs.declared.entry.EntryKind.TheVariants.{TopUp, Fare, Refund}
+use Rattle.bike_ledger.specs.declared.entry.EntryKind.TheVariants.{TopUp, Fare, Refund, Withdrawal, Charge, Credit}
 use Rattle.bike_ledger.specs.Ledger.{refunded_of}
 use Rattle.bike_ledger.specs.Entries.{greatest_amount}
 use Rattle.bike_commands.specs.Fields.{AreSegments}
@@ -205,6 +205,9 @@ abbrev pub is_fare : EntryKind → Bool
 is_fare TopUp = false
 is_fare Fare = true
 is_fare Refund = false
+is_fare Withdrawal = false
+is_fare Charge = false
+is_fare Credit = false
 
 abbrev pub fares_of : ℕ → List Entry → List ℤ
 fares_of rental entries = map (λ e. e.amount) (filter (λ e. is_fare e.kind && (e.rental == rental)) entries)
@@ -243,7 +246,7 @@ pub record IsRiderNumber (number : ℕ) : Type 0 where
   pub low : 1 ≤ number
   pub high : number ≤ GREATEST_NUMBER
 
--- an amount that may be paid in or refunded, in hundredths
+-- an amount that may be paid in or out, refunded, charged or credited, in hundredths
 pub record IsPayment (amount : ℤ) : Type 0 where
   pub hundredths : ℕ
   pub is : amount ≡ pos hundredths
@@ -258,11 +261,14 @@ pub record IsOfRental (s : Operator) (e : Entry) : Type 0 where
   pub closed : row.closing ≡ Some closing
   pub rider_is : row.rider ≡ e.rider
 
--- a top-up is of no rental, a fare is its rental's, a refund is of a rental
+-- a fare is its rental's, a refund is of a rental, and an entry of another kind is of none
 abbrev pub IsBooking : Operator → Entry → EntryKind → Type 0
 IsBooking s e TopUp = (e.rental ≡ 0) × IsPayment e.amount
 IsBooking s e Fare = IsOfRental s e × (pos 0 ≤ℤ e.amount) × (e.amount ≤ℤ greatest_amount)
 IsBooking s e Refund = IsOfRental s e × IsPayment e.amount
+IsBooking s e Withdrawal = (e.rental ≡ 0) × IsPayment e.amount
+IsBooking s e Charge = (e.rental ≡ 0) × IsPayment e.amount
+IsBooking s e Credit = (e.rental ≡ 0) × IsPayment e.amount
 
 pub record IsEntryAt (s : Operator) (number : ℕ) (e : Entry) : Type 0 where
   pub number_is : e.number ≡ number

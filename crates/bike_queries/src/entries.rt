@@ -5,12 +5,14 @@ ghost use Rattle.sqlite_value.specs.declared.value.Value.TheVariants.{Int};
 ghost use Rattle.sqlite_value.specs.Order.{column};
 ghost use Rattle.bike_fixed.specs.declared.cents.TheConstants.{GREATEST_FARE};
 ghost use Rattle.bike_book.specs.Rows.{entry_row, kind_number};
+ghost use Rattle.bike_book.specs.declared.columns.entries.TheConstants as entries;
 ghost use Rattle.bike_schema.specs.Answers.{Answers, IsReadOf};
 ghost use Rattle.bike_queries.specs.Spans.{entry_after};
 
 use crate::columns::whole_at;
 use crate::span::{seconds_of, start_at};
 use bike_book::columns::entries;
+use bike_fields::Payment;
 use bike_fixed::{Cents, GREATEST_FARE, Moment, Within};
 use bike_ledger::{Entry, EntryKind};
 use bike_schema::{StatementFault, cents_at, moment_at, number_at};
@@ -34,7 +36,7 @@ fn select_entry<S: Alter>(
     )
 }
 
-/// The kind that the column stands for, which is stored as 1, 2 or 3.
+/// The kind that the column stands for, which is stored as 1 to 6.
 fn kind_at(row: &Row, at: usize) -> Result<EntryKind, StatementFault>
     ensures { IfOk result (λ x. (kind : _) → column row.now at ≡ Int (kind_number kind) → x ≡ kind) }
 {
@@ -42,6 +44,9 @@ fn kind_at(row: &Row, at: usize) -> Result<EntryKind, StatementFault>
         1 => Ok(EntryKind::TopUp),
         2 => Ok(EntryKind::Fare),
         3 => Ok(EntryKind::Refund),
+        4 => Ok(EntryKind::Withdrawal),
+        5 => Ok(EntryKind::Charge),
+        6 => Ok(EntryKind::Credit),
         _ => Err(StatementFault::StoreFailed),
     }
 }
@@ -58,6 +63,15 @@ fn fare_at(row: &Row, at: usize) -> Result<Cents, StatementFault>
     Ok(fare)
 }
 
+/// The amount of an entry of no rental.
+fn payment_at(row: &Row) -> Result<Payment, StatementFault>
+    ensures rental { IfOk result (λ amount. column row.now entries.RENTAL ≡ Int (pos 0)) }
+    ensures amount { IfOk result (λ amount. column row.now entries.AMOUNT ≡ Int (pos amount)) }
+{
+    let _none: Within<0, 0> = number_at(row, entries::RENTAL)?;
+    number_at(row, entries::AMOUNT)
+}
+
 /// The entry that stands in a row of `entries`.
 fn read_entry(row: &Row) -> Result<Entry, StatementFault>
     ensures { IsReadOf (λ e. entry_row e.number e) row.now result }
@@ -67,11 +81,7 @@ fn read_entry(row: &Row) -> Result<Entry, StatementFault>
     let rider = number_at(row, entries::RIDER)?;
     let at = moment_at(row, entries::AT)?;
     match kind {
-        EntryKind::TopUp => {
-            let _none: Within<0, 0> = number_at(row, entries::RENTAL)?;
-            let amount = number_at(row, entries::AMOUNT)?;
-            Ok(Entry::top_up(number, rider, amount, at))
-        }
+        EntryKind::TopUp => Ok(Entry::top_up(number, rider, payment_at(row)?, at)),
         EntryKind::Fare => {
             let rental = number_at(row, entries::RENTAL)?;
             let amount = fare_at(row, entries::AMOUNT)?;
@@ -82,6 +92,9 @@ fn read_entry(row: &Row) -> Result<Entry, StatementFault>
             let amount = number_at(row, entries::AMOUNT)?;
             Ok(Entry::refund(number, rider, rental, amount, at))
         }
+        EntryKind::Withdrawal => Ok(Entry::withdrawal(number, rider, payment_at(row)?, at)),
+        EntryKind::Charge => Ok(Entry::charge(number, rider, payment_at(row)?, at)),
+        EntryKind::Credit => Ok(Entry::credit(number, rider, payment_at(row)?, at)),
     }
 }
 

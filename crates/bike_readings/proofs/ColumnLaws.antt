@@ -30,7 +30,7 @@ use Rattle.bike_fields.specs.Vehicle.{form_text, propulsion_text}
 use Rattle.bike_fields.proofs.NameKinds.{kind_sound as named_sound, kind_full as named_full}
 use Rattle.bike_fields.proofs.Vehicles.{form_sound, form_full, propulsion_sound, propulsion_full}
 use Rattle.bike_ledger.specs.declared.entry.EntryKind.{EntryKind}
-use Rattle.bike_ledger.specs.declared.entry.EntryKind.TheVariants.{TopUp, Fare, Refund}
+use Rattle.bike_ledger.specs.declared.entry.EntryKind.TheVariants.{TopUp, Fare, Refund, Withdrawal, Charge, Credit}
 use Rattle.bike_texts.specs.declared.ends.OrderEnd.{OrderEnd}
 use Rattle.bike_texts.specs.declared.ends.OrderEnd.TheVariants as end
 use Rattle.bike_texts.specs.Fields.{IsEnd, end_text as field_end}
@@ -148,12 +148,18 @@ kind_sound : (z : ℤ) (kind : EntryKind) → kind_of z ≡ Some kind → (z ≡
 kind_sound z kind e =
     pick e (λ is e. (is ∙ ap kind_number (same_Some TopUp kind e), tt)) (λ e.
     pick e (λ is e. (is ∙ ap kind_number (same_Some Fare kind e), tt)) (λ e.
-    pick e (λ is e. (is ∙ ap kind_number (same_Some Refund kind e), tt)) (λ e. absurd cc)))
+    pick e (λ is e. (is ∙ ap kind_number (same_Some Refund kind e), tt)) (λ e.
+    pick e (λ is e. (is ∙ ap kind_number (same_Some Withdrawal kind e), tt)) (λ e.
+    pick e (λ is e. (is ∙ ap kind_number (same_Some Charge kind e), tt)) (λ e.
+    pick e (λ is e. (is ∙ ap kind_number (same_Some Credit kind e), tt)) (λ e. absurd cc))))))
 
 kind_full : (kind : EntryKind) → Any kind → kind_of (kind_number kind) ≡ Some kind
 kind_full TopUp g = refl
 kind_full Fare g = refl
 kind_full Refund g = refl
+kind_full Withdrawal g = refl
+kind_full Charge g = refl
+kind_full Credit g = refl
 
 pub kind_column : IsColumn kind_in (λ kind. Int (kind_number kind)) Any
 kind_column = of_whole kind_of kind_number Any kind_sound kind_full

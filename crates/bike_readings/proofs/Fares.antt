@@ -5,7 +5,7 @@ use Rattle.std.proofs.lemmas.Bool.{eq-eqb}
 use Rattle.sqlite_rules.specs.Lists.{Has}
 use Rattle.bike_ledger.specs.Entries.{Entry}
 use Rattle.bike_ledger.specs.declared.entry.EntryKind.{EntryKind}
-use Rattle.bike_ledger.specs.declared.entry.EntryKind.TheVariants.{TopUp, Fare, Refund}
+use Rattle.bike_ledger.specs.declared.entry.EntryKind.TheVariants.{TopUp, Fare, Refund, Withdrawal, Charge, Credit}
 use Rattle.bike_operator.specs.declared.records.Rental.{Rental}
 use Rattle.bike_operator.specs.declared.records.Closing.{Closing}
 use Rattle.bike_operator.specs.Operator.{item_at, item_numbered}
@@ -32,6 +32,9 @@ pub fare_kind : (k : EntryKind) (b : Bool) → (is_fare k && b) ≡ true → (k 
 fare_kind TopUp b h = absurd cc
 fare_kind Fare b h = (refl, h)
 fare_kind Refund b h = absurd cc
+fare_kind Withdrawal b h = absurd cc
+fare_kind Charge b h = absurd cc
+fare_kind Credit b h = absurd cc
 
 pub fare_parts : (rental : ℕ) (e : Entry) → is_fare_of rental e ≡ true → (e.kind ≡ Fare) × (e.rental ≡ rental)
 fare_parts rental e h = let parts = fare_kind e.kind (e.rental == rental) h in (parts.0, same_number e.rental rental parts.1)

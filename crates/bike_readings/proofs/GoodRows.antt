@@ -13,7 +13,7 @@ use Rattle.bike_sql.proofs.RowListLemmas.{map_has}
 use Rattle.bike_catalogue.specs.Rows.{SystemRow}
 use Rattle.bike_ledger.specs.Entries.{Entry}
 use Rattle.bike_ledger.specs.declared.entry.EntryKind.{EntryKind}
-use Rattle.bike_ledger.specs.declared.entry.EntryKind.TheVariants.{TopUp, Fare, Refund}
+use Rattle.bike_ledger.specs.declared.entry.EntryKind.TheVariants.{TopUp, Fare, Refund, Withdrawal, Charge, Credit}
 use Rattle.bike_ledger.specs.Ledger.{balance_of, refunded_of}
 use Rattle.bike_operator.specs.declared.limits.TheConstants.{MOST_FURTHER_NAMES}
 use Rattle.bike_operator.specs.declared.records.Place.{Place}
@@ -131,6 +131,9 @@ module _ (s : Operator) (m : Listed) (sound : IsSound s) (listing : IsListing s 
   fare_good : (n : ℕ) (e : Entry) (below : ℕ) → item_numbered n s.entries ≡ Some e → e.number ≡ n → (k : EntryKind) → e.kind ≡ k → IsBooking s e k → IsOneFare s e k
   fare_good n e below found number TopUp kind b = tt
   fare_good n e below found number Refund kind b = tt
+  fare_good n e below found number Withdrawal kind b = tt
+  fare_good n e below found number Charge kind b = tt
+  fare_good n e below found number Credit kind b = tt
   fare_good n e below found number Fare kind b =
       let of = b.0 in
       let booked : fares_of e.rental s.entries ≡ of.closing.fare ∷ [] = (sound.rentals.rentals e.rental of.row of.found).booked ∙ ap fares_in of.closed in

@@ -8,7 +8,7 @@ use Rattle.sqlite_value.specs.Order.{Row, column}
 use Rattle.sqlite.specs.Values.{or_null}
 use Rattle.bike_ledger.specs.Entries.{greatest_amount}
 use Rattle.bike_ledger.specs.declared.entry.EntryKind.{EntryKind}
-use Rattle.bike_ledger.specs.declared.entry.EntryKind.TheVariants.{TopUp, Fare, Refund}
+use Rattle.bike_ledger.specs.declared.entry.EntryKind.TheVariants.{TopUp, Fare, Refund, Withdrawal, Charge, Credit}
 use Rattle.bike_operator.specs.declared.records.Closing.{Closing}
 use Rattle.bike_ledger.specs.Entries.{Entry}
 use Rattle.bike_operator.specs.declared.records.Rental.{Rental}
@@ -114,6 +114,9 @@ rental_column : (kind : EntryKind) → IsColumn (rental_in kind) number_value (I
 rental_column TopUp = record { sound = λ v n e. let s = (number_column 0 0).sound v n e in (s.0, omega (arith, s.1.1)); full = λ n g. (number_column 0 0).full n (omega arith, omega (arith, g)) }
 rental_column Fare = number_column 1 100000000
 rental_column Refund = number_column 1 100000000
+rental_column Withdrawal = record { sound = λ v n e. let s = (number_column 0 0).sound v n e in (s.0, omega (arith, s.1.1)); full = λ n g. (number_column 0 0).full n (omega arith, omega (arith, g)) }
+rental_column Charge = record { sound = λ v n e. let s = (number_column 0 0).sound v n e in (s.0, omega (arith, s.1.1)); full = λ n g. (number_column 0 0).full n (omega arith, omega (arith, g)) }
+rental_column Credit = record { sound = λ v n e. let s = (number_column 0 0).sound v n e in (s.0, omega (arith, s.1.1)); full = λ n g. (number_column 0 0).full n (omega arith, omega (arith, g)) }
 
 payment_of : (z : ℤ) → IsBetween (pos 1) (pos 1000000) z → IsPayment z
 payment_of (pos n) g = record { hundredths = n; is = refl; low = omega (arith, ints, g.0); high = omega (arith, ints, g.1) }
@@ -130,6 +133,9 @@ amount_column : (kind : EntryKind) → IsColumn (amount_in kind) Int (IsStoredAm
 amount_column TopUp = payment_column
 amount_column Fare = signed_column (pos 0) greatest_amount
 amount_column Refund = payment_column
+amount_column Withdrawal = payment_column
+amount_column Charge = payment_column
+amount_column Credit = payment_column
 
 pub entry_reading : EntryReading
 entry_reading = record {

@@ -16,7 +16,7 @@ use Rattle.bike_fields.specs.NameKinds.{kind_text}
 use Rattle.bike_catalogue.specs.Rows.{TypeRow, RegionRow, MoreNameRow}
 use Rattle.bike_ledger.specs.Entries.{Entry}
 use Rattle.bike_ledger.specs.declared.entry.EntryKind.{EntryKind}
-use Rattle.bike_ledger.specs.declared.entry.EntryKind.TheVariants.{TopUp, Fare, Refund}
+use Rattle.bike_ledger.specs.declared.entry.EntryKind.TheVariants.{TopUp, Fare, Refund, Withdrawal, Charge, Credit}
 use Rattle.bike_operator.specs.declared.limits.TheConstants.{MOST_PLANS, MOST_TYPES, MOST_REGIONS, MOST_FURTHER_NAMES, MOST_STATIONS, MOST_BIKES, MOST_TRUCKS, MOST_RIDERS, MOST_ORDERS, MOST_ENTRIES}
 use Rattle.bike_operator.specs.declared.records.Place.{Place}
 use Rattle.bike_operator.specs.declared.records.Place.TheVariants as place
@@ -279,6 +279,9 @@ module _ (t : Tables) (up : AreInOrder t) (rows : AreGoodRows (operator_of t) t)
   fare_of_rental e TopUp is fare it = absurd cc
   fare_of_rental e Fare is fare it = it
   fare_of_rental e Refund is fare it = absurd cc
+  fare_of_rental e Withdrawal is fare it = absurd cc
+  fare_of_rental e Charge is fare it = absurd cc
+  fare_of_rental e Credit is fare it = absurd cc
 
   fare_fact : (rental n : ℕ) (e : Entry) → item_numbered n s.entries ≡ Some e → is_fare_of rental e ≡ true → IsFareOf s rental e.amount × IsFirstFare s n rental
   fare_fact rental n e found passes =

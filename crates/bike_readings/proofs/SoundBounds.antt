@@ -8,7 +8,7 @@ use Rattle.bike_fields.specs.Values.{SegmentRow}
 use Rattle.bike_catalogue.specs.Rows.{PlanRow, TypeRow, RegionRow, SystemRow, IsSystem}
 use Rattle.bike_ledger.specs.Entries.{Entry}
 use Rattle.bike_ledger.specs.declared.entry.EntryKind.{EntryKind}
-use Rattle.bike_ledger.specs.declared.entry.EntryKind.TheVariants.{TopUp, Fare, Refund}
+use Rattle.bike_ledger.specs.declared.entry.EntryKind.TheVariants.{TopUp, Fare, Refund, Withdrawal, Charge, Credit}
 use Rattle.bike_texts.specs.declared.ends.OrderEnd.{OrderEnd}
 use Rattle.bike_texts.specs.declared.ends.OrderEnd.TheVariants as end
 use Rattle.bike_texts.specs.Fields.{AreSegments, IsEnd}
@@ -235,11 +235,17 @@ module _ (s : Operator) (sound : IsSound s) where
   booked_rental e TopUp it = it.0
   booked_rental e Fare it = rental_number e.rental it.0.row it.0.found
   booked_rental e Refund it = rental_number e.rental it.0.row it.0.found
+  booked_rental e Withdrawal it = it.0
+  booked_rental e Charge it = it.0
+  booked_rental e Credit it = it.0
 
   booked_amount : (e : Entry) (kind : EntryKind) → IsBooking s e kind → IsStoredAmount kind e.amount
   booked_amount e TopUp it = it.1
   booked_amount e Fare it = (it.1, it.2)
   booked_amount e Refund it = it.1
+  booked_amount e Withdrawal it = it.1
+  booked_amount e Charge it = it.1
+  booked_amount e Credit it = it.1
 
   pub entry_stored : (number : ℕ) (e : Entry) → item_numbered number s.entries ≡ Some e → IsStoredEntry e
   entry_stored number e found =

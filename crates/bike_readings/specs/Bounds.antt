@@ -9,7 +9,7 @@ use Rattle.bike_catalogue.specs.Rows.{PlanRow, TypeRow, RegionRow, MoreNameRow, 
 use Rattle.bike_catalogue.specs.Rows.{IsMoreName}
 use Rattle.bike_ledger.specs.Entries.{Entry, greatest_amount}
 use Rattle.bike_ledger.specs.declared.entry.EntryKind.{EntryKind}
-use Rattle.bike_ledger.specs.declared.entry.EntryKind.TheVariants.{TopUp, Fare, Refund}
+use Rattle.bike_ledger.specs.declared.entry.EntryKind.TheVariants.{TopUp, Fare, Refund, Withdrawal, Charge, Credit}
 use Rattle.bike_texts.specs.Fields.{IsEnd}
 use Rattle.bike_operator.specs.declared.records.Place.{Place}
 use Rattle.bike_operator.specs.declared.records.Place.TheVariants as place
@@ -136,11 +136,17 @@ abbrev pub IsStoredRentalOf : EntryKind → ℕ → Type 0
 IsStoredRentalOf TopUp rental = rental ≡ 0
 IsStoredRentalOf Fare rental = IsSerial rental
 IsStoredRentalOf Refund rental = IsSerial rental
+IsStoredRentalOf Withdrawal rental = rental ≡ 0
+IsStoredRentalOf Charge rental = rental ≡ 0
+IsStoredRentalOf Credit rental = rental ≡ 0
 
 abbrev pub IsStoredAmount : EntryKind → ℤ → Type 0
 IsStoredAmount TopUp amount = IsPayment amount
 IsStoredAmount Fare amount = IsFare amount
 IsStoredAmount Refund amount = IsPayment amount
+IsStoredAmount Withdrawal amount = IsPayment amount
+IsStoredAmount Charge amount = IsPayment amount
+IsStoredAmount Credit amount = IsPayment amount
 
 pub record IsStoredEntry (e : Entry) : Type 0 where
   pub number : IsSerial e.number

@@ -21,7 +21,7 @@ use Rattle.bike_fields.specs.declared.name_kind.NameKind.{NameKind}
 use Rattle.bike_fields.specs.NameKinds.{kind_of as named_kind_of}
 use Rattle.bike_ledger.specs.Entries.{greatest_amount}
 use Rattle.bike_ledger.specs.declared.entry.EntryKind.{EntryKind}
-use Rattle.bike_ledger.specs.declared.entry.EntryKind.TheVariants.{TopUp, Fare, Refund}
+use Rattle.bike_ledger.specs.declared.entry.EntryKind.TheVariants.{TopUp, Fare, Refund, Withdrawal, Charge, Credit}
 use Rattle.bike_texts.specs.declared.ends.OrderEnd.{OrderEnd}
 use Rattle.bike_texts.specs.Reading.{end_of}
 use Rattle.bike_commands.specs.declared.command.Command.{Command}
@@ -131,18 +131,22 @@ serial_in = number_in 1 GREATEST_SERIAL
 abbrev pub kind_of : ℤ → Option EntryKind
 kind_of n =
     if int_eq n (pos 1) then Some TopUp else (if int_eq n (pos 2) then Some Fare
-    else (if int_eq n (pos 3) then Some Refund else None))
+    else (if int_eq n (pos 3) then Some Refund else (if int_eq n (pos 4) then Some Withdrawal
+    else (if int_eq n (pos 5) then Some Charge else (if int_eq n (pos 6) then Some Credit else None)))))
 
 abbrev pub kind_in : Value → Option EntryKind
 kind_in v = whole_in v >>= kind_of
 
--- the rental of an entry: 0 for a top-up
+-- the rental of an entry: 0 but for a fare and a refund
 abbrev pub rental_in : EntryKind → Value → Option ℕ
 rental_in TopUp = number_in 0 0
 rental_in Fare = serial_in
 rental_in Refund = serial_in
+rental_in Withdrawal = number_in 0 0
+rental_in Charge = number_in 0 0
+rental_in Credit = number_in 0 0
 
--- what may be paid in or refunded, in hundredths
+-- what may be paid in or out, refunded, charged or credited, in hundredths
 abbrev pub payment_in : Value → Option ℤ
 payment_in = signed_in (pos 1) (pos GREATEST_PAYMENT)
 
@@ -154,6 +158,9 @@ abbrev pub amount_in : EntryKind → Value → Option ℤ
 amount_in TopUp = payment_in
 amount_in Fare = fare_in
 amount_in Refund = payment_in
+amount_in Withdrawal = payment_in
+amount_in Charge = payment_in
+amount_in Credit = payment_in
 
 -- ---- the columns of a place, and of a closing
 

@@ -33,7 +33,7 @@ use Rattle.bike_catalogue.specs.Rows.{PlanRow, TypeRow, RegionRow, MoreNameRow}
 use Rattle.bike_fields.specs.declared.name_kind.NameKind.{NameKind}
 use Rattle.bike_ledger.specs.Entries.{Entry}
 use Rattle.bike_ledger.specs.declared.entry.EntryKind.{EntryKind}
-use Rattle.bike_ledger.specs.declared.entry.EntryKind.TheVariants.{TopUp, Fare, Refund}
+use Rattle.bike_ledger.specs.declared.entry.EntryKind.TheVariants.{TopUp, Fare, Refund, Withdrawal, Charge, Credit}
 use Rattle.bike_ledger.specs.Ledger.{balance_of, refunded_of}
 use Rattle.bike_operator.specs.declared.limits.TheConstants.{MOST_PLANS, MOST_TYPES, MOST_REGIONS, MOST_FURTHER_NAMES}
 use Rattle.bike_operator.specs.declared.limits.TheConstants.{MOST_STATIONS, MOST_BIKES, MOST_TRUCKS, MOST_RIDERS}
@@ -97,6 +97,9 @@ module _ (s : Operator) where
   IsOneFare e TopUp = Unit {0}
   IsOneFare e Fare = IsFareOf e.rental e.amount × IsFirstFare e.number e.rental
   IsOneFare e Refund = Unit {0}
+  IsOneFare e Withdrawal = Unit {0}
+  IsOneFare e Charge = Unit {0}
+  IsOneFare e Credit = Unit {0}
 
 -- Where a bicycle says that it is, by the rows with those numbers:
 -- numbering without gaps is demanded of rentals and orders themselves.

@@ -107,7 +107,7 @@ pub(crate) fn signed_in(part: &Part<'_>, at: usize, lo: i64, hi: i64) -> Option<
     None
 }
 
-/// The kind of an entry, stored as 1, 2 or 3.
+/// The kind of an entry, stored as 1 to 6.
 pub(crate) fn kind_in(part: &Part<'_>, at: usize) -> Option<EntryKind>
     ensures { result ≡ kind_in (column part.now at) }
 {
@@ -115,6 +115,9 @@ pub(crate) fn kind_in(part: &Part<'_>, at: usize) -> Option<EntryKind>
         1 => Some(EntryKind::TopUp),
         2 => Some(EntryKind::Fare),
         3 => Some(EntryKind::Refund),
+        4 => Some(EntryKind::Withdrawal),
+        5 => Some(EntryKind::Charge),
+        6 => Some(EntryKind::Credit),
         _ => None,
     }
 }

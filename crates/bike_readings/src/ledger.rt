@@ -56,7 +56,7 @@ pub struct StoredEntry {
     pub number: EntryNumber,
     pub kind: EntryKind,
     pub rider: RiderNumber,
-    /// Its rental, 0 for a top-up.
+    /// Its rental, 0 but for a fare and a refund.
     pub rental: u32,
     /// Its amount.
     pub amount: Cents,
@@ -140,18 +140,18 @@ pub fn read_rental(part: Part<'_>) -> Option<StoredRental<'_>>
     }
 }
 
-/// The rental of an entry of the kind: 0 for a top-up.
+/// The rental of an entry of the kind: 0 but for a fare and a refund.
 fn rental_in(kind: EntryKind, part: &Part<'_>) -> Option<u32>
     ensures { result ≡ rental_in kind (column part.now 3) }
 {
     match kind {
-        EntryKind::TopUp => {
-            let none: Within<0, 0> = number_in(part, entries::RENTAL)?;
-            Some(none.get())
-        }
         EntryKind::Fare | EntryKind::Refund => {
             let rental: RentalNumber = number_in(part, entries::RENTAL)?;
             Some(rental.get())
+        }
+        EntryKind::TopUp | EntryKind::Withdrawal | EntryKind::Charge | EntryKind::Credit => {
+            let none: Within<0, 0> = number_in(part, entries::RENTAL)?;
+            Some(none.get())
         }
     }
 }
@@ -161,8 +161,12 @@ fn amount_in(kind: EntryKind, part: &Part<'_>) -> Option<Cents>
     ensures { result ≡ amount_in kind (column part.now 4) }
 {
     let (least, most) = match kind {
-        EntryKind::TopUp | EntryKind::Refund => (1, i64::from(GREATEST_PAYMENT)),
         EntryKind::Fare => (0, GREATEST_FARE),
+        EntryKind::TopUp
+        | EntryKind::Refund
+        | EntryKind::Withdrawal
+        | EntryKind::Charge
+        | EntryKind::Credit => (1, i64::from(GREATEST_PAYMENT)),
     };
     Some(Cents::new(signed_in(part, entries::AMOUNT, least, most)?))
 }

@@ -36,6 +36,9 @@ pub(crate) fn kind_number(kind: EntryKind) -> i64
         EntryKind::TopUp => 1,
         EntryKind::Fare => 2,
         EntryKind::Refund => 3,
+        EntryKind::Withdrawal => 4,
+        EntryKind::Charge => 5,
+        EntryKind::Credit => 6,
     }
 }
 
