@@ -22,7 +22,10 @@ EDGES = {
     "any text": (["", "-", "?", "cargo:0:1", "city:1:0", "cargo:1:0;city:1:0", "\0", "é" * 5000], []),
     "currency": (["AZZ"], ["EU", "EURO", "EUr"]),
     "end": (["*", "-", "z" * 36], ["", "**", "z" * 37]),
-    "caller": (["office", "rider:1", "crew:999999", "dock:-", "import:" + "z" * 36], ["rider:0", "crew:1000000"]),
+    "caller": (
+        ["office", "office:-", "office:" + "z" * 36, "rider:1", "crew:999999", "dock:-", "import:" + "z" * 36],
+        ["office:", "office:A", "office:" + "z" * 37, "rider:0", "crew:1000000"],
+    ),
     "key": (["-", "Z" * 64], ["", "Z" * 65, "a.b"]),
     "command": (
         ["add-rider\t999999", "add-docks\ta1\t500", "remove-name\tplan\tday\tde", "set-name\ttype\tcity\ten\tC"],

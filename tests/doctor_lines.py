@@ -55,9 +55,10 @@ def test_fields_have_the_bounds_of_the_documents(program):
         for (name, kind), is_good in zip(fields, predicates):
             for text in samples():
                 assert (kind.fault(text) is None) == bool(is_good(text.encode())), (word, name, text, kind.fault(text))
-    callers = "office office: rider:1 rider:0 rider:1000000 crew:999999 crew: dock:a1 dock:A import:x rider x:1".split()
+    callers = "office office: office:a1 office:A office:a:b rider:1 rider:0 rider:1000000 crew:999999 crew:".split()
+    callers += "dock:a1 dock:A import:x rider x:1".split()
     is_moment = formats.within(0, formats.LAST_MOMENT)
-    for text in [*samples(), *callers, *(f"dock:{it}" for it in samples())]:
+    for text in [*samples(), *callers, *(f"{kind}:{it}" for kind in ("dock", "office") for it in samples())]:
         assert (doctor.caller_fault(text) is None) == bool(formats.is_caller(text.encode())), text
         assert (doctor.KINDS["key"].fault(text) is None) == bool(formats.is_key(text.encode())), text
         assert (doctor.KINDS["moment"].fault(text) is None) == bool(is_moment(text.encode())), text

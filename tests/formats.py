@@ -185,7 +185,7 @@ def is_caller(text):
     kind, colon, name = text.partition(b":")
     if not colon:
         return kind == b"office"
-    return COUNTED(name) if kind in (b"rider", b"crew") else kind in (b"dock", b"import") and is_ident(name)
+    return COUNTED(name) if kind in (b"rider", b"crew") else kind in (b"office", b"dock", b"import") and is_ident(name)
 
 
 def spells_request(line):

@@ -210,9 +210,9 @@ def command(pick):
 
 def caller(pick):
     if pick.random() < 0.95:
-        return pick.choice(["office", "office", "rider:17", "dock:a1", "crew:3", "import:first"])
+        return pick.choice(["office", "office", "office:ann", "rider:17", "dock:a1", "crew:3", "import:first"])
     return pick.choice([
-        "rider:0", "rider:017", "dock:", "dock:A1", "crew:1000000", "Office", "office:1", "", "rider:1:2"
+        "rider:0", "rider:017", "dock:", "dock:A1", "crew:1000000", "Office", "office:", "office:Ann", "", "rider:1:2"
     ])
 
 

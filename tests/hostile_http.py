@@ -23,6 +23,7 @@ ODD_TARGETS = [
     "/riders/1000000", "/riders/" + "9" * 400, "/docks/A1/end", "/docks/a1", "/docks//end", "/gbfs/3.0/",
     "/gbfs/3.0/x.json", "/../etc/passwd", "/riders/1/start/", "http://127.0.0.1/office", "/office#x", "/riders/1?x=%zz",
     "/?", "?", "/" + "a" * 7000, "/" + "a" * 9000, "/riders/" + "%41" * 2000, "/crews/1/load?" + "q" * 3000,
+    "/office/Ann", "/office/ann/", "/office/" + "a" * 37, "/office/a%6e", "/office/ann?x",
 ]
 ODD_VALUES = [
     b"1e400", b"-1e400", b"1e-400", b"01", b"nan", b'"\\ud800"', b'"\\u0000"', b"tru", b"-", b"1.", b'"\xff"', b'"\t"',
@@ -52,6 +53,7 @@ def posted(pick):
         "key": f"h{pick.randrange(10**6)}" if pick.random() < 0.96 else pick.choice(["", "k" * 65, 1, "é", "k 1", None])
     }
     rider, dock_at, truck = pick.randint(1, 9), pick.choice(["a1", "b2", "zz", "c-3"]), pick.choice([1, 3, 5])
+    person = pick.choice(["ann", "bob-2", "17", "_"])
     return pick.choice([
         (f"/riders/{rider}/start", {**named, "station": station, "dock": dock}),
         (f"/docks/{dock_at}/end", {**named, "bike": bike, "dock": dock}),
@@ -61,7 +63,7 @@ def posted(pick):
         (f"/crews/{truck}/unload", {**named, "order": order, "bike": bike, "side": side, "dock": dock}),
         (f"/crews/{truck}/mark-bike", {**named, "bike": bike, "state": state}),
         ("/office", {**named, "command": "\t".join(command(pick))}),
-        ("/office", {**named, "command": "\t".join(command(pick))}),
+        (f"/office/{person}", {**named, "command": "\t".join(command(pick))}),
         (
             "/office",
             {**named, "command": mutated(pick, "\t".join(command(pick)).encode(), True).decode(errors="replace")},
@@ -181,7 +183,7 @@ ROUTES = [
         {"order": (1, 100_000_000), "bike": (1, 999_999), "side": ("from", "to"), "dock": (0, formats.MOST_DOCKS)},
     ),
     (rb"/crews/(?P<truck>[^/]*)/mark-bike", "POST", {"bike": (1, 999_999), "state": ("disabled", "fit")}),
-    (rb"/office", "POST", {"command": "command"}),
+    (rb"/office", "POST", {"command": "command"}), (rb"/office/(?P<person>[^/]*)", "POST", {"command": "command"}),
     (rb"/riders/(?P<rider>[^/]*)", "GET", "row"), (rb"/bikes/(?P<rider>[^/]*)", "GET", "row"),
     (rb"/rentals/(?P<serial>[^/]*)", "GET", "row"), (rb"/orders/(?P<serial>[^/]*)", "GET", "row"),
     *((rb"/gbfs/3\.0/%s\.json" % it.encode(), "GET", "feed") for it in FEEDS),
@@ -302,7 +304,8 @@ def routed(method_given, path, body, operator):
         if parts is None:
             continue
         good = {
-            "rider": formats.COUNTED, "truck": formats.COUNTED, "station": formats.is_ident, "serial": formats.SERIALS
+            "rider": formats.COUNTED, "truck": formats.COUNTED, "station": formats.is_ident, "person": formats.is_ident,
+            "serial": formats.SERIALS,
         }
         if not all(good[name](value) for name, value in parts.groupdict().items()):
             return 404, "not_found"
@@ -328,7 +331,7 @@ def as_line(path, given):
     """The caller, key and command of a request over HTTP."""
     _, kind, *rest = path.split("/")
     if kind == "office":
-        return ["office", given["key"], given["command"]]
+        return [":".join([kind, *rest]), given["key"], given["command"]]
     name, word = rest
     caller = f"{kind.removesuffix('s')}:{name}"
     fields = {

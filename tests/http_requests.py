@@ -11,7 +11,8 @@ import time
 
 from serving import NOT_RIDING
 from shared import (
-    BAD_FIELD, FEEDS, MOMENT, START, STARTED, Server, answer, city, error, get, holds, post, refused, request, rest,
+    BAD_FIELD, FEEDS, MOMENT, START, STARTED, Server, answer, ask, city, error, get, holds, post, refused, request,
+    rest, rows_of,
 )
 from system_faults import System
 
@@ -219,6 +220,7 @@ def test_members_of_the_other_routes(program):
         "/crews/3/unload": {"key": "k", "order": 1, "bike": 7, "side": "to", "dock": 1},
         "/crews/3/mark-bike": {"key": "k", "bike": 7, "state": "disabled"},
         "/office": {"key": "k", "command": "mark-bike\t7\tdisabled"},
+        "/office/ann": {"key": "k", "command": "mark-bike\t7\tdisabled"},
     }
     wrong = {
         "key": [1, "", "k" * 65],
@@ -287,7 +289,9 @@ def test_the_order_of_tests(program):
 def test_paths(program):
     city(program)
     none = [
-        "/", "/nowhere", "*", "?", "/?", "//", "office", "//office", "/office/", "/office//", "/Office", "/office/x",
+        "/", "/nowhere", "*", "?", "/?", "//", "office", "//office", "/office/", "/office//", "/Office", "/office/A",
+        "/office/ann/", "/office//ann", "/office/ann/x", "/office/a.b", "/office/a%31", "/office/*",
+        "/office/" + "a" * 37,
         "/offic", "/office;x", "/office#x", "/%6fffice", "%2foffice", "http://127.0.0.1/office", "/./office",
         "/x/../office", "\\office", "/riders", "/riders/", "/riders//", "//riders/17", "/riders//17", "/riders/17/",
         "/riders/%31%37", "/riders/17%20", "/Riders/17", "/rider/17", "/riders/0", "/riders/017", "/riders/1000000",
@@ -305,6 +309,32 @@ def test_paths(program):
     ]
     holds(program, [(get(it), error(404)) for it in none])
     holds(program, [(post(it, START), error(404)) for it in none])
+
+
+def test_a_person_of_the_office(program):
+    """What /office/NAME is asked is answered as by /office. It stands under that name in the history, and its keys are
+    others than those of /office and of other names; request lines share them."""
+    city(program)
+
+    def top_up(target, cents):
+        return post(target, f'{{"key":"p1","command":"top-up\\t17\\t{cents}"}}')
+
+    def balance(cents):
+        return answer(200, f'{{"result":"ok","balance_cents":{cents}}}')
+
+    names = ["", "/ann", "/bob", "/" + "a0_-" * 9]
+    holds(program, [
+        *((top_up(f"/office{it}", 100 + at), balance(2600 + at * (201 + at) // 2)) for at, it in enumerate(names)),
+        *((top_up(f"/office{it}", 100 + at), balance(2600 + at * (201 + at) // 2)) for at, it in enumerate(names)),
+        *((top_up(f"/office{it}", 500), refused(33, "key_reused")) for it in names),
+        (post("/office/ann", '{"key":"p2","command":"top-up\\t18\\t1"}'), refused(4, "unknown_rider")),
+        (post("/office/ann", '{"key":"p2","command":"top-up\\t17"}'), BAD_FIELD),
+        (post("/office/ann?bob", '{"key":"p2","command":"add-rider\\t18"}'), answer(200, '{"result":"ok"}')),
+    ])
+    query = "SELECT caller, req_key FROM history WHERE req_key GLOB 'p*' ORDER BY number"
+    found = rows_of(query, program.folder, "city.db")
+    assert found == [*((f"office{it}".replace("/", ":"), "p1") for it in names), ("office:ann", "p2")], found
+    assert ask(program, ["top-up\t17\t101"], caller="office:ann", key="p") == ["balance\t2701"]
 
 
 def test_names_at_their_bounds(program):
@@ -347,8 +377,8 @@ def test_other_methods(program):
     """Each is answered alike, HEAD with a body too."""
     city(program)
     others = ["HEAD", "OPTIONS", "PUT", "DELETE", "PATCH", "TRACE", "CONNECT", "get", "Get", "post", "GETS", "X-Y", "!"]
-    posts = ["/office", "/riders/17/start", "/docks/a1/end", "/docks/a1/mark-dock", "/docks/a1/mark-bike"]
-    posts += ["/crews/3/load", "/crews/3/unload", "/crews/3/mark-bike"]
+    posts = ["/office", "/office/ann", "/riders/17/start", "/docks/a1/end", "/docks/a1/mark-dock"]
+    posts += ["/docks/a1/mark-bike", "/crews/3/load", "/crews/3/unload", "/crews/3/mark-bike"]
     gets = ["/riders/17", "/bikes/7", "/rentals/1", "/orders/1", *(f"/gbfs/3.0/{name}.json" for name in FEEDS)]
     holds(program, [
         *((get(it), error(405, "POST")) for it in posts),

@@ -237,7 +237,7 @@ def test_memory_that_is_refused_behind_the_opening(program):
 
 # A city whose records have every kind of field, asked for by every kind of caller that has a name.
 SET_UP = [
-    "office|k1|set-system|city|pt-BR|City|24/7|a@example.org|Europe/Rome|EUR|https://example.org|60",
+    "office:ann|k1|set-system|city|pt-BR|City|24/7|a@example.org|Europe/Rome|EUR|https://example.org|60",
     "crew:7|k1|add-plan|day|Day|1000000|true|d|" + ";".join(["0:25:10:-"] * 8),
     "dock:a1|k1|add-type|city|City|cargo_bicycle|human|0|day",
     "import:csv|k1|add-station|a1|Main St|0|0|1",

@@ -161,7 +161,7 @@ def test_every_route_is_there(program):
     wanted = {
         "post": (
             "/riders/{rider}/start /docks/{station}/end /docks/{station}/mark-dock /docks/{station}/mark-bike "
-            "/crews/{truck}/load /crews/{truck}/unload /crews/{truck}/mark-bike /office"
+            "/crews/{truck}/load /crews/{truck}/unload /crews/{truck}/mark-bike /office /office/{name}"
         ),
         "get": "/riders/{rider} /bikes/{bike} /rentals/{rental} /orders/{order} "
         + " ".join(f"/gbfs/3.0/{name}.json" for name in FEEDS),
@@ -169,7 +169,7 @@ def test_every_route_is_there(program):
     for method, paths in wanted.items():
         assert sorted(path for path, found, _ in operations() if found == method) == sorted(paths.split()), method
     names = [it["operationId"] for _, _, it in operations()]
-    assert len(names) == len(set(names)) == 19, names
+    assert len(names) == len(set(names)) == 20, names
 
 
 def test_every_reference_names_something(program):
@@ -207,7 +207,7 @@ def test_examples_fit_their_schemas(program):
                 why = misfit(example["value"], holder["content"]["application/json"]["schema"])
                 asked = holder is operation.get("requestBody")
                 if asked and name in unread:
-                    assert why or path == "/office", (path, name)
+                    assert why or path.startswith("/office"), (path, name)
                 else:
                     assert why is None, (path, name, why)
     for parameter in API["components"]["parameters"].values():

@@ -583,8 +583,9 @@ MAY = {
 }
 NEVER = [
     ("GET", "/riders/17/"), ("GET", "//riders/17"), ("GET", "/riders/17%0a"), ("GET", "/riders/1/../17/start"),
-    ("PUT", "/office"),
-    ("GET", "/office"), ("GET", "/riders/17/start"), ("POST", "/docks/a1/start"), ("POST", "/docks/b2/end"),
+    ("PUT", "/office"), ("POST", "/office/anna"), ("POST", "/office/bob"), ("POST", "/office/"),
+    ("GET", "/office"), ("GET", "/office/anna"), ("GET", "/riders/17/start"), ("POST", "/docks/a1/start"),
+    ("POST", "/docks/b2/end"),
     ("POST", "/crews/33/load"), ("GET", "/"),
 ]
 
@@ -631,6 +632,9 @@ def test_gateway_requests(program):
         found = [gateway.told("GET", "/riders/17", "rider:17")[0] for _ in range(10)]
         assert 200 in found and found[-1] == 429, found
         assert gateway.told("GET", "/bikes/7", "crew:3") == (200, "")
+        assert gateway.told("POST", "/office", "office:anna", '{"key":"s1","command":"top-up\\t17\\t1"}') == (200, "")
+    found = rows_of("SELECT caller FROM history WHERE req_key = 's1' ORDER BY number", program.folder, "city.db")
+    assert found == [("rider:17",), ("office:anna",)], found
     text = (gateway.folder / "logs/metro.log").read_text()
     log = [json.loads(it) for it in text.splitlines()]
     assert [it["caller"] for it in log[:3]] == ["rider:17"] * 3 and TOKENS["rider:17"] not in text

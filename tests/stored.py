@@ -160,7 +160,10 @@ CORRECTED_VALUES = {
     ],
 }
 
-CALLERS = ["office", "rider:1", "rider:7", "rider:999999", "dock:a1", "crew:7", "import:csv-2024", "import:" + "a" * 36]
+CALLERS = [
+    "office", "office:ann", "office:" + "a" * 36, "rider:1", "rider:7", "rider:999999", "dock:a1", "crew:7",
+    "import:csv-2024", "import:" + "a" * 36,
+]
 
 
 def text(lines):

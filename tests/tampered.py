@@ -73,9 +73,9 @@ ASKED = [
 
 
 def asked():
-    callers = ["office", "rider:17", "dock:a1", "crew:3", "import:first"]
+    callers = ["office", "rider:17", "dock:a1", "crew:3", "import:first", "office:ann"]
     lines = (
-        f"{1700000000 + 600 * at}\t{callers[at % 5]}\tk{at}\t{it.replace(' ', chr(9)).replace('_', ' ')}\n"
+        f"{1700000000 + 600 * at}\t{callers[at % 6]}\tk{at}\t{it.replace(' ', chr(9)).replace('_', ' ')}\n"
         for at, it in enumerate(ASKED)
     )
     return "".join(lines).replace("cargo bicycle", "cargo_bicycle").replace(

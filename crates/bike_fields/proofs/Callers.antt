@@ -15,7 +15,7 @@ use Rattle.bike_fields.specs.declared.numbers.TheConstants.{GREATEST_NUMBER}
 use Rattle.bike_fields.specs.Bytes.{is_ident, ident_of}
 use Rattle.bike_fields.specs.Caller.{IsCaller, caller_text, caller_of, caller_named, is_colon, ◌>>=◌}
 use Rattle.bike_fields.specs.declared.caller.Caller.{Caller}
-use Rattle.bike_fields.specs.declared.caller.Caller.TheVariants.{Office, Rider, Dock, Crew, Import}
+use Rattle.bike_fields.specs.declared.caller.Caller.TheVariants.{Office, Staff, Rider, Dock, Crew, Import}
 use Rattle.bike_fields.proofs.Lengths.{both_hold}
 
 -- ---- identifiers
@@ -86,6 +86,7 @@ read_number n low high = number_full 1 GREATEST_NUMBER (decimal n) n (lit< tt) (
 pub caller_full : (c : Caller) → IsCaller c → caller_of (caller_text c) ≡ Some c
 unfolding caller_named caller_of
 caller_full Office h = refl
+caller_full (Staff i) h = caller_at_colon (codes "office") i refl ∙ ap (λ o. o >>= λ i. Some (Staff i)) (ident_full i h)
 caller_full (Rider n) h = caller_at_colon (codes "rider") (decimal n) refl ∙ ap (λ o. o >>= λ n. Some (Rider n)) (read_number n h.0 h.1)
 caller_full (Dock i) h = caller_at_colon (codes "dock") i refl ∙ ap (λ o. o >>= λ i. Some (Dock i)) (ident_full i h)
 caller_full (Crew n) h = caller_at_colon (codes "crew") (decimal n) refl ∙ ap (λ o. o >>= λ n. Some (Crew n)) (read_number n h.0 h.1)
@@ -124,10 +125,11 @@ named_ident kind name word make c spelled good is e =
 named_sound : (kind name : List ℕ) (c : Caller) → caller_named kind name ≡ Some c → IsOf (kind ++ 58 ∷ name) c
 unfolding caller_named
 named_sound kind name c e =
+    pick (bytes_eq kind (codes "office")) _ _ c _ e (λ is e. named_ident kind name (codes "office") Staff c (λ i. refl) (λ i h. h) is e) (λ e.
     pick (bytes_eq kind (codes "rider")) _ _ c _ e (λ is e. named_number kind name (codes "rider") Rider c (λ n. refl) (λ n low high. (low, high)) is e) (λ e.
     pick (bytes_eq kind (codes "dock")) _ _ c _ e (λ is e. named_ident kind name (codes "dock") Dock c (λ i. refl) (λ i h. h) is e) (λ e.
     pick (bytes_eq kind (codes "crew")) _ _ c _ e (λ is e. named_number kind name (codes "crew") Crew c (λ n. refl) (λ n low high. (low, high)) is e) (λ e.
-    pick (bytes_eq kind (codes "import")) _ _ c _ e (λ is e. named_ident kind name (codes "import") Import c (λ i. refl) (λ i h. h) is e) (λ e. absurd cc))))
+    pick (bytes_eq kind (codes "import")) _ _ c _ e (λ is e. named_ident kind name (codes "import") Import c (λ i. refl) (λ i h. h) is e) (λ e. absurd cc)))))
 
 pub caller_sound : (text : List ℕ) (c : Caller) → caller_of text ≡ Some c → IsCaller c × (text ≡ caller_text c)
 unfolding caller_of

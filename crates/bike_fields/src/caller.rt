@@ -19,6 +19,8 @@ use std::alloc::{AllocError, Global};
 pub enum Caller {
     /// `office`
     Office,
+    /// `office:NAME`, a person of the office
+    Staff(Ident),
     /// `rider:N`
     Rider(RiderNumber),
     /// `dock:STATION`
@@ -34,6 +36,8 @@ pub enum Caller {
 pub enum CallerName<'a> {
     /// `office`
     Office,
+    /// `office:NAME`, a person of the office
+    Staff(&'a str),
     /// `rider:N`
     Rider(RiderNumber),
     /// `dock:STATION`
@@ -58,7 +62,8 @@ impl<'a> CallerName<'a> {
         }
     }
 
-    /// The caller, with memory of its own; an error where memory was refused, never of the office, a rider or a crew.
+    /// The caller, with memory of its own; an error where memory was refused, never of the office alone, a rider
+    /// or a crew.
     pub fn keep(self, alloc: Global) -> Result<Caller, AllocError>
         requires { HasIdent self }
         ensures value { IfOk result (λ caller. caller ≡ caller_meant self.entry) }
@@ -66,6 +71,7 @@ impl<'a> CallerName<'a> {
     {
         match self {
             CallerName::Office => Ok(Caller::Office),
+            CallerName::Staff(name) => Ok(Caller::Staff(Ident::of(alloc, name)?)),
             CallerName::Rider(number) => Ok(Caller::Rider(number)),
             CallerName::Dock(station) => Ok(Caller::Dock(Ident::of(alloc, station)?)),
             CallerName::Crew(truck) => Ok(Caller::Crew(truck)),
@@ -75,8 +81,8 @@ impl<'a> CallerName<'a> {
 }
 
 impl Caller {
-    /// The caller whose text this is; an error where memory was refused, which only the text of a dock or an import
-    /// asks for.
+    /// The caller whose text this is; an error where memory was refused, which only the text of a person of the office,
+    /// a dock or an import asks for.
     pub fn read(alloc: Global, text: &str) -> Result<Option<Caller>, AllocError>
         ensures read { IsReadAs (caller_of text.now) result }
         ensures spared { IfErr result (λ _. (c : Caller) → caller_of text.now ≡ Some c → HoldsIdent c) }
@@ -94,6 +100,10 @@ impl Caller {
         let mut out = ArrayString::new();
         match self {
             Caller::Office => out.push_str("office"),
+            Caller::Staff(name) => {
+                out.push_str("office:");
+                push_ident(&mut out, name);
+            }
             Caller::Rider(number) => {
                 out.push_str("rider:");
                 push_number(&mut out, number);
@@ -122,6 +132,7 @@ fn named<'a>(kind: &str, name: &'a str) -> Option<CallerName<'a>>
     ensures good { IfSome result HasIdent }
 {
     match kind {
+        "office" => Some(CallerName::Staff(Ident::checked(name)?)),
         "rider" => Some(CallerName::Rider(RiderNumber::read(name)?)),
         "dock" => Some(CallerName::Dock(Ident::checked(name)?)),
         "crew" => Some(CallerName::Crew(TruckNumber::read(name)?)),

@@ -25,6 +25,7 @@ routes =
     ∷ (codes "/crews/{truck}/unload", route.Unload)
     ∷ (codes "/crews/{truck}/mark-bike", route.MarkTruckBike)
     ∷ (codes "/office", route.Office)
+    ∷ (codes "/office/{name}", route.Staff)
     ∷ (codes "/riders/{rider}", route.Rider)
     ∷ (codes "/bikes/{bike}", route.Bike)
     ∷ (codes "/rentals/{rental}", route.Rental)

@@ -26,6 +26,8 @@ pub enum Route {
     MarkTruckBike,
     /// `/office`
     Office,
+    /// `/office/{name}`
+    Staff,
     /// `/riders/{rider}`
     Rider,
     /// `/bikes/{bike}`
@@ -38,7 +40,7 @@ pub enum Route {
     Publish(Feed),
 }
 
-const ROUTES: [(&str, Route); 19] = [
+const ROUTES: [(&str, Route); 20] = [
     ("/riders/{rider}/start", Route::Start),
     ("/docks/{station}/end", Route::End),
     ("/docks/{station}/mark-dock", Route::MarkDock),
@@ -47,6 +49,7 @@ const ROUTES: [(&str, Route); 19] = [
     ("/crews/{truck}/unload", Route::Unload),
     ("/crews/{truck}/mark-bike", Route::MarkTruckBike),
     ("/office", Route::Office),
+    ("/office/{name}", Route::Staff),
     ("/riders/{rider}", Route::Rider),
     ("/bikes/{bike}", Route::Bike),
     ("/rentals/{rental}", Route::Rental),
@@ -141,6 +144,7 @@ pub fn route_laws(_example: Route)
     ensures start { route_at (codes "/riders/17/start") ≡ Some Route.Start }
     ensures rider { route_at (codes "/riders/17") ≡ Some Route.Rider }
     ensures office { route_at (codes "/office") ≡ Some Route.Office }
+    ensures staff { route_at (codes "/office/ann") ≡ Some Route.Staff }
     ensures feed { route_at (codes "/gbfs/3.0/station_status.json") ≡ Some (Route.Publish Feed.StationStatus) }
     ensures any_part { route_at (codes "/bikes/x%2f") ≡ Some Route.Bike }
     // Paths that are near one and have none.
@@ -148,7 +152,8 @@ pub fn route_laws(_example: Route)
     ensures empty { route_at (codes "/riders//start") ≡ None }
     ensures no_rider { route_at (codes "/riders/") ≡ None }
     ensures doubled { route_at (codes "//office") ≡ None }
-    ensures longer { route_at (codes "/office/") ≡ None }
+    ensures no_name { route_at (codes "/office/") ≡ None }
+    ensures longer { route_at (codes "/office/ann/") ≡ None }
     ensures other_feed { route_at (codes "/gbfs/3.0/x.json") ≡ None }
     ensures absolute { route_at (codes "http://h/office") ≡ None }
 {}

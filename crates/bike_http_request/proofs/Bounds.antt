@@ -154,6 +154,7 @@ command_good route (caller.Rider rider) known body = start_good rider known body
 command_good route (caller.Dock station) known body = dock_command_good route station known body
 command_good route (caller.Crew truck) known body = crew_command_good route truck known body
 command_good route caller.Office known body = office_good body
+command_good route (caller.Staff name) known body = office_good body
 command_good route (caller.Import name) known body = office_good body
 
 -- ---- the request
@@ -171,6 +172,7 @@ caller_good route.Load part = named caller.Crew _ (number_named part)
 caller_good route.Unload part = named caller.Crew _ (number_named part)
 caller_good route.MarkTruckBike part = named caller.Crew _ (number_named part)
 caller_good route.Office part = made tt
+caller_good route.Staff part = named caller.Staff _ (ident_good part)
 caller_good _ part = record { value = λ c e. absurd cc }
 
 pub request_good : (route : Route) (part : List ℕ) (body : Data) (c : Caller) (key : List ℕ) (given : Command)

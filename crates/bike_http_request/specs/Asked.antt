@@ -28,8 +28,8 @@ use Rattle.bike_http_head.specs.Head.{HasHead, HasNoHead}
 use Rattle.bike_http_head.specs.Length.{body_length}
 use Rattle.bike_http_head.specs.Table.{path_of, found_at}
 use Rattle.bike_http_request.specs.Members.{key_in}
-use Rattle.bike_http_request.specs.Bodies.{rider_in, station_in, truck_in, start_of, end_of, mark_dock_of, mark_bike_of}
-use Rattle.bike_http_request.specs.Bodies.{load_of, unload_of, office_command}
+use Rattle.bike_http_request.specs.Bodies.{rider_in, station_in, staff_in, truck_in, start_of, end_of, mark_dock_of}
+use Rattle.bike_http_request.specs.Bodies.{mark_bike_of, load_of, unload_of, office_command}
 use Rattle.bike_http_request.specs.declared.action.Action.{Action}
 use Rattle.bike_http_request.specs.declared.action.Action.TheVariants.{Reject, Apply, Show, Publish}
 
@@ -80,6 +80,9 @@ asked_by_crew command method part = posted method (truck_in part) caller.Crew co
 abbrev pub asked_by_office : List ℕ → List ℕ → Action
 asked_by_office method = posted_by method caller.Office office_command
 
+abbrev pub asked_by_staff : List ℕ → List ℕ → List ℕ → Action
+asked_by_staff method part = posted method (staff_in part) caller.Staff (λ name. office_command)
+
 -- ---- what is shown
 
 abbrev pub got : List ℕ → Action → Action
@@ -99,6 +102,7 @@ asked_at route.Load method part body = asked_by_crew load_of method part body
 asked_at route.Unload method part body = asked_by_crew unload_of method part body
 asked_at route.MarkTruckBike method part body = asked_by_crew (λ truck. mark_bike_of) method part body
 asked_at route.Office method part body = asked_by_office method body
+asked_at route.Staff method part body = asked_by_staff method part body
 asked_at route.Rider method part body = shown method (option_map row.Rider (number_of 1 GREATEST_NUMBER part))
 asked_at route.Bike method part body = shown method (option_map row.Bike (number_of 1 GREATEST_NUMBER part))
 asked_at route.Rental method part body = shown method (option_map row.Rental (number_of 1 GREATEST_SERIAL part))
@@ -130,6 +134,7 @@ ActsAt route.Load method part = MayAct method (truck_in part)
 ActsAt route.Unload method part = MayAct method (truck_in part)
 ActsAt route.MarkTruckBike method part = MayAct method (truck_in part)
 ActsAt route.Office method part = IsPost method
+ActsAt route.Staff method part = MayAct method (staff_in part)
 ActsAt _ method part = ⊥
 
 abbrev pub ActsFound : Option (Route × List ℕ) → List ℕ → Type 0

@@ -25,12 +25,15 @@ dock_in = number_in 1 MOST_DOCKS (codes "dock")
 abbrev pub order_in : Data → Option ℕ
 order_in = number_in 1 GREATEST_SERIAL (codes "order")
 
--- what the part of a path names: a rider, a station or a truck
+-- what the part of a path names: a rider, a station, a person of the office or a truck
 abbrev pub rider_in : List ℕ → Option ℕ
 rider_in = number_of 1 GREATEST_NUMBER
 
 abbrev pub station_in : List ℕ → Option (List ℕ)
 station_in = ident_of
+
+abbrev pub staff_in : List ℕ → Option (List ℕ)
+staff_in = ident_of
 
 abbrev pub truck_in : List ℕ → Option ℕ
 truck_in = number_of 1 GREATEST_NUMBER
@@ -102,6 +105,7 @@ caller_at route.Load part = option_map caller.Crew (truck_in part)
 caller_at route.Unload part = option_map caller.Crew (truck_in part)
 caller_at route.MarkTruckBike part = option_map caller.Crew (truck_in part)
 caller_at route.Office part = Some caller.Office
+caller_at route.Staff part = option_map caller.Staff (staff_in part)
 caller_at _ part = None
 
 -- the command that the body gives to a caller's route

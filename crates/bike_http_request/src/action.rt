@@ -100,6 +100,7 @@ fn caller_at<'p>(route: Route, part: &'p str) -> Option<CallerName<'p>>
             Some(CallerName::Crew(Within::read(part)?))
         }
         Route::Office => Some(CallerName::Office),
+        Route::Staff => Some(CallerName::Staff(Ident::checked(part)?)),
         _ => None,
     }
 }
@@ -159,7 +160,8 @@ fn ask_at(
         | Route::Load
         | Route::Unload
         | Route::MarkTruckBike
-        | Route::Office => act(alloc, route, method, part, body),
+        | Route::Office
+        | Route::Staff => act(alloc, route, method, part, body),
         Route::Rider => Ok(show(method, Within::read(part).map(RowKey::Rider))),
         Route::Bike => Ok(show(method, Within::read(part).map(RowKey::Bike))),
         Route::Rental => Ok(show(method, Within::read(part).map(RowKey::Rental))),

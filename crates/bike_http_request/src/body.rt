@@ -166,6 +166,6 @@ pub(crate) fn read_command_by(
         Caller::Rider(rider) => read_start(alloc, *rider, body),
         Caller::Dock(station) => read_dock_command(alloc, route, station, body),
         Caller::Crew(truck) => Ok(read_crew_command(route, *truck, body)),
-        Caller::Office | Caller::Import(_) => read_office(alloc, body),
+        Caller::Office | Caller::Staff(_) | Caller::Import(_) => read_office(alloc, body),
     }
 }

@@ -16,7 +16,7 @@ use Rattle.bike_fixed.proofs.Spellings.{micro_text_spelled}
 use Rattle.bike_fields.specs.Bytes.{is_ident, is_printable}
 use Rattle.bike_fields.specs.Caller.{IsCaller, caller_text}
 use Rattle.bike_fields.specs.declared.caller.Caller.{Caller}
-use Rattle.bike_fields.specs.declared.caller.Caller.TheVariants.{Office, Rider, Dock, Crew, Import}
+use Rattle.bike_fields.specs.declared.caller.Caller.TheVariants.{Office, Staff, Rider, Dock, Crew, Import}
 use Rattle.bike_fields.proofs.Lengths.{both_hold}
 use Rattle.bike_fields.specs.Values.{SegmentRow, IsSegment, IsRange, IsEnd as IsSegmentEnd}
 use Rattle.bike_fields.specs.declared.vehicle.Form.{Form}
@@ -279,6 +279,7 @@ reply_utf8 (Refused refusal) g taken = absurd cc
 
 pub caller_utf8 : (c : Caller) → IsCaller c → is_utf8 (caller_text c) ≡ true
 caller_utf8 Office g = word_utf8 (codes "office") refl
+caller_utf8 (Staff name) g = is_utf8-from_IsUtf8 (caller_text (Staff name)) (IsUtf8-append (codes "office:") name (printed (codes "office:") refl) (IsUtf8-from_is_utf8 name (ident_utf8 name g)))
 caller_utf8 (Rider n) g = is_utf8-from_IsUtf8 (caller_text (Rider n)) (IsUtf8-append (codes "rider:") (decimal n) (printed (codes "rider:") refl) (decimal_utf8 n (omega (arith, g.1))))
 caller_utf8 (Dock station) g =
     is_utf8-from_IsUtf8 (caller_text (Dock station)) (IsUtf8-append (codes "dock:") station (printed (codes "dock:") refl) (IsUtf8-from_is_utf8 station (ident_utf8 station g)))

@@ -12,7 +12,7 @@ use Rattle.bike_fields.specs.Bytes.{is_key, key_of, is_key_byte, is_ident, is_id
 use Rattle.bike_fields.specs.Caller.{IsCaller, caller_text, caller_of, caller_meant}
 use Rattle.bike_fields.specs.declared.caller.CallerName.{CallerName}
 use Rattle.bike_fields.specs.declared.caller.Caller.{Caller}
-use Rattle.bike_fields.specs.declared.caller.Caller.TheVariants.{Office, Rider, Dock, Crew, Import}
+use Rattle.bike_fields.specs.declared.caller.Caller.TheVariants.{Office, Staff, Rider, Dock, Crew, Import}
 use Rattle.bike_fields.proofs.Callers.{caller_sound, caller_full}
 use Rattle.bike_fields.specs.Reads.{IsReadAs}
 use Rattle.bike_texts.specs.Parts.{Parts}
@@ -44,6 +44,7 @@ ident_no_tab name good = set_lacks is_ident_byte 9 refl name (both_hold (has_len
 
 caller_no_tab : (c : Caller) → IsCaller c → HasNoTab (caller_text c)
 caller_no_tab Office good = refl
+caller_no_tab (Staff name) good = append_no_tab (codes "office") (58 ∷ name) refl (ident_no_tab name good)
 caller_no_tab (Rider n) good = append_no_tab (codes "rider") (58 ∷ decimal n) refl (decimal_no_tab n (omega (arith, good.1)))
 caller_no_tab (Dock station) good = append_no_tab (codes "dock") (58 ∷ station) refl (ident_no_tab station good)
 caller_no_tab (Crew n) good = append_no_tab (codes "crew") (58 ∷ decimal n) refl (decimal_no_tab n (omega (arith, good.1)))
