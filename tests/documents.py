@@ -342,6 +342,24 @@ def test_public_items_have_a_sentence(program):
     assert files and not bare, bare
 
 
+PASSED = re.compile(r"^pub use (?:bike_\w+)::(?:\{([^}]*)\}|(\w+));", re.M)
+
+
+def test_names_passed_on(program):
+    """Three crates pass names of others on, as a part of their surface, and none passes on a module of definitions or
+    of proofs."""
+    names = {}
+    for file in (TOP / "crates").glob("*/src/**/*.rt"):
+        for several, one in PASSED.findall(file.read_text(encoding="utf-8")):
+            crate = file.relative_to(TOP / "crates").parts[0]
+            names.setdefault(crate, []).extend(it.strip() for it in (several or one).split(",") if it.strip())
+    assert set(names) == {"bike_core", "bike_app", "bike_http"} and sum(map(len, names.values())) <= 30, names
+    for file in (TOP / "crates").glob("*/*/**/*.antt"):
+        own = file.relative_to(TOP / "crates").parts[0]
+        passed = re.findall(r"^pub use Rattle\.(bike_\w+)", file.read_text(encoding="utf-8"), re.M)
+        assert set(passed) <= {own}, (file, passed)
+
+
 def test_days_of_figures(program):
     """Outside of CHANGELOG.md at most ten days stand on which something was measured or tried, and no time of day. Days
     of examples, which are of another year, don't count."""

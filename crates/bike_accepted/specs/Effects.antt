@@ -2,10 +2,10 @@
 use Rattle.std.specs.Prelude.{◌≡◌, ℕ, List, true, false, Option, Some, None, option_map, Result, Ok, Err}
 use Rattle.std.specs.FinMap as map
 use Rattle.std.specs.Borrow.{Bor}
-use Rattle.bike_operator.specs.Entries.{Entry}
-use Rattle.bike_operator.specs.Rows.{moved_to, more_docks, system_with}
-use Rattle.bike_operator.specs.Command.{Command}
-use Rattle.bike_operator.specs.Refusal.{Refusal}
+use Rattle.bike_ledger.specs.Entries.{Entry}
+use Rattle.bike_catalogue.specs.Rows.{moved_to, more_docks, system_with}
+use Rattle.bike_commands.specs.declared.command.Command.{Command}
+use Rattle.bike_commands.specs.declared.refusal.Refusal.{Refusal}
 use Rattle.bike_operator.specs.declared.records.BikeState.TheVariants.{Fit}
 use Rattle.bike_operator.specs.declared.records.Place.TheVariants as place
 use Rattle.bike_operator.specs.declared.records.Bike.{Bike}

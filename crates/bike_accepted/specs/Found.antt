@@ -3,9 +3,9 @@ use Rattle.std.specs.Prelude.{◌≡◌, ℕ, ℤ, ◌+◌, ◌+ℤ◌, List, le
 use Rattle.std.specs.Prelude.{IfSome}
 use Rattle.std.specs.FinMap as map
 use Rattle.std.specs.Borrow.{Bor}
-use Rattle.bike_operator.specs.Entries.{Entry}
-use Rattle.bike_operator.specs.Ledger.{credit, given_back, balance_of, refunded_of}
-use Rattle.bike_operator.specs.Command.{Command}
+use Rattle.bike_ledger.specs.Entries.{Entry}
+use Rattle.bike_ledger.specs.Ledger.{credit, given_back, balance_of, refunded_of}
+use Rattle.bike_commands.specs.declared.command.Command.{Command}
 use Rattle.bike_operator.specs.declared.records.Place.{Place}
 use Rattle.bike_operator.specs.declared.records.Place.TheVariants as place
 use Rattle.bike_operator.specs.declared.records.Bike.{Bike}

@@ -1,7 +1,7 @@
 //! What is answered and made of an accepted command.
 
 ghost use Rattle.std.specs.Prelude.{◌≡◌, Some, None};
-ghost use Rattle.bike_operator.specs.Reply.TheVariants.{Done};
+ghost use Rattle.bike_commands.specs.declared.reply.Reply.TheVariants.{Done};
 
 use crate::change::Change;
 use crate::movement::Movement;

@@ -22,10 +22,10 @@ use Rattle.bike_audit.specs.declared.adoption.AdoptFault.{AdoptFault}
 use Rattle.bike_audit.specs.declared.adoption.AdoptCause.{AdoptCause}
 use Rattle.bike_audit.specs.declared.adoption.AdoptCause.TheVariants as adopt
 use Rattle.bike_audit.specs.Adoption.{IsWantFor, IsWant, IsToldOf, handed, Adopts, Looks}
-use Rattle.bike_console.specs.Raising as raising
-use Rattle.bike_console.specs.RaiseFault.{RaiseFault}
-use Rattle.bike_console.specs.RaiseCause.{RaiseCause}
-use Rattle.bike_console.specs.RaiseCause.TheVariants as raise
+use Rattle.bike_migrate.specs.Raising as raising
+use Rattle.bike_migrate.specs.declared.fault.RaiseFault.{RaiseFault}
+use Rattle.bike_migrate.specs.declared.fault.RaiseCause.{RaiseCause}
+use Rattle.bike_migrate.specs.declared.fault.RaiseCause.TheVariants as raise
 use Rattle.bike_batch.specs.declared.line_fault.LinesFault.{LinesFault}
 use Rattle.bike_console.specs.declared.end.Fault.{Fault}
 use Rattle.bike_console.specs.Ends.{lines_fault, adoption_fault, adopt_fault, raising_fault, raise_fault, end_of}

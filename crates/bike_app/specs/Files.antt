@@ -19,7 +19,7 @@ use Rattle.bike_operator.specs.Operator.{Operator}
 use Rattle.bike_schema.specs.Stands.{AllLeft}
 use Rattle.bike_recognition.specs.declared.earlier_versions.earlier.Earlier.{Earlier}
 use Rattle.bike_recognition.specs.EarlierVersions.Stores.{TreesStandForAt}
-use Rattle.bike_console.specs.Raising.{TreesStandSince}
+use Rattle.bike_migrate.specs.Raising.{TreesStandSince}
 use Rattle.bike_recognition.specs.Added.{has_added_unique}
 use Rattle.bike_command_line.specs.declared.task.FileTask.{FileTask}
 use Rattle.bike_command_line.specs.declared.task.FileTask.TheVariants.{Init, Raise, Lines, Import}

@@ -9,8 +9,8 @@ use Rattle.bike_schema.specs.Stands.{AllLeft}
 use Rattle.bike_stream.specs.Writing.{AppendsFront}
 use Rattle.bike_recognition.specs.declared.earlier_versions.earlier.Earlier.{Earlier}
 use Rattle.bike_recognition.specs.EarlierVersions.Stores.{StandsForAt, TreesStandForAt}
-use Rattle.bike_console.specs.Raising.{handed, Holds, IsToldOf, IsWant, TreesStandSince}
-use Rattle.bike_console.specs.RaiseFault.{RaiseFault}
+use Rattle.bike_migrate.specs.Raising.{handed, Holds, IsToldOf, IsWant, TreesStandSince}
+use Rattle.bike_migrate.specs.declared.fault.RaiseFault.{RaiseFault}
 use Rattle.bike_console.specs.declared.end.Fault.{Fault}
 use Rattle.bike_console.specs.declared.end.Fault.TheVariants.{WriteFailed}
 use Rattle.bike_console.specs.Ends.{raise_fault}

@@ -8,7 +8,8 @@ ghost use Rattle.bike_app.specs.Raises.{CrashLeavesRaised, TellsRaised};
 
 use crate::words::write_line;
 use bike_audit::Watch;
-use bike_console::{Fault, raise_watched};
+use bike_console::Fault;
+use bike_migrate::raise_watched;
 use sqlite::{Alter, Connection};
 use std::alloc::Global;
 use std::io::Write;

@@ -4,4 +4,3 @@ pub mod AdoptLemmas
 pub mod FoundLemmas
 mod AdoptToldLemmas
 pub mod LookLemmas
-pub use Rattle.bike_desk.proofs.KeepLemmas

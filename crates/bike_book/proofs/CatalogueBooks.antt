@@ -10,13 +10,13 @@ use Rattle.sqlite_value.specs.declared.value.Value.TheVariants.{Int, Text}
 use Rattle.sqlite_value.specs.Order.{row_cmp}
 use Rattle.bike_sql.specs.View.{put_row_by, row_with, rows_after_update, with_values}
 use Rattle.bike_sql.proofs.SetLaw.{updated_there}
-use Rattle.bike_operator.specs.Rows.{SystemRow, SettingsRow, moved_to, system_with}
+use Rattle.bike_catalogue.specs.Rows.{SystemRow, SettingsRow, moved_to, system_with}
 use Rattle.bike_operator.specs.Operator.{Operator, Station, NameKey, name_key}
 use Rattle.bike_operator.specs.Steps.{new_station}
 use Rattle.bike_operator.specs.Changes.{text_in}
 use Rattle.bike_operator.specs.Sound.{AreNamesSound}
-use Rattle.bike_accepted.proofs.MapLemmas.{number_order}
-use Rattle.bike_accepted.proofs.CatalogueLemmas.{same_docks, docks_changed, docks_added}
+use Rattle.bike_laws.proofs.SingleSteps.MapLemmas.{number_order}
+use Rattle.bike_laws.proofs.SingleSteps.CatalogueLemmas.{same_docks, docks_changed, docks_added}
 use Rattle.bike_accepted.specs.declared.change.Change.TheVariants as change
 use Rattle.bike_accepted.specs.Effects.{after_change}
 use Rattle.bike_book.specs.Rows.{number_value, system_row, station_row}

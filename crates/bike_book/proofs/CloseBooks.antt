@@ -2,11 +2,11 @@
 use Rattle.std.proofs.Common.{◌≡◌, ℕ, ◌+◌, List, [], ◌∷◌, ◌++◌, length, Some, refl, ◌∙◌}
 use Rattle.std.specs.Prelude.{map}
 use Rattle.bike_sql.specs.View.{put_row_by}
-use Rattle.bike_operator.specs.Reply.{Reply}
-use Rattle.bike_operator.specs.Request.{Request}
+use Rattle.bike_commands.specs.declared.reply.Reply.{Reply}
+use Rattle.bike_commands.specs.declared.request.Request.{Request}
 use Rattle.bike_operator.specs.Operator.{AcceptedRequest}
 use Rattle.bike_operator.specs.Changes.{entry_added}
-use Rattle.bike_accepted.proofs.CatalogueLemmas.{same_docks}
+use Rattle.bike_laws.proofs.SingleSteps.CatalogueLemmas.{same_docks}
 use Rattle.bike_book.specs.Rows.{history_row}
 use Rattle.bike_book.specs.Stored.{with_numbers, stored_request}
 use Rattle.bike_book.specs.Between.{tables_between}

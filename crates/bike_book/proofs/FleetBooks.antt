@@ -9,10 +9,10 @@ use Rattle.bike_operator.specs.declared.records.Place.TheVariants as place
 use Rattle.bike_operator.specs.declared.records.Bike.{Bike}
 use Rattle.bike_operator.specs.Operator.{Operator}
 use Rattle.bike_operator.specs.Counts.{count, is_available, is_working_dock, docks_broken}
-use Rattle.bike_accepted.proofs.CatalogueLemmas.{same_docks}
-use Rattle.bike_accepted.proofs.MapLemmas.{number_order, there_of}
-use Rattle.bike_accepted.proofs.CountLemmas.{one, weight, count-added}
-use Rattle.bike_accepted.specs.Numbers.{is_disabled_of}
+use Rattle.bike_laws.proofs.SingleSteps.CatalogueLemmas.{same_docks}
+use Rattle.bike_laws.proofs.SingleSteps.MapLemmas.{number_order, there_of}
+use Rattle.bike_laws.proofs.SingleSteps.CountLemmas.{one, weight, count-added}
+use Rattle.bike_laws.specs.SingleSteps.Numbers.{is_disabled_of}
 use Rattle.bike_accepted.specs.declared.change.Change.TheVariants as change
 use Rattle.bike_accepted.specs.Effects.{after_change}
 use Rattle.bike_book.specs.declared.by_type.CountedType.{CountedType}

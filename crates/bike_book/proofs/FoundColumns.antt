@@ -18,9 +18,9 @@ use Rattle.bike_sql.specs.View.{rows_where}
 use Rattle.bike_fields.specs.NameKinds.{kind_text}
 use Rattle.bike_fields.specs.declared.name_kind.NameKind.{NameKind}
 use Rattle.bike_fields.specs.Values.{SegmentRow}
-use Rattle.bike_operator.specs.Rows.{PlanRow}
+use Rattle.bike_catalogue.specs.Rows.{PlanRow}
 use Rattle.bike_ledger.specs.Entries.{Entry}
-use Rattle.bike_operator.specs.Caller.{caller_text}
+use Rattle.bike_fields.specs.Caller.{caller_text}
 use Rattle.bike_operator.specs.declared.records.Place.{Place}
 use Rattle.bike_operator.specs.declared.records.Place.TheVariants as place
 use Rattle.bike_operator.specs.declared.records.Bike.{Bike}
@@ -28,7 +28,7 @@ use Rattle.bike_operator.specs.declared.records.Rental.{Rental}
 use Rattle.bike_operator.specs.Operator.{Operator, AcceptedRequest, NameKey, text_cmp, texts_cmp, key_of, key_in, kept_under}
 use Rattle.bike_operator.specs.Counts.{is_dock, is_on_truck, is_for_order, is_open}
 use Rattle.bike_operator.specs.Names.{part_at, is_name_of, further_names}
-use Rattle.bike_accepted.proofs.MapLemmas.{text_order, texts_order, tied}
+use Rattle.bike_laws.proofs.SingleSteps.MapLemmas.{text_order, texts_order, tied}
 use Rattle.bike_book.specs.Rows.{number_value, bike_row, segment_row, name_row}
 use Rattle.bike_book.specs.Stored.{numbers_from, with_numbers, segment_rows, plans_segments, stored_bike, stored_rental, stored_request, stored_name}
 use Rattle.bike_book.specs.Found.{WhereListed, FoundByColumns, AreRowOf, segments_in, rows_open}

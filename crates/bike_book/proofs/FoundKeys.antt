@@ -4,7 +4,7 @@ use Rattle.std.specs.Prelude.{option_map}
 use Rattle.std.specs.FinMap as fin
 use Rattle.sqlite_value.specs.declared.value.Value.TheVariants.{Text}
 use Rattle.bike_sql.specs.View.{row_with}
-use Rattle.bike_operator.specs.Rows.{SystemRow}
+use Rattle.bike_catalogue.specs.Rows.{SystemRow}
 use Rattle.bike_operator.specs.Operator.{Operator, DockKey, name_key, dock_key}
 use Rattle.bike_operator.specs.Counts.{is_broken}
 use Rattle.bike_book.specs.declared.version.TheConstants.{NEWEST}

@@ -12,7 +12,7 @@ use Rattle.sqlite_value.proofs.OrderLemmas.{value_cmp-Int, value_cmp-Text, then-
 use Rattle.bike_fields.specs.NameKinds.{kind_text}
 use Rattle.bike_fields.specs.declared.name_kind.NameKind.{NameKind}
 use Rattle.bike_operator.specs.Operator.{NameKey, DockKey, name_key, dock_key, text_cmp, texts_cmp}
-use Rattle.bike_accepted.proofs.MapLemmas.{number_order, text_order, texts_order}
+use Rattle.bike_laws.proofs.SingleSteps.MapLemmas.{number_order, text_order, texts_order}
 use Rattle.bike_book.specs.Rows.{number_value, first_text, second_text, third_text, second_number}
 use Rattle.bike_book.proofs.MapRows.{StoresKeys}
 

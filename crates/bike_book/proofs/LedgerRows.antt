@@ -14,7 +14,7 @@ use Rattle.bike_ledger.proofs.SumLemmas.{total-append, balance_of-own, balance_o
 use Rattle.bike_operator.specs.declared.records.Rental.{Rental}
 use Rattle.bike_operator.specs.declared.records.Closing.{Closing}
 use Rattle.bike_operator.specs.Operator.{Rider}
-use Rattle.bike_accepted.proofs.MapLemmas.{number_order}
+use Rattle.bike_laws.proofs.SingleSteps.MapLemmas.{number_order}
 use Rattle.bike_book.specs.Rows.{meta_row, rider_row, entry_row, rental_row}
 use Rattle.bike_book.specs.Stored.{with_numbers, stored_rider, stored_entry, stored_rental}
 use Rattle.bike_book.proofs.MapRows.{same_rows, kept_entries}

@@ -13,11 +13,11 @@ use Rattle.bike_sql.specs.View.{row_with, rows_after_update, with_values}
 use Rattle.bike_sql.proofs.SetLaw.{updated_there}
 use Rattle.bike_fields.specs.declared.name_kind.NameKind.TheVariants as named
 use Rattle.bike_fields.specs.Values.{SegmentRow}
-use Rattle.bike_operator.specs.Rows.{PlanRow, TypeRow, RegionRow, SystemRow}
+use Rattle.bike_catalogue.specs.Rows.{PlanRow, TypeRow, RegionRow, SystemRow}
 use Rattle.bike_operator.specs.Operator.{Station, text_cmp, name_key}
 use Rattle.bike_operator.specs.Steps.{found_changed, key_changed, system_named}
-use Rattle.bike_accepted.proofs.CatalogueLemmas.{same_docks, docks_changed}
-use Rattle.bike_accepted.proofs.MapLemmas.{text_order}
+use Rattle.bike_laws.proofs.SingleSteps.CatalogueLemmas.{same_docks, docks_changed}
+use Rattle.bike_laws.proofs.SingleSteps.MapLemmas.{text_order}
 use Rattle.bike_accepted.specs.declared.change.Change.TheVariants as change
 use Rattle.bike_accepted.specs.Effects.{after_change}
 use Rattle.bike_book.specs.Rows.{system_row}

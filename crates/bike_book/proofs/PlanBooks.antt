@@ -11,10 +11,10 @@ use Rattle.sqlite_value.proofs.OrderLemmas.{value_cmp-Text, then-Equal}
 use Rattle.sqlite_rules.specs.Lists.{Has}
 use Rattle.bike_sql.specs.View.{by_key, put_row_by}
 use Rattle.bike_fields.specs.Values.{SegmentRow}
-use Rattle.bike_operator.specs.Rows.{PlanRow}
+use Rattle.bike_catalogue.specs.Rows.{PlanRow}
 use Rattle.bike_operator.specs.Operator.{text_cmp}
-use Rattle.bike_accepted.proofs.CatalogueLemmas.{same_docks}
-use Rattle.bike_accepted.proofs.MapLemmas.{text_order}
+use Rattle.bike_laws.proofs.SingleSteps.CatalogueLemmas.{same_docks}
+use Rattle.bike_laws.proofs.SingleSteps.MapLemmas.{text_order}
 use Rattle.bike_accepted.specs.declared.change.Change.TheVariants as change
 use Rattle.bike_accepted.specs.Effects.{after_change}
 use Rattle.bike_book.specs.Tables.{Tables, Plans, Segments}

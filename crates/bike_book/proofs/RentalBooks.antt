@@ -7,7 +7,7 @@ use Rattle.bike_operator.specs.declared.records.Rental.{Rental}
 use Rattle.bike_operator.specs.declared.records.Closing.{Closing}
 use Rattle.bike_operator.specs.declared.records.Order.{Order}
 use Rattle.bike_operator.specs.Changes.{text_in}
-use Rattle.bike_accepted.proofs.CatalogueLemmas.{same_docks}
+use Rattle.bike_laws.proofs.SingleSteps.CatalogueLemmas.{same_docks}
 use Rattle.bike_accepted.specs.declared.change.Change.TheVariants as change
 use Rattle.bike_accepted.specs.Effects.{after_change}
 use Rattle.bike_book.specs.Rows.{closing_columns, rental_row}

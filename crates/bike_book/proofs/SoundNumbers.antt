@@ -17,10 +17,10 @@ use Rattle.bike_operator.specs.declared.records.Bike.{Bike}
 use Rattle.bike_operator.specs.Operator.{Operator, Station, dock_key, item_at}
 use Rattle.bike_operator.specs.Counts.{count, is_at, is_broken, is_available, is_working_dock, docks_up_to}
 use Rattle.bike_operator.specs.Sound.{HasDock, IsSound, IsPlace, IsBooking, IsOfRental}
-use Rattle.bike_accepted.proofs.ItemLemmas.{number_within}
-use Rattle.bike_accepted.proofs.MapLemmas.{number_order}
-use Rattle.bike_accepted.proofs.CountLemmas.{none_counted}
-use Rattle.bike_accepted.specs.Numbers.{is_available_of, is_disabled_of}
+use Rattle.bike_laws.proofs.SingleSteps.ItemLemmas.{number_within}
+use Rattle.bike_laws.proofs.SingleSteps.MapLemmas.{number_order}
+use Rattle.bike_laws.proofs.SingleSteps.CountLemmas.{none_counted}
+use Rattle.bike_laws.specs.SingleSteps.Numbers.{is_available_of, is_disabled_of}
 use Rattle.bike_book.specs.NotThere.{WhereSound, NoRefundsYet, NoBalanceYet, NoneDockedYet, NoTypesYet, NoneBrokenYet}
 use Rattle.bike_book.proofs.TypeLaws.{not_working, not_available, no_types}
 

@@ -13,9 +13,9 @@ use Rattle.bike_operator.specs.declared.records.Place.TheVariants as place
 use Rattle.bike_operator.specs.declared.records.Bike.{Bike}
 use Rattle.bike_operator.specs.Operator.{Operator}
 use Rattle.bike_operator.specs.Counts.{count, is_at, is_fit, is_broken, is_available, is_working_dock, available_of}
-use Rattle.bike_accepted.proofs.MapLemmas.{number_order, there_of}
-use Rattle.bike_accepted.proofs.CountLemmas.{one, count-cons}
-use Rattle.bike_accepted.specs.Numbers.{is_available_of, is_disabled_of, disabled_of}
+use Rattle.bike_laws.proofs.SingleSteps.MapLemmas.{number_order, there_of}
+use Rattle.bike_laws.proofs.SingleSteps.CountLemmas.{one, count-cons}
+use Rattle.bike_laws.specs.SingleSteps.Numbers.{is_available_of, is_disabled_of, disabled_of}
 use Rattle.bike_book.specs.declared.by_type.TypeCounts.{TypeCounts}
 use Rattle.bike_book.specs.declared.by_type.CountedType.{CountedType}
 use Rattle.bike_book.specs.ByType.{counts_of, with_counts, one_more, with_bike, types_at, IsSameCount, CountsLaw, SameTypesLaw, ChangedTypeLaw, NoTypesLaw, IdentsLaw}

@@ -10,7 +10,7 @@ use Rattle.std.proofs.lemmas.Bool.{eqb-true, and_parts}
 use Rattle.std.proofs.lemmas.Cmp.{tied_itself}
 use Rattle.std.proofs.lemmas.Slice.Eq.{bytes_eq-Decides}
 use Rattle.bike_operator.specs.Operator.{text_cmp}
-use Rattle.bike_accepted.proofs.MapLemmas.{text_order}
+use Rattle.bike_laws.proofs.SingleSteps.MapLemmas.{text_order}
 use Rattle.bike_book.specs.declared.by_type.TypeCounts.{TypeCounts}
 use Rattle.bike_book.specs.declared.by_type.CountedType.{CountedType}
 use Rattle.bike_book.specs.ByType.{no_counts, are_none, counts_of, with_first, placed, with_counts}

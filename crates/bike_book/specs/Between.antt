@@ -4,7 +4,7 @@ use Rattle.std.specs.FinMap as fin
 use Rattle.sqlite_value.specs.Order.{Row}
 use Rattle.bike_operator.specs.Operator.{Operator, Station}
 use Rattle.bike_operator.specs.Counts.{docks_broken}
-use Rattle.bike_accepted.specs.Numbers.{occupied_docks}
+use Rattle.bike_laws.specs.SingleSteps.Numbers.{occupied_docks}
 use Rattle.bike_book.specs.declared.row_change.RowChange.{RowChange}
 use Rattle.bike_book.specs.Tables.{Tables}
 use Rattle.bike_book.specs.Rows.{station_row}

@@ -14,7 +14,7 @@ use Rattle.bike_operator.specs.declared.records.Bike.{Bike}
 use Rattle.bike_operator.specs.Operator.{Operator, text_cmp}
 use Rattle.bike_operator.specs.Counts.{is_at, is_available, available_of}
 use Rattle.bike_operator.specs.Sound.{IsSound}
-use Rattle.bike_accepted.specs.Numbers.{disabled_of}
+use Rattle.bike_laws.specs.SingleSteps.Numbers.{disabled_of}
 use Rattle.bike_book.specs.declared.by_type.TypeCounts.{TypeCounts}
 use Rattle.bike_book.specs.declared.by_type.CountedType.{CountedType}
 

@@ -4,13 +4,13 @@ use Rattle.std.specs.Borrow.{Bor}
 use Rattle.std.specs.FinMap as fin
 use Rattle.bike_fields.specs.declared.name_kind.NameKind.{NameKind}
 use Rattle.bike_fields.specs.Values.{SegmentRow, PositionRow}
-use Rattle.bike_operator.specs.Rows.{PlanRow, TypeRow, RegionRow, StationRow, SettingsRow, SystemRow}
+use Rattle.bike_catalogue.specs.Rows.{PlanRow, TypeRow, RegionRow, StationRow, SettingsRow, SystemRow}
 use Rattle.bike_ledger.specs.Ledger.{balance_of, refunded_of}
-use Rattle.bike_operator.specs.OrderEnd.{OrderEnd}
+use Rattle.bike_texts.specs.declared.ends.OrderEnd.{OrderEnd}
 use Rattle.bike_operator.specs.Operator.{Operator, name_key}
 use Rattle.bike_operator.specs.Counts.{docks_broken}
 use Rattle.bike_operator.specs.Sound.{AreNamesSound}
-use Rattle.bike_accepted.specs.Numbers.{occupied_docks}
+use Rattle.bike_laws.specs.SingleSteps.Numbers.{occupied_docks}
 use Rattle.bike_accepted.specs.declared.change.Change.{Change}
 use Rattle.bike_accepted.specs.declared.change.Change.TheVariants as change
 use Rattle.bike_accepted.specs.Effects.{after_change}

@@ -1,13 +1,13 @@
 -- The row changes that book the close of a request: its entry, and its row of the history.
 use Rattle.std.specs.Prelude.{◌≡◌, ◌≤◌, ◌+◌, ◌+ℤ◌, ℕ, ℤ, pos, length, List, [], ◌∷◌, ◌++◌, Some}
 use Rattle.std.specs.Borrow.{Bor}
-use Rattle.bike_operator.specs.Caller.{caller_text}
+use Rattle.bike_fields.specs.Caller.{caller_text}
 use Rattle.bike_ledger.specs.Entries.{Entry}
 use Rattle.bike_ledger.specs.Ledger.{credit, given_back, balance_of, refunded_of}
-use Rattle.bike_operator.specs.Reply.{Reply}
-use Rattle.bike_operator.specs.Request.{Request}
-use Rattle.bike_operator.specs.Commands.{text_of}
-use Rattle.bike_operator.specs.Replies.{reply_text}
+use Rattle.bike_commands.specs.declared.reply.Reply.{Reply}
+use Rattle.bike_commands.specs.declared.request.Request.{Request}
+use Rattle.bike_commands.specs.Commands.{text_of}
+use Rattle.bike_commands.specs.Replies.{reply_text}
 use Rattle.bike_operator.specs.Operator.{Operator}
 use Rattle.bike_operator.specs.Changes.{entry_added}
 use Rattle.bike_book.specs.declared.row_change.RowChange.TheVariants as row

@@ -10,10 +10,11 @@ use Rattle.sqlite_sql.specs.Ops.{is_null}
 use Rattle.bike_sql.specs.View.{row_with, rows_where, last_of}
 use Rattle.bike_fields.specs.NameKinds.{kind_text}
 use Rattle.bike_fields.specs.declared.name_kind.NameKind.{NameKind}
-use Rattle.bike_operator.specs.Rows.{PlanRow}
+use Rattle.bike_catalogue.specs.Rows.{PlanRow}
 use Rattle.bike_ledger.specs.Ledger.{balance_of, refunded_of}
 use Rattle.bike_operator.specs.declared.records.Rental.{Rental}
-use Rattle.bike_operator.specs.Operator.{Operator, AcceptedRequest, item_numbered, key_of, name_key, dock_key, kept_under}
+use Rattle.bike_operator.specs.Operator.{Operator, AcceptedRequest, item_numbered, key_of, name_key, dock_key}
+use Rattle.bike_operator.specs.Operator.{kept_under}
 use Rattle.bike_operator.specs.Counts.{count, is_on_truck, is_for_order, docked_at, is_broken, is_open, is_riding}
 use Rattle.bike_operator.specs.Counts.{open_rentals, docks_available, docks_broken}
 use Rattle.bike_operator.specs.Names.{further_names}

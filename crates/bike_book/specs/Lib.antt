@@ -11,6 +11,3 @@ pub mod ChangeLaws
 pub mod CloseLaws
 pub mod NotThere
 pub mod Found
-pub use Rattle.bike_operator.specs.Operator
-pub use Rattle.bike_operator.specs.Sound
-pub use Rattle.bike_operator.specs.declared.records.BikeState

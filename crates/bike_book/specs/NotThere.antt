@@ -5,7 +5,7 @@ use Rattle.bike_ledger.specs.Ledger.{balance_of, refunded_of}
 use Rattle.bike_operator.specs.Operator.{Operator}
 use Rattle.bike_operator.specs.Counts.{docks_broken}
 use Rattle.bike_operator.specs.Sound.{IsSound}
-use Rattle.bike_accepted.specs.Numbers.{occupied_docks}
+use Rattle.bike_laws.specs.SingleSteps.Numbers.{occupied_docks}
 use Rattle.bike_book.specs.ByType.{types_at}
 
 -- a rental with a number above the last has no refunds

@@ -6,10 +6,10 @@ use Rattle.std.specs.FinMap.{FinMap}
 use Rattle.std.specs.FinSet.{FinSet, contains}
 use Rattle.sqlite_value.specs.Order.{Row}
 use Rattle.bike_fields.specs.Values.{SegmentRow}
-use Rattle.bike_operator.specs.Rows.{PlanRow, TypeRow, RegionRow, SystemRow}
-use Rattle.bike_operator.specs.Caller.{caller_text}
-use Rattle.bike_operator.specs.Commands.{text_of}
-use Rattle.bike_operator.specs.Replies.{reply_text}
+use Rattle.bike_catalogue.specs.Rows.{PlanRow, TypeRow, RegionRow, SystemRow}
+use Rattle.bike_fields.specs.Caller.{caller_text}
+use Rattle.bike_commands.specs.Commands.{text_of}
+use Rattle.bike_commands.specs.Replies.{reply_text}
 use Rattle.bike_ledger.specs.Entries.{Entry}
 use Rattle.bike_ledger.specs.Ledger.{balance_of, refunded_of}
 use Rattle.bike_operator.specs.declared.records.Bike.{Bike}
@@ -102,8 +102,8 @@ abbrev pub plans_segments : List (List ℕ × PlanRow) → List Row
 plans_segments [] = []
 plans_segments (e ∷ es) = segment_rows e.0 1 e.1.segments ++ plans_segments es
 
--- What the tables hold beside the operator. Which docks have a row: a dock that works needs none, and none of these rows
--- is ever deleted. And the moment in `meta`, which no request writes: 0 where the city was made at this version, and
+-- What the tables hold beside the operator. Which docks have a row: a dock that works needs none, and none of these
+-- rows is ever deleted. And the moment in `meta`, which no request writes: 0 where the city was made at this version;
 -- where it was raised from an earlier one, whose requests have no moments, the moment that it had then.
 pub record Listed : Type 0 where
   pub docks : FinMap texts_cmp (Unit {0})

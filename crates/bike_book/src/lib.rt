@@ -14,7 +14,6 @@ mod tables;
 mod type_texts;
 mod version;
 
-pub use bike_operator::BikeState;
 pub use by_type::{CountedType, TypeCounts, counts_of, set_counts};
 pub use laws::{
     books_catalogue, books_close, books_fleet, books_rentals, counts_by_type, finds_rows,

@@ -4,7 +4,8 @@ use crate::by_type::{CountedType, TypeCounts};
 use crate::requests::RequestCount;
 use bike_accepted::Change;
 use bike_fields::{Ident, Segment};
-use bike_ledger::{Cents, Entry, Moment};
+use bike_fixed::{Cents, Moment};
+use bike_ledger::Entry;
 use bike_operator::{BikeState, NewPlace};
 
 /// One row that is added, under a key that is free, columns that are set in the row of a key, or a row that is

@@ -3,7 +3,7 @@ use Rattle.std.proofs.Common.{◌≡◌, ◌+◌, ◌<◌, ℕ, zero, suc, ℤ, 
 use Rattle.std.specs.FinMap as fin
 use Rattle.std.proofs.lemmas.Int.{ints}
 use Rattle.bike_sql.specs.View.{with_values}
-use Rattle.bike_operator.specs.Rows.{more_docks}
+use Rattle.bike_catalogue.specs.Rows.{more_docks}
 use Rattle.bike_operator.specs.Operator.{Operator, Station, dock_key}
 use Rattle.bike_operator.specs.Counts.{is_broken, docks_up_to, docks_broken}
 use Rattle.bike_operator.specs.Sound.{IsCatalogueSound}

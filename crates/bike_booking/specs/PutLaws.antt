@@ -5,7 +5,7 @@ use Rattle.std.specs.FinMap as map
 use Rattle.bike_operator.specs.declared.records.BikeState.{BikeState}
 use Rattle.bike_operator.specs.declared.records.Bike.{Bike}
 use Rattle.bike_operator.specs.declared.change.NewPlace.{NewPlace}
-use Rattle.bike_operator.specs.Rows.{more_docks}
+use Rattle.bike_catalogue.specs.Rows.{more_docks}
 use Rattle.bike_operator.specs.Operator.{Operator, Station}
 use Rattle.bike_operator.specs.Counts.{docked_at}
 use Rattle.bike_operator.specs.Steps.{key_changed, with_report, dock_marked}

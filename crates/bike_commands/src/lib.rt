@@ -9,7 +9,6 @@ mod refusal;
 mod reply;
 mod request;
 
-pub use bike_texts::OrderEnd;
 pub use command::Command;
 pub use refusal::Refusal;
 pub use reply::{REPLY_LENGTH, Reply};

@@ -4,7 +4,7 @@ use Rattle.std.specs.Fmt.{decimal}
 use Rattle.sqlite.specs.declared.error.Error.{Error}
 use Rattle.sqlite.specs.declared.error.Error.TheVariants.{SqliteFailure}
 use Rattle.sqlite.specs.declared.error.ErrorCode.TheVariants as code
-use Rattle.bike_migrate.specs.Audit.{row_name}
+use Rattle.bike_audit.specs.Audit.{row_name}
 use Rattle.bike_migrate.specs.Raising.{name_at}
 use Rattle.bike_migrate.specs.declared.fault.RaiseFault.{RaiseFault}
 use Rattle.bike_migrate.specs.declared.fault.RaiseCause.{RaiseCause}
@@ -12,11 +12,11 @@ use Rattle.bike_migrate.specs.declared.fault.RaiseCause.TheVariants as raise
 use Rattle.bike_fixed.specs.declared.day.DayFault.{DayFault}
 use Rattle.bike_fixed.specs.declared.day.DayFault.TheVariants as day
 use Rattle.bike_commands.specs.Refusals.{name_of as refusal_name}
-use Rattle.bike_feeds.specs.DeskFault.{DeskFault}
-use Rattle.bike_feeds.specs.DeskFault.TheVariants as desk
-use Rattle.bike_migrate.specs.AdoptFault.{AdoptFault}
-use Rattle.bike_migrate.specs.AdoptCause.{AdoptCause}
-use Rattle.bike_migrate.specs.AdoptCause.TheVariants as adopt
+use Rattle.bike_desk.specs.declared.fault.DeskFault.{DeskFault}
+use Rattle.bike_desk.specs.declared.fault.DeskFault.TheVariants as desk
+use Rattle.bike_audit.specs.declared.adoption.AdoptFault.{AdoptFault}
+use Rattle.bike_audit.specs.declared.adoption.AdoptCause.{AdoptCause}
+use Rattle.bike_audit.specs.declared.adoption.AdoptCause.TheVariants as adopt
 use Rattle.bike_feeds.specs.declared.fault.FeedFault.{FeedFault}
 use Rattle.bike_feeds.specs.declared.fault.FeedFault.TheVariants as feed
 use Rattle.bike_batch.specs.declared.day_fault.DayTableFault.{DayTableFault}

@@ -4,9 +4,4 @@ pub mod Files
 pub mod Closing
 pub mod Looks
 pub mod Links
-pub use Rattle.bike_migrate.specs.Adoption
-pub use Rattle.bike_migrate.specs.AdoptFault
-pub use Rattle.bike_migrate.specs.Raising
-pub use Rattle.bike_migrate.specs.declared.fault.RaiseFault
-pub use Rattle.bike_migrate.specs.declared.fault.RaiseCause
 pub mod Pages

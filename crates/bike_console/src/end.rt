@@ -3,7 +3,7 @@
 ghost use Rattle.std.specs.Prelude.{◌≡◌, ◌++◌, codes, Err};
 ghost use Rattle.std.specs.Fmt.{decimal};
 ghost use Rattle.std.specs.Process.{exit_status};
-ghost use Rattle.bike_migrate.specs.Adoption.{handed};
+ghost use Rattle.bike_audit.specs.Adoption.{handed};
 ghost use Rattle.bike_migrate.specs.Raising.{handed as handed_back};
 ghost use Rattle.bike_console.specs.Pieces.{Puts, PutsLine};
 ghost use Rattle.bike_console.specs.Ends.{word_of, row_detail, detail_of, fault_status, status_of, line_of};
@@ -11,12 +11,14 @@ ghost use Rattle.bike_console.specs.Ends.{adopt_fault, raise_fault, day_fault, f
 ghost use Rattle.bike_console.specs.Ends.{table_fault};
 
 use crate::pieces::{put, put_key, put_number};
+use bike_audit::{AdoptCause, AdoptFault};
 use bike_batch::{DayTableFault, ImportFault, LinesFault};
 use bike_commands::Refusal;
-use bike_feeds::{DeskFault, FeedFault};
+use bike_desk::DeskFault;
+use bike_feeds::FeedFault;
 use bike_fixed::DayFault;
 use bike_json::Output;
-use bike_migrate::{AdoptCause, AdoptFault, RaiseCause, RaiseFault, UnsoundRow};
+use bike_migrate::{RaiseCause, RaiseFault, UnsoundRow};
 use sqlite::{Alter, Connection, ErrorCode};
 use std::alloc::AllocError;
 use std::error::Error;

@@ -17,7 +17,6 @@ mod pieces;
 mod place;
 mod progress;
 
-pub use bike_migrate::{adopt, raise_watched};
 pub use closing::{Remains, settle};
 pub use end::{Fault, exit_code};
 pub use file::open_file;

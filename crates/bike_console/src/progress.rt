@@ -1,7 +1,7 @@
 //! How far long work is, told to a person who looks.
 
 use crate::pieces::{put, put_number};
-use bike_migrate::Watch;
+use bike_audit::Watch;
 use bike_recognition::{EVERY_TABLE, TableName};
 use std::io;
 use std::io::{Read, Write};

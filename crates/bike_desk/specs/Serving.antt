@@ -65,8 +65,8 @@ pub record IsReadFor (db : Database) (s : Operator) (moment now : ℕ) (q : Requ
   pub view_is : x.view ≡ view_of s q.command
   pub found_for : IsFoundIn db s q.command x
 
--- The operator accepts the request so, which comes no earlier than its moment, and then is sound; the records before are
--- its own, the figures after it have one request more, and the texts are those of both.
+-- The operator accepts the request so, which comes no earlier than its moment, and then is sound; the records before
+-- are its own, the figures after it have one request more, and the texts are those of both.
 pub record Accepts (s : Operator) (now : ℕ) (q : Request) (a : Accepted) (after : Figures)
     (texts : KeptTexts) : Type 0 where
   pub later : s.now ≤ now

@@ -14,11 +14,12 @@ use crate::newest::Newest;
 use bike_catalogue::{MoreName, System};
 use bike_fields::{BicycleNumber, Ident, NameKind, OrderNumber, RentalNumber, RiderNumber};
 use bike_fixed::{Cents, Moment};
+use bike_fleet_reads::{find_bike, find_order};
 use bike_office_reads::{find_names, newest_tells};
 use bike_operator::{Bike, Counts, MOST_TYPES, Order, Place, RentalInfo};
 use bike_queries::{
-    RiderInfo, find_balance, find_bike, find_order, find_place, find_rental_info, find_rider_info,
-    find_station_counts, find_system, find_type_ids,
+    RiderInfo, find_balance, find_place, find_rental_info, find_rider_info, find_station_counts,
+    find_system, find_type_ids,
 };
 use bike_schema::StatementFault;
 use bike_views::find_figures;

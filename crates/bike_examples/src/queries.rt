@@ -1,10 +1,11 @@
 //! What a desk tells of a rider's balance and of a station's bicycles and docks.
 
 use crate::crash::requests;
+use bike_audit::adopt;
 use bike_commands::Request;
+use bike_desk::{Desk, DeskFault};
 use bike_fields::{Field, Ident, RiderNumber};
 use bike_fixed::Moment;
-use bike_recovery::{Desk, DeskFault, adopt};
 use sqlite::{Alter, Connection};
 use std::alloc::Global;
 use std::test::Fail;

@@ -16,6 +16,5 @@ mod listing;
 mod names;
 mod pages;
 
-pub use bike_desk::{Desk, DeskFault};
 pub use fault::FeedFault;
 pub use feed::write_feed;

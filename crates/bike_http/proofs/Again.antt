@@ -8,7 +8,7 @@ use Rattle.bike_operator.specs.Operator.{Operator}
 use Rattle.bike_commands.specs.Commands.{text_of}
 use Rattle.bike_operator.specs.Runs.{step}
 use Rattle.bike_laws.proofs.RetryLemmas.{answered_again}
-use Rattle.bike_feeds.specs.Desk.{DeskValue, IsAt}
+use Rattle.bike_desk.specs.Desk.{DeskValue, IsAt}
 use Rattle.bike_http_request.specs.declared.action.Action.{Action}
 use Rattle.bike_http_request.specs.declared.action.Action.TheVariants.{Apply}
 use Rattle.bike_http_request.specs.Received.{Received}

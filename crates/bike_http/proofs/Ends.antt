@@ -10,7 +10,7 @@ use Rattle.bike_http_request.specs.declared.action.Action.{Action}
 use Rattle.bike_http_request.specs.Received.{Received, WantsMemory}
 use Rattle.bike_http_request.proofs.Once.{asks_once}
 use Rattle.bike_http_response.specs.declared.answer.Answer.TheVariants as answer
-use Rattle.bike_feeds.specs.Desk.{DeskValue, IsAt}
+use Rattle.bike_desk.specs.Desk.{DeskValue, IsAt}
 use Rattle.bike_http.specs.Exchange.{answered, response_of, operator_after, response_status, IsGood, Answers}
 use Rattle.bike_http.specs.Telling.{RespondsTo, Serves, RestsAfter, LeavesTables, Rests, Refuses, IsDone, end_of_sending, refusal_of}
 use Rattle.bike_http.proofs.Told.{tells_any}

@@ -9,10 +9,10 @@ use Rattle.bike_operator.specs.Operator.{Operator, Rider}
 use Rattle.bike_queries.specs.Infos.{rider_info, rental_info}
 use Rattle.bike_ledger.specs.Ledger.{refunded_of}
 use Rattle.bike_http_response.specs.declared.answer.Answer.TheVariants as answer
-use Rattle.bike_feeds.specs.DeskFault.{DeskFault}
-use Rattle.bike_feeds.specs.DeskFault.TheVariants.{NoMemory, StoreFailed, Stopped}
-use Rattle.bike_feeds.specs.Desk.{DeskValue}
-use Rattle.bike_feeds.specs.Queries.{Queries}
+use Rattle.bike_desk.specs.declared.fault.DeskFault.{DeskFault}
+use Rattle.bike_desk.specs.declared.fault.DeskFault.TheVariants.{NoMemory, StoreFailed, Stopped}
+use Rattle.bike_desk.specs.Desk.{DeskValue}
+use Rattle.bike_desk.specs.Queries.{Queries}
 use Rattle.bike_http.specs.Shown.{shown_or_not_found, shown_rider, shown_rental}
 use Rattle.bike_http.specs.Rows.{rider_answer, bike_answer, rental_answer, order_answer}
 

@@ -13,10 +13,10 @@ use Rattle.bike_http_request.specs.declared.action.Action.{Action}
 use Rattle.bike_http_request.specs.declared.action.Action.TheVariants.{Reject, Apply, Show, Publish}
 use Rattle.bike_http_response.specs.declared.answer.Answer.{Answer}
 use Rattle.bike_http_response.specs.declared.answer.Answer.TheVariants as answer
-use Rattle.bike_feeds.specs.DeskFault.{DeskFault}
-use Rattle.bike_feeds.specs.DeskFault.TheVariants.{NoMemory, StoreFailed, Stopped}
-use Rattle.bike_feeds.specs.Desk.{DeskValue, desk_state, IsAt, TreesStandForEither}
-use Rattle.bike_feeds.specs.Queries.{Queries}
+use Rattle.bike_desk.specs.declared.fault.DeskFault.{DeskFault}
+use Rattle.bike_desk.specs.declared.fault.DeskFault.TheVariants.{NoMemory, StoreFailed, Stopped}
+use Rattle.bike_desk.specs.Desk.{DeskValue, desk_state, IsAt, TreesStandForEither}
+use Rattle.bike_desk.specs.Queries.{Queries}
 use Rattle.bike_http.specs.Exchange.{Response, answered, response_of, operator_after}
 use Rattle.bike_http.specs.Telling.{IsUndone, Tells, TellsAsked, Responds, RespondsTo}
 

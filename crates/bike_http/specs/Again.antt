@@ -7,7 +7,7 @@ use Rattle.bike_commands.specs.declared.request.Request.{Request}
 use Rattle.bike_operator.specs.Operator.{Operator}
 use Rattle.bike_operator.specs.Runs.{Call, step, after}
 use Rattle.bike_laws.specs.Retries.{is_accepted}
-use Rattle.bike_feeds.specs.Desk.{DeskValue, IsAt}
+use Rattle.bike_desk.specs.Desk.{DeskValue, IsAt}
 use Rattle.bike_http_request.specs.declared.action.Action.TheVariants.{Apply}
 use Rattle.bike_http_request.specs.Received.{Received}
 use Rattle.bike_http.specs.Exchange.{Response, bytes_of, response_of, response_status}

@@ -3,4 +3,3 @@ pub mod Rows
 pub mod Exchange
 pub mod Telling
 pub mod Again
-pub use Rattle.bike_feeds.specs.Desk

@@ -2,13 +2,13 @@
 
 ghost use Rattle.std.specs.Prelude.{◌≡◌, ◌≤◌, IsTrue, Ok};
 ghost use Rattle.sqlite_trees.specs.View.{doubt};
-ghost use Rattle.bike_feeds.specs.Desk.{desk_state, OfOperator};
+ghost use Rattle.bike_desk.specs.Desk.{desk_state, OfOperator};
 ghost use Rattle.bike_http.specs.Exchange.{Response};
 ghost use Rattle.bike_http.specs.Again.{CameBefore, SendsAgain};
 ghost use Rattle.bike_http.specs.Telling.{end_of_sending, Serves, LeavesTables, Rests, Refuses, IsDone};
 
 use crate::respond::respond;
-use bike_feeds::Desk;
+use bike_desk::Desk;
 use bike_fixed::Moment;
 use bike_http_head::Routes;
 use bike_http_request::{ReceiveFault, receive};

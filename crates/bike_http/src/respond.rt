@@ -3,8 +3,8 @@
 ghost use Rattle.std.specs.Prelude.{◌≡◌, ◌≤◌, max, IsTrue};
 ghost use Rattle.sqlite_trees.specs.View.{doubt};
 ghost use Rattle.bike_operator.specs.Sound.{IsCall};
-ghost use Rattle.bike_feeds.specs.Desk.{desk_state, OfOperator, KeepsWhereGoing};
-ghost use Rattle.bike_feeds.specs.Queries.{Queries};
+ghost use Rattle.bike_desk.specs.Desk.{desk_state, OfOperator, KeepsWhereGoing};
+ghost use Rattle.bike_desk.specs.Queries.{Queries};
 ghost use Rattle.bike_http.specs.Shown.{shown_of};
 ghost use Rattle.bike_http.specs.Exchange.{answered, IsGood};
 ghost use Rattle.bike_http_response.specs.Sent.{Sends};
@@ -13,8 +13,9 @@ ghost use Rattle.bike_http.specs.Telling.{refusal_of};
 
 use crate::rows::{bike_answer, order_answer, rental_answer, rider_answer};
 use bike_commands::Request;
+use bike_desk::{Desk, DeskFault};
 use bike_feed_texts::Feed;
-use bike_feeds::{Desk, DeskFault, FeedFault, write_feed};
+use bike_feeds::{FeedFault, write_feed};
 use bike_fixed::Moment;
 use bike_http_head::{Rejection, RowKey};
 use bike_http_request::Action;

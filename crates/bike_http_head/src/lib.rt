@@ -12,7 +12,6 @@ mod rejection;
 mod routes;
 mod row_key;
 
-pub use bike_feed_texts::Feed;
 pub use head::{HEAD_LENGTH, Head, HeadReading, MOST_FIELDS, read_head};
 pub use length::{BODY_LENGTH, BodyLength};
 pub use path::{may_ask_feed, path_of};

@@ -13,9 +13,10 @@ ghost use Rattle.bike_http_request.specs.Members.{key_in};
 use crate::body::read_command_by;
 use crate::members::key_in;
 use bike_commands::{Command, Request};
+use bike_feed_texts::Feed;
 use bike_fields::{Caller, CallerName, Ident, RequestKey};
 use bike_fixed::Within;
-use bike_http_head::{Allow, Feed, Rejection, Route, Routes, RowKey, path_of};
+use bike_http_head::{Allow, Rejection, Route, Routes, RowKey, path_of};
 use serde_json::Value;
 use std::alloc::{AllocError, Global};
 

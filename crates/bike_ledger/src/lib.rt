@@ -7,7 +7,6 @@
 mod entry;
 mod sums;
 
-pub use bike_fixed::{Cents, Moment};
 pub use entry::{Entry, EntryKind, EntryNumber};
 pub use sums::{
     GREATEST_BALANCE, balance_after, bound_law, entry_law, is_balance, money_law, refundable,

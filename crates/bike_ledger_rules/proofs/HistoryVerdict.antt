@@ -16,7 +16,7 @@ use Rattle.sqlite_value.specs.Order.{Row, row_cmp}
 use Rattle.sqlite_value.proofs.OrderLemmas.{row_cmp_total, value_cmp-Text}
 use Rattle.sqlite_rules.specs.Lists.{Has}
 use Rattle.sqlite.specs.Effect.{Database}
-use Rattle.bike_operator.specs.Caller.{caller_text}
+use Rattle.bike_fields.specs.Caller.{caller_text}
 use Rattle.bike_operator.specs.Operator.{Operator, AcceptedRequest, item_numbered, texts_cmp, key_in, kept_under}
 use Rattle.bike_sql.specs.View.{by_key}
 use Rattle.bike_sql.proofs.OrderLemmas.{Rises, all_has}

@@ -20,7 +20,7 @@ use Rattle.bike_recognition.specs.declared.earlier_versions.found.Found.{Found}
 use Rattle.bike_recognition.specs.declared.earlier_versions.found.Found.TheVariants as found
 use Rattle.bike_recognition.specs.EarlierVersions.Found.{IsFoundAs}
 use Rattle.bike_recognition.specs.EarlierVersions.Stores.{StoresAt, StandsForAt, TreesStandForAt}
-use Rattle.bike_audit.proofs.KeepLemmas.{Settles, stands_in}
+use Rattle.bike_desk.proofs.KeepLemmas.{Settles, stands_in}
 use Rattle.bike_migrate.specs.Raised.{OthersKept, tables_raised, Raises}
 use Rattle.bike_migrate.specs.Raising.{Holds, IsUnsoundAt, IsUnsound, MayCommitAny, TreesStandSince, failed, IsAsBefore, IsRaisedFrom, IsReady, IsToldBy, IsOutcome, ComesTo, IsWantFor, IsOutsideFor}
 use Rattle.bike_migrate.specs.Raising.{IsRaise}

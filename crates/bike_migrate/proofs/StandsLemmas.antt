@@ -30,7 +30,7 @@ use Rattle.bike_recognition.specs.EarlierVersions.Counts.{counts_layout}
 use Rattle.bike_recognition.specs.EarlierVersions.Earlier.{layout_at, tables_at, AreNewerFree, IsAt}
 use Rattle.bike_recognition.specs.EarlierVersions.Found.{IsNewest, IsOfEarlier, IsByVersion, IsFoundAs}
 use Rattle.bike_recognition.specs.EarlierVersions.Stores.{StoresAt, StandsForAt, TreesStandForAt}
-use Rattle.bike_audit.proofs.KeepLemmas.{no_meta}
+use Rattle.bike_desk.proofs.KeepLemmas.{no_meta}
 use Rattle.bike_audit.proofs.AdoptLemmas.{same_tables}
 
 -- ---- what a database has is told by its tables and trees

@@ -128,10 +128,8 @@ pub record WasMeta (v now : ℕ) (rows : List Row) : Type 0 where
 pub meta_lowered : (v now : ℕ) (rows : List Row) → version_in (row_with 1 key rows) ≡ Version v → rows_after_update 1 key newest rows ≡ meta_row NEWEST now (pos 0) (pos 0) ∷ [] → WasMeta v now rows
 meta_lowered v now rows = by (row_with 1 key rows) refl
   where
-    abbrev made : List Row
-    made = meta_row NEWEST now (pos 0) (pos 0) ∷ []
-
-    by : (o : Option Row) → row_with 1 key rows ≡ o → version_in o ≡ Version v → unwrap_or (option_map (λ row. put_row_by 1 (newest row) rows) o) rows ≡ made → WasMeta v now rows
+    by : (o : Option Row) → row_with 1 key rows ≡ o → version_in o ≡ Version v → unwrap_or (option_map (λ row. put_row_by 1 (newest row) rows) o) rows ≡ meta_row NEWEST now (pos 0) (pos 0) ∷ []
+        → WasMeta v now rows
     by None found told is = absurd (let none : Missing ≡ Version v = told in cc)
     by (Some row) found told is =
         let one = updated_one rows (meta_row NEWEST now (pos 0) (pos 0)) row found is in

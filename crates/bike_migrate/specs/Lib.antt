@@ -4,7 +4,3 @@ pub mod Stations
 pub mod Raised
 pub mod Verdicts
 pub mod Raising
-pub use Rattle.bike_audit.specs.Audit
-pub use Rattle.bike_audit.specs.Adoption
-pub use Rattle.bike_audit.specs.declared.adoption.AdoptFault
-pub use Rattle.bike_audit.specs.declared.adoption.AdoptCause

@@ -15,6 +15,5 @@ mod judge;
 mod raising;
 mod stations;
 
-pub use bike_audit::{AdoptCause, AdoptFault, Watch, adopt};
 pub use fault::{RaiseCause, RaiseFault, UnsoundRow};
 pub use raising::{raise, raise_watched};

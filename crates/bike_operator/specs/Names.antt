@@ -3,10 +3,10 @@ use Rattle.std.specs.Prelude.{ℕ, List, [], map, filter, length, nat_le, Bool, 
 use Rattle.std.specs.Prelude.{slice_index_or}
 use Rattle.std.specs.Str.{bytes_eq}
 use Rattle.std.specs.FinMap as finmap
-use Rattle.bike_commands.specs.NameKinds.{kind_text}
-use Rattle.bike_commands.specs.NameKind.{NameKind}
-use Rattle.bike_commands.specs.NameKind.TheVariants as named
-use Rattle.bike_commands.specs.Rows.{SystemRow, MoreNameRow}
+use Rattle.bike_fields.specs.NameKinds.{kind_text}
+use Rattle.bike_fields.specs.declared.name_kind.NameKind.{NameKind}
+use Rattle.bike_fields.specs.declared.name_kind.NameKind.TheVariants as named
+use Rattle.bike_catalogue.specs.Rows.{SystemRow, MoreNameRow}
 use Rattle.bike_operator.specs.declared.limits.TheConstants.{MOST_FURTHER_NAMES}
 use Rattle.bike_operator.specs.Operator.{Operator, NameKey, name_key}
 

@@ -8,11 +8,11 @@ use Rattle.std.specs.FinMap as map
 use Rattle.std.specs.FinMap.{FinMap}
 use Rattle.std.specs.FinSet as set
 use Rattle.std.specs.FinSet.{FinSet}
-use Rattle.bike_commands.specs.Rows.{PlanRow, TypeRow, StationRow, RegionRow, SystemRow}
-use Rattle.bike_commands.specs.NameKinds.{kind_text}
-use Rattle.bike_commands.specs.NameKind.{NameKind}
+use Rattle.bike_catalogue.specs.Rows.{PlanRow, TypeRow, StationRow, RegionRow, SystemRow}
+use Rattle.bike_fields.specs.NameKinds.{kind_text}
+use Rattle.bike_fields.specs.declared.name_kind.NameKind.{NameKind}
 use Rattle.bike_ledger.specs.Entries.{Entry}
-use Rattle.bike_commands.specs.Caller.{caller_text}
+use Rattle.bike_fields.specs.Caller.{caller_text}
 use Rattle.bike_commands.specs.declared.request.Request.{Request}
 use Rattle.bike_commands.specs.declared.reply.Reply.{Reply}
 use Rattle.bike_operator.specs.declared.records.Bike.{Bike}

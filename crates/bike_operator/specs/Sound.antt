@@ -4,18 +4,18 @@ use Rattle.std.specs.Prelude.{◌≡◌, ℕ, ℤ, ◌+◌, ◌≤◌, ◌≤ℤ
 use Rattle.std.specs.Prelude.{false, Option, Some, None, is_some, pos}
 use Rattle.std.specs.FinMap as finmap
 use Rattle.std.specs.FinSet as finset
-use Rattle.bike_ledger.specs.Whole.{last_moment}
-use Rattle.bike_commands.specs.numbers.TheConstants.{GREATEST_NUMBER, GREATEST_PAYMENT, MOST_CARRIED}
-use Rattle.bike_commands.specs.Bytes.{is_ident}
-use Rattle.bike_commands.specs.NameKind.{NameKind}
-use Rattle.bike_commands.specs.Rows.{PlanRow, TypeRow, RegionRow, SystemRow, IsPlan, IsType, IsStation, IsRegion}
-use Rattle.bike_commands.specs.Rows.{IsMoreName, IsSystem}
+use Rattle.bike_fixed.specs.Whole.{last_moment}
+use Rattle.bike_fields.specs.declared.numbers.TheConstants.{GREATEST_NUMBER, GREATEST_PAYMENT, MOST_CARRIED}
+use Rattle.bike_fields.specs.Bytes.{is_ident}
+use Rattle.bike_fields.specs.declared.name_kind.NameKind.{NameKind}
+use Rattle.bike_catalogue.specs.Rows.{PlanRow, TypeRow, RegionRow, SystemRow, IsPlan, IsType, IsStation, IsRegion}
+use Rattle.bike_catalogue.specs.Rows.{IsMoreName, IsSystem}
 use Rattle.bike_ledger.specs.Entries.{Entry}
 use Rattle.bike_ledger.specs.declared.entry.EntryKind.{EntryKind}
 use Rattle.bike_ledger.specs.declared.entry.EntryKind.TheVariants.{TopUp, Fare, Refund, Withdrawal, Charge, Credit}
 use Rattle.bike_ledger.specs.Ledger.{refunded_of}
 use Rattle.bike_ledger.specs.Entries.{greatest_amount}
-use Rattle.bike_commands.specs.Fields.{AreSegments}
+use Rattle.bike_texts.specs.Fields.{AreSegments}
 use Rattle.bike_commands.specs.declared.reply.Reply.{Reply}
 use Rattle.bike_commands.specs.declared.reply.Reply.TheVariants.{Done, Balance, Started, Ended, Ordered, Refused}
 use Rattle.bike_commands.specs.Replies.{IsReply}

@@ -6,18 +6,18 @@ use Rattle.std.specs.Str.{bytes_eq}
 use Rattle.std.specs.FinMap as map
 use Rattle.std.specs.FinSet as set
 use Rattle.std.specs.declared.cmp.Ordering.{Ordering}
-use Rattle.bike_commands.specs.Rows.{StationRow, SystemRow, moved_to, more_docks, system_with}
-use Rattle.bike_commands.specs.numbers.TheConstants.{MOST_DOCKS}
+use Rattle.bike_catalogue.specs.Rows.{StationRow, SystemRow, moved_to, more_docks, system_with}
+use Rattle.bike_fields.specs.declared.numbers.TheConstants.{MOST_DOCKS}
 use Rattle.bike_fares.specs.Pricing.{fare_of}
 use Rattle.bike_ledger.specs.declared.entry.EntryKind.{EntryKind}
 use Rattle.bike_ledger.specs.declared.entry.EntryKind.TheVariants as kind
 use Rattle.bike_ledger.specs.Ledger.{balance_of}
-use Rattle.bike_commands.specs.OrderEnd.{OrderEnd}
-use Rattle.bike_commands.specs.OrderEnd.TheVariants as end
-use Rattle.bike_commands.specs.NameKind.{NameKind}
-use Rattle.bike_commands.specs.NameKind.TheVariants as named
-use Rattle.bike_commands.specs.Side.{Side}
-use Rattle.bike_commands.specs.Side.TheVariants.{From, To}
+use Rattle.bike_texts.specs.declared.ends.OrderEnd.{OrderEnd}
+use Rattle.bike_texts.specs.declared.ends.OrderEnd.TheVariants as end
+use Rattle.bike_fields.specs.declared.name_kind.NameKind.{NameKind}
+use Rattle.bike_fields.specs.declared.name_kind.NameKind.TheVariants as named
+use Rattle.bike_texts.specs.declared.ends.Side.{Side}
+use Rattle.bike_texts.specs.declared.ends.Side.TheVariants.{From, To}
 use Rattle.bike_commands.specs.declared.command.Command.{Command}
 use Rattle.bike_commands.specs.declared.command.Command.TheVariants as command
 use Rattle.bike_commands.specs.declared.reply.Reply.{Reply}

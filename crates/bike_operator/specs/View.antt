@@ -2,13 +2,13 @@
 use Rattle.std.specs.Prelude.{ℕ, ◌+◌, length, List, nat_le, Bool, true, false, Option, Some, None, is_some}
 use Rattle.std.specs.FinMap as map
 use Rattle.std.specs.declared.cmp.Ordering.{Ordering}
-use Rattle.bike_commands.specs.Rows.{PlanRow, TypeRow}
+use Rattle.bike_catalogue.specs.Rows.{PlanRow, TypeRow}
 use Rattle.bike_ledger.specs.Ledger.{balance_of, refunded_of}
-use Rattle.bike_commands.specs.NameKind.{NameKind}
-use Rattle.bike_commands.specs.OrderEnd.{OrderEnd}
-use Rattle.bike_commands.specs.OrderEnd.TheVariants as end
-use Rattle.bike_commands.specs.Side.{Side}
-use Rattle.bike_commands.specs.Side.TheVariants.{From, To}
+use Rattle.bike_fields.specs.declared.name_kind.NameKind.{NameKind}
+use Rattle.bike_texts.specs.declared.ends.OrderEnd.{OrderEnd}
+use Rattle.bike_texts.specs.declared.ends.OrderEnd.TheVariants as end
+use Rattle.bike_texts.specs.declared.ends.Side.{Side}
+use Rattle.bike_texts.specs.declared.ends.Side.TheVariants.{From, To}
 use Rattle.bike_commands.specs.declared.command.Command.{Command}
 use Rattle.bike_commands.specs.declared.command.Command.TheVariants as command
 use Rattle.bike_operator.specs.declared.limits.TheConstants.{MOST_PLANS, MOST_TYPES, MOST_REGIONS, MOST_STATIONS}

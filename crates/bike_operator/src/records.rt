@@ -1,11 +1,11 @@
 //! The records of the operator: bicycles and where they are, rentals, orders.
 
-use bike_commands::OrderEnd;
 use bike_fields::{
     BicycleNumber, DockNumber, Ident, OrderNumber, OrderQuantity, RentalNumber, RiderNumber,
     TruckNumber,
 };
 use bike_fixed::{Cents, Moment};
+use bike_texts::OrderEnd;
 
 /// What a bicycle is good for.
 #[derive(Clone, Copy, Debug, PartialEq, Eq)]

@@ -23,7 +23,6 @@ mod status;
 mod system;
 mod types;
 
-pub use bike_fleet_reads::{find_bike, find_order};
 pub use bikes::find_place;
 pub use counts::find_station_counts;
 pub use entries::find_entry_after;

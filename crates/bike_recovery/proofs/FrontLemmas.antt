@@ -15,7 +15,7 @@ use Rattle.bike_operator.specs.Sound.{IsSound}
 use Rattle.bike_laws.proofs.NoOperatorLemmas.{none_sound}
 use Rattle.bike_book.specs.Tables.{Meta}
 use Rattle.bike_schema.specs.Stands.{IsOf}
-use Rattle.bike_feeds.specs.Desk.{DeskValue, desk_state, IsAt}
+use Rattle.bike_desk.specs.Desk.{DeskValue, desk_state, IsAt}
 
 sound_of : (db : Database) (s : Operator) → IsOf db s → IsSound s
 sound_of db s (inl none) = subst IsSound (sym none.1) none_sound

@@ -10,10 +10,10 @@ use Rattle.bike_operator.specs.Operator.{Operator}
 use Rattle.bike_queries.specs.Infos.{place_at}
 use Rattle.bike_feed_texts.specs.declared.feed.Feed.TheVariants.{StationStatus}
 use Rattle.bike_schema.specs.Stands.{AllLeft, TreesStandFor}
-use Rattle.bike_feeds.specs.DeskFault.{DeskFault}
-use Rattle.bike_feeds.specs.DeskFault.TheVariants.{NoMemory, StoreFailed, Stopped}
-use Rattle.bike_feeds.specs.Desk.{DeskValue, desk_state, IsAt}
-use Rattle.bike_feeds.specs.Queries.{Queries}
+use Rattle.bike_desk.specs.declared.fault.DeskFault.{DeskFault}
+use Rattle.bike_desk.specs.declared.fault.DeskFault.TheVariants.{NoMemory, StoreFailed, Stopped}
+use Rattle.bike_desk.specs.Desk.{DeskValue, desk_state, IsAt}
+use Rattle.bike_desk.specs.Queries.{Queries}
 use Rattle.bike_feeds.specs.Publishing.{IsPublished, IsBegun, LeavesDesk}
 use Rattle.bike_feeds.specs.declared.fault.FeedFault.{FeedFault}
 use Rattle.bike_feeds.specs.declared.fault.FeedFault.TheVariants.{Desk}

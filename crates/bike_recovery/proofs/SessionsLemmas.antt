@@ -13,8 +13,8 @@ use Rattle.bike_commands.specs.declared.reply.Reply.{Reply}
 use Rattle.bike_operator.specs.Operator.{Operator}
 use Rattle.bike_operator.specs.Runs.{Call}
 use Rattle.bike_schema.specs.Stands.{AllLeft}
-use Rattle.bike_feeds.specs.Desk.{DeskValue, desk_state, IsAt}
-use Rattle.bike_feeds.specs.Runs.{IsAfterFront, IsAtFront}
+use Rattle.bike_desk.specs.Desk.{DeskValue, desk_state, IsAt}
+use Rattle.bike_desk.specs.Runs.{IsAfterFront, IsAtFront}
 use Rattle.bike_laws.specs.Sessions.{Session, AreSessions, after_sessions, answers_given}
 use Rattle.bike_laws.proofs.SessionLemmas.{accepts_once, answers_again, refuses_others, leaves_retries_out, sessions-next, after_sessions-next, answers-next, replies-take}
 use Rattle.bike_recovery.specs.Recovery.{AreReplies}

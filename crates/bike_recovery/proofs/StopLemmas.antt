@@ -3,10 +3,10 @@ use Rattle.std.proofs.Common.{arith}
 use Rattle.std.proofs.Math.Logic.{∥∥₁_elim}
 use Rattle.sqlite_trees.specs.declared.store.Store.{Ghosts}
 use Rattle.sqlite.specs.Held.{Held}
-use Rattle.bike_migrate.specs.AdoptFault.{AdoptFault}
-use Rattle.bike_migrate.specs.AdoptCause.{AdoptCause}
-use Rattle.bike_migrate.specs.AdoptCause.TheVariants.{Foreign, Unsound, Older, Newer, NoMemory, StoreFailed}
-use Rattle.bike_migrate.specs.Adoption.{IsWant, IsWantFor}
+use Rattle.bike_audit.specs.declared.adoption.AdoptFault.{AdoptFault}
+use Rattle.bike_audit.specs.declared.adoption.AdoptCause.{AdoptCause}
+use Rattle.bike_audit.specs.declared.adoption.AdoptCause.TheVariants.{Foreign, Unsound, Older, Newer, NoMemory, StoreFailed}
+use Rattle.bike_audit.specs.Adoption.{IsWant, IsWantFor}
 use Rattle.bike_recovery.specs.declared.reopening.Shut.{Shut}
 use Rattle.bike_recovery.specs.declared.reopening.Shut.TheVariants as shut
 use Rattle.bike_recovery.specs.Reopening.{IsShut}

@@ -15,9 +15,9 @@ use Rattle.sqlite.specs.declared.error.ErrorCode.TheVariants.{OutOfMemory, Canno
 use Rattle.sqlite.specs.declared.file.Leftover.{Leftover}
 use Rattle.bike_operator.specs.Operator.{Operator}
 use Rattle.bike_operator.specs.Runs.{Call}
-use Rattle.bike_feeds.specs.Desk.{DeskValue}
-use Rattle.bike_migrate.specs.Adoption.{handed, IsWant}
-use Rattle.bike_feeds.specs.Runs.{IsAtFront}
+use Rattle.bike_desk.specs.Desk.{DeskValue}
+use Rattle.bike_audit.specs.Adoption.{handed, IsWant}
+use Rattle.bike_desk.specs.Runs.{IsAtFront}
 use Rattle.bike_recovery.specs.Recovery.{ReadsFront}
 use Rattle.bike_recovery.specs.declared.reading.Reading.{Reading}
 use Rattle.bike_recovery.specs.declared.stop.LostFiles.{LostFiles}

@@ -7,7 +7,7 @@ use Rattle.sqlite.specs.State.{HasCleanDisk}
 use Rattle.sqlite.specs.Held.{state}
 use Rattle.bike_operator.specs.Operator.{Operator}
 use Rattle.bike_schema.specs.Stands.{TreesStandFor}
-use Rattle.bike_migrate.specs.Adoption.{handed, IsWant}
+use Rattle.bike_audit.specs.Adoption.{handed, IsWant}
 use Rattle.bike_recovery.specs.declared.reopening.Shut.{Shut as ShutStore}
 use Rattle.bike_recovery.specs.declared.reopening.Shut.TheVariants.{NoMemory, StoreFailed}
 use Rattle.bike_recovery.specs.declared.crash.Lost.{Lost}

@@ -12,9 +12,9 @@ use Rattle.bike_operator.specs.Sound.{IsSound}
 use Rattle.bike_schema.specs.Stands.{AllLeft, TreesStandFor}
 use Rattle.bike_queries.specs.Infos.{place_at}
 use Rattle.bike_feed_texts.specs.declared.feed.Feed.TheVariants.{StationStatus}
-use Rattle.bike_feeds.specs.DeskFault.{DeskFault}
-use Rattle.bike_feeds.specs.DeskFault.TheVariants.{StoreFailed, Stopped}
-use Rattle.bike_feeds.specs.Desk.{DeskValue, desk_state, IsAt}
+use Rattle.bike_desk.specs.declared.fault.DeskFault.{DeskFault}
+use Rattle.bike_desk.specs.declared.fault.DeskFault.TheVariants.{StoreFailed, Stopped}
+use Rattle.bike_desk.specs.Desk.{DeskValue, desk_state, IsAt}
 use Rattle.bike_feeds.specs.Publishing.{IsPublished, IsBegun}
 use Rattle.bike_feeds.specs.declared.fault.FeedFault.TheVariants.{SystemMissing, Desk}
 use Rattle.bike_recovery.specs.declared.reading.Reading.{Reading}

@@ -4,7 +4,7 @@ use Rattle.sqlite_trees.specs.declared.store.Store.{Ghosts}
 use Rattle.bike_commands.specs.declared.reply.Reply.{Reply}
 use Rattle.bike_operator.specs.Operator.{Operator}
 use Rattle.bike_operator.specs.Runs.{Call}
-use Rattle.bike_feeds.specs.Desk.{DeskValue, IsAt}
+use Rattle.bike_desk.specs.Desk.{DeskValue, IsAt}
 use Rattle.bike_laws.specs.Sessions.{Session, AreSessions, after_sessions, answers_given, AcceptsOnce, AnswersAgain}
 use Rattle.bike_laws.specs.Sessions.{RefusesOthers, LeavesRetriesOut}
 

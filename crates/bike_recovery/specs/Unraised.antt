@@ -3,7 +3,7 @@ use Rattle.sqlite_trees.specs.declared.store.Store.{Ghosts}
 use Rattle.sqlite.specs.State.{HasCleanDisk}
 use Rattle.sqlite.specs.Held.{state}
 use Rattle.bike_migrate.specs.Raising as raising
-use Rattle.bike_migrate.specs.Adoption as adoption
+use Rattle.bike_audit.specs.Adoption as adoption
 use Rattle.bike_recovery.specs.declared.raising.Unraised.{Unraised}
 use Rattle.bike_recovery.specs.declared.raising.Unraised.TheVariants.{Shut, Refused, Unadopted}
 use Rattle.bike_recovery.specs.Losses.{IsShutOnlyFor}

@@ -17,8 +17,6 @@ mod reopening;
 mod sessions;
 mod stop;
 
-pub use bike_feeds::{Desk, DeskFault};
-pub use bike_migrate::adopt;
 pub use bounds::{input_bounds, number_bounds, record_limits, text_bounds};
 pub use crash::{Acknowledged, Lost, run_adopt_and_read, run_crash_and_read, run_in_memory};
 pub use files::{NotOpened, stop_and_open};

@@ -13,10 +13,11 @@ ghost use Rattle.bike_recovery.specs.Unraised.{IsOnlyWantOf};
 
 use crate::reading::{Reading, read_again};
 use crate::reopening::{Shut, open_again};
-use bike_feeds::Desk;
+use bike_audit::{AdoptFault, adopt};
+use bike_desk::Desk;
 use bike_fields::BicycleNumber;
 use bike_fixed::Moment;
-use bike_migrate::{AdoptFault, RaiseFault, adopt, raise};
+use bike_migrate::{RaiseFault, raise};
 use sqlite::{Alter, Connection};
 use sqlite_trees::store::Reopen;
 use std::alloc::Global;

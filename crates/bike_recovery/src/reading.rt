@@ -2,11 +2,12 @@
 
 ghost use Rattle.std.specs.Prelude.{◌≤◌};
 ghost use Rattle.sqlite_trees.specs.View.{doubt};
-ghost use Rattle.bike_feeds.specs.Desk.{desk_state, OfOperator};
+ghost use Rattle.bike_desk.specs.Desk.{desk_state, OfOperator};
 ghost use Rattle.bike_recovery.specs.Recovery.{ReadsOf};
 
+use bike_desk::{Desk, DeskFault};
 use bike_feed_texts::Feed;
-use bike_feeds::{Desk, DeskFault, FeedFault, write_feed};
+use bike_feeds::{FeedFault, write_feed};
 use bike_fields::BicycleNumber;
 use bike_fixed::Moment;
 use bike_operator::Place;

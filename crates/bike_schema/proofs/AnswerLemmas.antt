@@ -19,7 +19,7 @@ use Rattle.bike_sql.proofs.ChainLaws.{reads_as, reads_refused, reads_both}
 use Rattle.bike_sql.proofs.SelectLaws.{every_column, keyed_row}
 use Rattle.bike_sql.proofs.TextLemmas.{IsSelect}
 use Rattle.bike_sql.proofs.WalkLaw.{Finds}
-use Rattle.bike_book.specs.Operator.{Operator}
+use Rattle.bike_operator.specs.Operator.{Operator}
 use Rattle.bike_book.specs.Tables.{TableName, Tables, keys_of, rows_in}
 use Rattle.bike_book.specs.Stored.{Listed, tables_for}
 use Rattle.bike_book.specs.Found.{WhereListed}

@@ -18,7 +18,7 @@ use Rattle.bike_sql.proofs.RowListLemmas.{no_list}
 use Rattle.bike_sql.proofs.IndexLaw.{IsOnlyIndex, index_made}
 use Rattle.bike_sql.proofs.CallLaws.{Does}
 use Rattle.bike_sql.proofs.WriteLaws.{Inserts, row_put}
-use Rattle.bike_book.specs.Operator.{no_operator}
+use Rattle.bike_operator.specs.Operator.{no_operator}
 use Rattle.bike_book.specs.Tables.{TableName, Tables, keys_of, rows_in, tables_by, with_rows, Meta, System, Plans, Segments, Types, Regions, Stations, Docks, Bikes, Trucks, Riders, Rentals, Orders}
 use Rattle.bike_book.specs.Tables.{Entries, History, MoreNames}
 use Rattle.bike_book.specs.Rows.{meta_row}

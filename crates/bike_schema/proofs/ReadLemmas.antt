@@ -7,8 +7,8 @@ use Rattle.sqlite_value.specs.declared.value.Value.TheVariants.{Int, Text}
 use Rattle.sqlite.specs.Values.{or_null}
 use Rattle.bike_fields.specs.Bytes.{kept_if, is_ident, is_name, is_language, ident_of, name_of, language_of}
 use Rattle.bike_book.specs.Rows.{number_value, truth, state_number}
-use Rattle.bike_book.specs.BikeState.{BikeState}
-use Rattle.bike_book.specs.BikeState.TheVariants.{Fit, Disabled, Retired}
+use Rattle.bike_operator.specs.declared.records.BikeState.{BikeState}
+use Rattle.bike_operator.specs.declared.records.BikeState.TheVariants.{Fit, Disabled, Retired}
 use Rattle.bike_schema.specs.declared.fault.StatementFault.{StatementFault}
 use Rattle.bike_schema.specs.Columns.{number_in, moment_in, whole_in, flag_in, state_in, text_in, ident_in, name_in, language_in, or_none, read_or_failed}
 

@@ -25,7 +25,7 @@ use Rattle.bike_sql.proofs.SelectLaws.{every_column, rows_passing}
 use Rattle.bike_sql.proofs.TestLemmas.{truth_of, then_eq}
 use Rattle.bike_sql.proofs.TextLemmas.{IsSelect}
 use Rattle.bike_sql.proofs.WalkLaw.{Finds}
-use Rattle.bike_book.specs.Operator.{text_cmp}
+use Rattle.bike_operator.specs.Operator.{text_cmp}
 use Rattle.bike_book.specs.Tables.{TableName, Tables, rows_in}
 use Rattle.bike_book.specs.Rows.{number_value}
 use Rattle.bike_book.proofs.Keys.{value_cmp-number_value}

@@ -5,7 +5,7 @@ use Rattle.sqlite_trees.specs.declared.store.Store.{Ghosts}
 use Rattle.sqlite.specs.Effect.{Database}
 use Rattle.sqlite.specs.Held.{Held}
 use Rattle.bike_sql.specs.Calls.{ReadsWhere}
-use Rattle.bike_book.specs.Operator.{Operator}
+use Rattle.bike_operator.specs.Operator.{Operator}
 use Rattle.bike_book.specs.Stored.{Listed}
 use Rattle.bike_schema.specs.Tables.{IsOurs}
 use Rattle.bike_schema.specs.Stands.{Stores}

@@ -9,8 +9,8 @@ use Rattle.sqlite_sql.specs.Ops.{is_null}
 use Rattle.bike_fixed.specs.Whole.{last_moment}
 use Rattle.bike_fields.specs.Bytes.{ident_of, name_of, language_of}
 use Rattle.bike_book.specs.Numbers.{count_of}
-use Rattle.bike_book.specs.BikeState.{BikeState}
-use Rattle.bike_book.specs.BikeState.TheVariants.{Fit, Disabled, Retired}
+use Rattle.bike_operator.specs.declared.records.BikeState.{BikeState}
+use Rattle.bike_operator.specs.declared.records.BikeState.TheVariants.{Fit, Disabled, Retired}
 use Rattle.bike_schema.specs.declared.fault.StatementFault.{StatementFault}
 use Rattle.bike_schema.specs.declared.fault.StatementFault.TheVariants.{StoreFailed}
 

@@ -5,7 +5,7 @@ use Rattle.sqlite.specs.Held.{Held, state}
 use Rattle.sqlite.specs.State.{State, HasCleanDisk, KeepsCommit, ExecutesInside}
 use Rattle.sqlite_trees.specs.declared.store.Store.{Ghosts}
 use Rattle.bike_schema.specs.declared.create.TheConstants.{TABLES, INDEXES}
-use Rattle.bike_book.specs.Operator.{no_operator}
+use Rattle.bike_operator.specs.Operator.{no_operator}
 use Rattle.bike_book.specs.declared.version.TheConstants.{NEWEST}
 use Rattle.bike_book.specs.Tables.{Meta}
 use Rattle.bike_book.specs.Rows.{meta_row}

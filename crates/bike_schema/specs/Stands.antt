@@ -4,8 +4,8 @@ use Rattle.sqlite_trees.specs.Tree.{Trees}
 use Rattle.sqlite_schema.specs.declared.schema.Schema.{Schema}
 use Rattle.sqlite.specs.Effect.{Database, IsDatabase}
 use Rattle.sqlite.specs.State.{State}
-use Rattle.bike_book.specs.Operator.{Operator, no_operator}
-use Rattle.bike_book.specs.Sound.{IsSound}
+use Rattle.bike_operator.specs.Operator.{Operator, no_operator}
+use Rattle.bike_operator.specs.Sound.{IsSound}
 use Rattle.bike_book.specs.Stored.{Listed, IsListing, tables_for}
 use Rattle.bike_schema.specs.Tables.{tables_of, HasTables, HasNone}
 

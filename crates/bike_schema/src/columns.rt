@@ -10,9 +10,10 @@ ghost use Rattle.bike_schema.specs.Columns.{whole_in, number_in, moment_in, flag
 ghost use Rattle.bike_schema.specs.Columns.{name_in, language_in};
 
 use crate::fault::StatementFault;
-use bike_book::{BikeState, RequestCount};
+use bike_book::RequestCount;
 use bike_fields::{Ident, Language, Name};
 use bike_fixed::{Cents, Moment, Within};
+use bike_operator::BikeState;
 use sqlite::Row;
 use sqlite::types::ValueRef;
 use std::alloc::Global;

@@ -4,7 +4,7 @@ use Rattle.std.specs.Io.KnownBytes.{Keeps}
 use Rattle.sqlite_trees.specs.declared.store.Store.{Ghosts}
 use Rattle.bike_operator.specs.Operator.{Operator}
 use Rattle.bike_schema.specs.Stands.{AllLeft}
-use Rattle.bike_http.specs.Desk.{DeskValue, desk_state, IsAt, TreesStandForEither}
+use Rattle.bike_desk.specs.Desk.{DeskValue, desk_state, IsAt, TreesStandForEither}
 use Rattle.bike_http.specs.Exchange.{Response, bytes_of, response_status, Answers}
 use Rattle.bike_http.specs.Telling.{unavailable, IsUndone, TellsFor, Serves, Rests}
 use Rattle.bike_http.specs.declared.exchange.Served.{Served}

@@ -9,7 +9,7 @@ use Rattle.bike_laws.proofs.RunLemmas.{after-append}
 use Rattle.bike_http_request.specs.declared.action.Action.{Action}
 use Rattle.bike_http_request.specs.declared.action.Action.TheVariants.{Reject, Apply, Show, Publish}
 use Rattle.bike_schema.specs.Stands.{AllLeft}
-use Rattle.bike_http.specs.Desk.{DeskValue, desk_state, IsAt}
+use Rattle.bike_desk.specs.Desk.{DeskValue, desk_state, IsAt}
 use Rattle.bike_http.specs.Exchange.{Response, operator_after, IsGood}
 use Rattle.bike_http.specs.Telling.{IsUndone, Tells, TellsFor, Serves, Rests}
 use Rattle.bike_http.specs.declared.exchange.Served.{Served}

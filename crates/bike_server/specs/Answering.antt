@@ -4,7 +4,7 @@ use Rattle.std.specs.Prelude.{IsSomeAnd, Result, Ok, Err}
 use Rattle.sqlite_trees.specs.declared.store.Store.{Ghosts}
 use Rattle.bike_operator.specs.Operator.{Operator}
 use Rattle.bike_schema.specs.Stands.{AllLeft}
-use Rattle.bike_http.specs.Desk.{DeskValue, desk_state, IsAt, TreesStandForEither}
+use Rattle.bike_desk.specs.Desk.{DeskValue, desk_state, IsAt, TreesStandForEither}
 use Rattle.bike_http.specs.Exchange.{Response, published, bytes_of, response_status, Answers}
 use Rattle.bike_http.specs.Telling.{unavailable}
 use Rattle.bike_http.specs.declared.exchange.Served.{Served}

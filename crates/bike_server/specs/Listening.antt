@@ -6,8 +6,8 @@ use Rattle.sqlite.specs.Held.{Held, state}
 use Rattle.sqlite.specs.State.{HasCleanDisk}
 use Rattle.bike_operator.specs.Operator.{Operator}
 use Rattle.bike_schema.specs.Stands.{TreesStandFor}
-use Rattle.bike_console.specs.AdoptFault.{AdoptFault}
-use Rattle.bike_console.specs.Adoption.{handed, IsToldOf, IsWant}
+use Rattle.bike_audit.specs.declared.adoption.AdoptFault.{AdoptFault}
+use Rattle.bike_audit.specs.Adoption.{handed, IsToldOf, IsWant}
 use Rattle.bike_console.specs.declared.end.Fault.{Fault}
 use Rattle.bike_console.specs.declared.end.Fault.TheVariants.{StoreFailed, OutOfMemory, WriteFailed, BindFailed}
 use Rattle.bike_console.specs.declared.end.Fault.TheVariants.{AcceptFailed}

@@ -13,7 +13,6 @@ mod memory;
 mod server;
 
 pub use arrivals::{AcceptFault, Arrival, Arrivals};
-pub use bike_http_sockets::clock_moment;
 pub use fault::ServerFault;
 pub use file::listen_on_file;
 pub use memory::{PlayedConnections, PlayedRequest, PlayedResponse};

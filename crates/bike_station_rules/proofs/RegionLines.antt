@@ -9,7 +9,7 @@ use Rattle.sqlite_value.specs.Order.{Row, column}
 use Rattle.sqlite.specs.Values.{or_null}
 use Rattle.sqlite_rules.specs.Lists.{Has}
 use Rattle.bike_sql.specs.View.{row_with, partner}
-use Rattle.bike_operator.specs.Rows.{RegionRow}
+use Rattle.bike_catalogue.specs.Rows.{RegionRow}
 use Rattle.bike_operator.specs.Operator.{Station}
 use Rattle.bike_operator.specs.View.{has_region as has_region_in}
 use Rattle.bike_book.specs.Tables.{Tables, Regions, Stations}

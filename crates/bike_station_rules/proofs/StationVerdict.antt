@@ -7,7 +7,7 @@ use Rattle.std.proofs.lemmas.Bool.Decides.{nat_tests}
 use Rattle.sqlite_value.specs.Order.{Row}
 use Rattle.sqlite_rules.specs.Lists.{Has}
 use Rattle.bike_operator.specs.declared.limits.TheConstants.{MOST_STATIONS}
-use Rattle.bike_operator.specs.Rows.{RegionRow}
+use Rattle.bike_catalogue.specs.Rows.{RegionRow}
 use Rattle.bike_operator.specs.Operator.{Station}
 use Rattle.bike_book.specs.Tables.{Tables, Stations}
 use Rattle.bike_book.specs.declared.columns.regions.TheConstants as regions

@@ -3,7 +3,7 @@ use Rattle.std.specs.Prelude.{ℕ, ℤ, leb, nat_lt, List, Bool, true, false, �
 use Rattle.sqlite_value.specs.Order.{Row}
 use Rattle.bike_book.specs.declared.columns.regions.TheConstants as regions
 use Rattle.bike_book.specs.declared.columns.stations.TheConstants as stations
-use Rattle.bike_operator.specs.Rows.{RegionRow}
+use Rattle.bike_catalogue.specs.Rows.{RegionRow}
 use Rattle.bike_operator.specs.declared.limits.TheConstants.{MOST_STATIONS}
 use Rattle.bike_operator.specs.Operator.{Station}
 use Rattle.bike_readings.specs.Readings.{region_read, station_read}

@@ -10,11 +10,11 @@ use Rattle.bike_accepted.specs.declared.movement.DockAt.{DockAt}
 use Rattle.bike_accepted.specs.declared.movement.DockOccupant.{DockOccupant}
 use Rattle.bike_accepted.specs.declared.movement.Movement.{Movement}
 use Rattle.bike_booking.specs.declared.stored.Stored.{Stored}
-use Rattle.bike_views.specs.StoredCounts.{StoredCounts}
-use Rattle.bike_views.specs.Stored.{AreCountsStored, AreHeldStored, AreTypesStored, IsDockStored, IsMovedStored}
-use Rattle.bike_views.specs.DockNumbers.{DockNumbers}
-use Rattle.bike_views.specs.StationNumbers.{StationNumbers}
-use Rattle.bike_views.specs.Fleet.{AreNumbersAt, dock_numbers_of, numbers_pair}
+use Rattle.bike_booking.specs.declared.stored.StoredCounts.{StoredCounts}
+use Rattle.bike_booking.specs.Stored.{AreCountsStored, AreHeldStored, AreTypesStored, IsDockStored, IsMovedStored}
+use Rattle.bike_fleet_reads.specs.declared.stations.DockNumbers.{DockNumbers}
+use Rattle.bike_fleet_reads.specs.declared.stations.StationNumbers.{StationNumbers}
+use Rattle.bike_fleet_reads.specs.Fleet.{AreNumbersAt, dock_numbers_of, numbers_pair}
 use Rattle.bike_views.specs.StoredParts.{counts_read, dock_read}
 
 module _ (s : Operator) (m : Listed) (station : List ℕ) (n : StationNumbers) where

@@ -2,10 +2,4 @@ pub mod Known
 pub mod Open
 pub mod ViewAndDocks
 pub mod Parts
-pub use Rattle.bike_booking.specs.Stored
-pub use Rattle.bike_booking.specs.declared.stored.StoredCounts
-pub use Rattle.bike_booking.specs.declared.stored.StoredDock
-pub use Rattle.bike_fleet_reads.specs.Fleet
-pub use Rattle.bike_fleet_reads.specs.declared.stations.DockNumbers
-pub use Rattle.bike_fleet_reads.specs.declared.stations.StationNumbers
 pub mod StoredParts

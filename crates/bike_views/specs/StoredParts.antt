@@ -4,10 +4,10 @@ use Rattle.std.specs.FinMap as map
 use Rattle.bike_operator.specs.Operator.{Operator, dock_key}
 use Rattle.bike_book.specs.declared.by_type.TypeCounts.{TypeCounts}
 use Rattle.bike_book.specs.Stored.{Listed}
-use Rattle.bike_views.specs.StoredCounts.{StoredCounts}
-use Rattle.bike_views.specs.StoredDock.{StoredDock}
-use Rattle.bike_views.specs.DockNumbers.{DockNumbers}
-use Rattle.bike_views.specs.Fleet.{station_numbers_at}
+use Rattle.bike_booking.specs.declared.stored.StoredCounts.{StoredCounts}
+use Rattle.bike_booking.specs.declared.stored.StoredDock.{StoredDock}
+use Rattle.bike_fleet_reads.specs.declared.stations.DockNumbers.{DockNumbers}
+use Rattle.bike_fleet_reads.specs.Fleet.{station_numbers_at}
 use Rattle.bike_views.specs.declared.view_and_docks.DockListing.{DockListing}
 use Rattle.bike_views.specs.declared.view_and_docks.StationDocks.{StationDocks}
 use Rattle.bike_views.specs.ViewAndDocks.{DocksTold, told_of}

@@ -4,15 +4,15 @@ use Rattle.std.specs.Str.{bytes_eq}
 use Rattle.std.specs.FinMap as map
 use Rattle.std.proofs.lemmas.Bool.Decides.{nat_tests}
 use Rattle.std.proofs.Math.Dec.{eqb_refl}
-use Rattle.bike_operator.specs.Rows.{TypeRow, moved_to, more_docks}
-use Rattle.bike_operator.specs.NameKind.{NameKind}
-use Rattle.bike_operator.specs.NameKind.TheVariants as named
-use Rattle.bike_operator.specs.OrderEnd.{OrderEnd}
-use Rattle.bike_operator.specs.OrderEnd.TheVariants as end
-use Rattle.bike_operator.specs.Side.{Side}
-use Rattle.bike_operator.specs.Side.TheVariants.{From, To}
-use Rattle.bike_operator.specs.Command.{Command}
-use Rattle.bike_operator.specs.Command.TheVariants as command
+use Rattle.bike_catalogue.specs.Rows.{TypeRow, moved_to, more_docks}
+use Rattle.bike_fields.specs.declared.name_kind.NameKind.{NameKind}
+use Rattle.bike_fields.specs.declared.name_kind.NameKind.TheVariants as named
+use Rattle.bike_texts.specs.declared.ends.OrderEnd.{OrderEnd}
+use Rattle.bike_texts.specs.declared.ends.OrderEnd.TheVariants as end
+use Rattle.bike_texts.specs.declared.ends.Side.{Side}
+use Rattle.bike_texts.specs.declared.ends.Side.TheVariants.{From, To}
+use Rattle.bike_commands.specs.declared.command.Command.{Command}
+use Rattle.bike_commands.specs.declared.command.Command.TheVariants as command
 use Rattle.bike_operator.specs.declared.records.BikeState.{BikeState}
 use Rattle.bike_operator.specs.declared.records.BikeState.TheVariants.{Fit, Disabled, Retired}
 use Rattle.bike_operator.specs.declared.records.Place.{Place}

@@ -5,16 +5,16 @@ use Rattle.std.proofs.lemmas.Bool.Decides.{nat_tests}
 use Rattle.std.specs.Ordering.{nat_cmp}
 use Rattle.std.specs.FinMap as map
 use Rattle.std.specs.FinMap.{FinMap}
-use Rattle.bike_operator.specs.Bytes.{is_name}
-use Rattle.bike_operator.specs.Rows.{IsSettings, moved_to, more_docks, system_with}
-use Rattle.bike_operator.specs.NameKind.{NameKind}
-use Rattle.bike_operator.specs.NameKind.TheVariants as named
-use Rattle.bike_operator.specs.OrderEnd.{OrderEnd}
-use Rattle.bike_operator.specs.OrderEnd.TheVariants as end
-use Rattle.bike_operator.specs.Side.{Side}
-use Rattle.bike_operator.specs.Side.TheVariants.{From, To}
-use Rattle.bike_operator.specs.Command.{Command}
-use Rattle.bike_operator.specs.Command.TheVariants as command
+use Rattle.bike_fields.specs.Bytes.{is_name}
+use Rattle.bike_catalogue.specs.Rows.{IsSettings, moved_to, more_docks, system_with}
+use Rattle.bike_fields.specs.declared.name_kind.NameKind.{NameKind}
+use Rattle.bike_fields.specs.declared.name_kind.NameKind.TheVariants as named
+use Rattle.bike_texts.specs.declared.ends.OrderEnd.{OrderEnd}
+use Rattle.bike_texts.specs.declared.ends.OrderEnd.TheVariants as end
+use Rattle.bike_texts.specs.declared.ends.Side.{Side}
+use Rattle.bike_texts.specs.declared.ends.Side.TheVariants.{From, To}
+use Rattle.bike_commands.specs.declared.command.Command.{Command}
+use Rattle.bike_commands.specs.declared.command.Command.TheVariants as command
 use Rattle.bike_operator.specs.declared.records.BikeState.TheVariants.{Fit, Disabled}
 use Rattle.bike_operator.specs.declared.records.Place.{Place}
 use Rattle.bike_operator.specs.declared.records.Place.TheVariants as place
@@ -22,7 +22,7 @@ use Rattle.bike_operator.specs.declared.records.Bike.{Bike}
 use Rattle.bike_operator.specs.declared.records.Order.{Order}
 use Rattle.bike_operator.specs.declared.view.DockedBike.{DockedBike}
 use Rattle.bike_operator.specs.declared.view.RentalView.{RentalView}
-use Rattle.bike_operator.specs.numbers.TheConstants.{MOST_DOCKS}
+use Rattle.bike_fields.specs.declared.numbers.TheConstants.{MOST_DOCKS}
 use Rattle.bike_operator.specs.Operator.{Operator, Station, AcceptedRequest, item_numbered}
 use Rattle.bike_operator.specs.Counts.{docked_at}
 use Rattle.bike_operator.specs.Names.{is_own_language}

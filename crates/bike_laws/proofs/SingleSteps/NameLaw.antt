@@ -3,16 +3,16 @@ use Rattle.std.proofs.Common.{◌≡◌, ℕ, ◌+◌, ◌<◌, List, length, Bo
 use Rattle.std.specs.FinMap as map
 use Rattle.std.specs.FinMap.{FinMap}
 use Rattle.std.proofs.lemmas.Bool.Decides.{nat_tests}
-use Rattle.bike_operator.specs.Bytes.{is_name}
-use Rattle.bike_operator.specs.Rows.{PlanRow, TypeRow, RegionRow, moved_to, more_docks, system_with}
-use Rattle.bike_operator.specs.NameKind.{NameKind}
-use Rattle.bike_operator.specs.NameKind.TheVariants as named
-use Rattle.bike_operator.specs.OrderEnd.{OrderEnd}
-use Rattle.bike_operator.specs.OrderEnd.TheVariants as end
-use Rattle.bike_operator.specs.Side.{Side}
-use Rattle.bike_operator.specs.Side.TheVariants.{From, To}
-use Rattle.bike_operator.specs.Command.{Command}
-use Rattle.bike_operator.specs.Command.TheVariants as command
+use Rattle.bike_fields.specs.Bytes.{is_name}
+use Rattle.bike_catalogue.specs.Rows.{PlanRow, TypeRow, RegionRow, moved_to, more_docks, system_with}
+use Rattle.bike_fields.specs.declared.name_kind.NameKind.{NameKind}
+use Rattle.bike_fields.specs.declared.name_kind.NameKind.TheVariants as named
+use Rattle.bike_texts.specs.declared.ends.OrderEnd.{OrderEnd}
+use Rattle.bike_texts.specs.declared.ends.OrderEnd.TheVariants as end
+use Rattle.bike_texts.specs.declared.ends.Side.{Side}
+use Rattle.bike_texts.specs.declared.ends.Side.TheVariants.{From, To}
+use Rattle.bike_commands.specs.declared.command.Command.{Command}
+use Rattle.bike_commands.specs.declared.command.Command.TheVariants as command
 use Rattle.bike_operator.specs.declared.limits.TheConstants.{MOST_FURTHER_NAMES}
 use Rattle.bike_operator.specs.declared.records.BikeState.TheVariants.{Fit, Disabled}
 use Rattle.bike_operator.specs.declared.records.Place.{Place}

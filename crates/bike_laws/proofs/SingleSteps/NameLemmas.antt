@@ -9,11 +9,11 @@ use Rattle.std.specs.FinMap as map
 use Rattle.std.specs.FinMap.{FinMap}
 use Rattle.std.specs.FinMap.Entries.{put, by_order}
 use Rattle.std.proofs.lemmas.List.{length-map}
-use Rattle.bike_operator.specs.Bytes.{is_name}
-use Rattle.bike_operator.specs.Rows.{PlanRow, TypeRow, RegionRow, SystemRow}
-use Rattle.bike_operator.specs.NameKinds.{kind_text}
-use Rattle.bike_operator.specs.NameKind.{NameKind}
-use Rattle.bike_operator.specs.NameKind.TheVariants as named
+use Rattle.bike_fields.specs.Bytes.{is_name}
+use Rattle.bike_catalogue.specs.Rows.{PlanRow, TypeRow, RegionRow, SystemRow}
+use Rattle.bike_fields.specs.NameKinds.{kind_text}
+use Rattle.bike_fields.specs.declared.name_kind.NameKind.{NameKind}
+use Rattle.bike_fields.specs.declared.name_kind.NameKind.TheVariants as named
 use Rattle.bike_operator.specs.declared.limits.TheConstants.{MOST_FURTHER_NAMES}
 use Rattle.bike_operator.specs.Operator.{Operator, Station, text_cmp, texts_cmp, NameKey, name_key}
 use Rattle.bike_operator.specs.Counts.{count}

@@ -4,9 +4,9 @@ use Rattle.std.specs.Ordering.{nat_cmp}
 use Rattle.std.specs.FinMap as map
 use Rattle.std.specs.FinMap.{FinMap}
 use Rattle.std.proofs.lemmas.Bool.Decides.{nat_tests}
-use Rattle.bike_operator.specs.Rows.{TypeRow}
-use Rattle.bike_operator.specs.OrderEnd.{OrderEnd}
-use Rattle.bike_operator.specs.OrderEnd.TheVariants as end
+use Rattle.bike_catalogue.specs.Rows.{TypeRow}
+use Rattle.bike_texts.specs.declared.ends.OrderEnd.{OrderEnd}
+use Rattle.bike_texts.specs.declared.ends.OrderEnd.TheVariants as end
 use Rattle.bike_operator.specs.declared.records.BikeState.{BikeState}
 use Rattle.bike_operator.specs.declared.records.Place.{Place}
 use Rattle.bike_operator.specs.declared.records.Place.TheVariants as place

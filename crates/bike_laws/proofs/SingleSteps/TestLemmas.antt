@@ -4,7 +4,7 @@ use Rattle.std.proofs.lemmas.Slice.Eq.{bytes_eq-Decides}
 use Rattle.std.proofs.Common.{◌==◌, ◌&&◌, ◌||◌, not, is_some, subst, ◌≡◌, ℕ, ◌≤◌, List, [], ◌∷◌, Bool, true, false, Option, Some, None, is_none, refl, arith, if◌then◌else◌}
 use Rattle.std.specs.FinMap as map
 use Rattle.std.proofs.lemmas.Bool.Decides.{nat_tests}
-use Rattle.bike_operator.specs.Refusal.{Refusal}
+use Rattle.bike_commands.specs.declared.refusal.Refusal.{Refusal}
 use Rattle.bike_operator.specs.Operator.{Operator, Station, Truck}
 use Rattle.bike_operator.specs.View.{station_view, truck_view}
 use Rattle.bike_operator.specs.Steps.{on, first, has_no_dock}

@@ -2,11 +2,11 @@
 use Rattle.std.proofs.Common.{◌≡◌, ℕ, ◌≤◌, true, false, not, ◌&&◌, ◌==◌, Option, Some, None, is_some, is_none, refl, subst, arith}
 use Rattle.std.specs.FinMap as map
 use Rattle.std.proofs.lemmas.Bool.Decides.{nat_tests}
-use Rattle.bike_operator.specs.OrderEnd.{OrderEnd}
-use Rattle.bike_operator.specs.OrderEnd.TheVariants as end
-use Rattle.bike_operator.specs.Side.{Side}
-use Rattle.bike_operator.specs.Side.TheVariants.{From, To}
-use Rattle.bike_operator.specs.Command.TheVariants as command
+use Rattle.bike_texts.specs.declared.ends.OrderEnd.{OrderEnd}
+use Rattle.bike_texts.specs.declared.ends.OrderEnd.TheVariants as end
+use Rattle.bike_texts.specs.declared.ends.Side.{Side}
+use Rattle.bike_texts.specs.declared.ends.Side.TheVariants.{From, To}
+use Rattle.bike_commands.specs.declared.command.Command.TheVariants as command
 use Rattle.bike_operator.specs.declared.records.Bike.{Bike}
 use Rattle.bike_operator.specs.declared.records.Order.{Order}
 use Rattle.bike_operator.specs.declared.view.View.{View}

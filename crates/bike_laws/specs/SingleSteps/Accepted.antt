@@ -1,7 +1,7 @@
 -- What stays true of a sound operator when a command is accepted.
 use Rattle.std.specs.Prelude.{◌≡◌, ◌≤◌, ℕ, List, None}
-use Rattle.bike_operator.specs.Command.{Command}
-use Rattle.bike_operator.specs.Commands.{IsCommand}
+use Rattle.bike_commands.specs.declared.command.Command.{Command}
+use Rattle.bike_commands.specs.Commands.{IsCommand}
 use Rattle.bike_operator.specs.Operator.{Operator, AcceptedRequest}
 use Rattle.bike_operator.specs.Steps.{refusal_of, effect}
 use Rattle.bike_operator.specs.Sound.{IsSound}

@@ -22,8 +22,8 @@ abbrev pub old_meta_row : ℕ → ℕ → Value → Value → Row
 old_meta_row version now cash revenue =
     Int (pos 1) ∷ Text (codes "bikeshare") ∷ number_value version ∷ number_value now ∷ cash ∷ revenue ∷ []
 
--- The tables of the operator, with the version's number in meta's row. What stands there for the sums tells nothing: they
--- are those of its entries.
+-- The tables of the operator, with the version's number in meta's row. What stands there for the sums tells nothing:
+-- they are those of its entries.
 abbrev pub tables_for_at : Earlier → Operator → Listed → Value → Value → Tables
 tables_for_at e s m cash revenue =
     record (tables_for s m) { meta = old_meta_row (number_of e) m.since cash revenue ∷ [] }

@@ -1,6 +1,6 @@
 use Rattle.std.proofs.Common.{◌∙◌, ◌++◌, sym, ap}
 use Rattle.std.specs.Prelude.{codes}
-use Rattle.bike_migrate.specs.Audit.{row_name}
+use Rattle.bike_audit.specs.Audit.{row_name}
 use Rattle.bike_migrate.specs.Raising.{name_at}
 use Rattle.bike_console.specs.Ends.{detail_of}
 use Rattle.bike_console.specs.Pieces.{key_text}

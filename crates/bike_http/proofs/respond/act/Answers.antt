@@ -1,6 +1,6 @@
 use Rattle.std.proofs.Common.{Err, inr, refl, ap, subst}
 use Rattle.bike_commands.specs.Requests.{IsRequest}
-use Rattle.bike_feeds.specs.DeskFault.{DeskFault}
+use Rattle.bike_desk.specs.declared.fault.DeskFault.{DeskFault}
 use Rattle.bike_http.proofs.Told.{act_undone, act_rests}
 use Rattle.bike_http.proofs.respond.act.Goals as goal
 

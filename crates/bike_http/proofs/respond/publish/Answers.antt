@@ -1,7 +1,7 @@
 use Rattle.std.proofs.Common.{◌≡◌, ◌∙◌, ℕ, max, inr, ap, refl, subst, arith}
 use Rattle.sqlite.specs.State.{HasCleanDisk}
 use Rattle.bike_operator.specs.Operator.{Operator}
-use Rattle.bike_feeds.specs.Desk.{desk_state}
+use Rattle.bike_desk.specs.Desk.{desk_state}
 use Rattle.bike_http_response.specs.declared.answer.Answer.TheVariants as answer
 use Rattle.bike_http.specs.Telling.{Publishes}
 use Rattle.bike_http.proofs.Told.{query_undone, responds}

@@ -2,7 +2,7 @@ use Rattle.std.proofs.Common.{◌≡◌, subst, arith}
 use Rattle.sqlite_trees.specs.View.{doubt}
 use Rattle.sqlite.specs.State.{HasCleanDisk}
 use Rattle.sqlite.specs.Held.{state}
-use Rattle.bike_feeds.specs.Desk.{desk_state}
+use Rattle.bike_desk.specs.Desk.{desk_state}
 use Rattle.bike_recovery.proofs.StopLemmas.{shut_only}
 use Rattle.bike_recovery.proofs.crash.resume.Goals as goal
 

@@ -1,6 +1,6 @@
 use Rattle.std.proofs.Common.{arith}
 use Rattle.sqlite.specs.State.{HasCleanDisk}
-use Rattle.bike_feeds.specs.Desk.{desk_state}
+use Rattle.bike_desk.specs.Desk.{desk_state}
 use Rattle.bike_recovery.proofs.FrontLemmas.{sound_at}
 use Rattle.bike_recovery.proofs.crash.run_adopt_and_read.Goals as goal
 

@@ -1,7 +1,7 @@
 use Rattle.std.proofs.Common.{take, arith}
 use Rattle.sqlite.specs.State.{HasCleanDisk}
 use Rattle.bike_operator.specs.Runs.{after}
-use Rattle.bike_feeds.specs.Desk.{desk_state}
+use Rattle.bike_desk.specs.Desk.{desk_state}
 use Rattle.bike_recovery.proofs.FrontLemmas.{sound_at}
 use Rattle.bike_recovery.proofs.crash.run_crash_and_read.Goals as goal
 

@@ -1,7 +1,7 @@
 use Rattle.std.proofs.Common.{arith}
 use Rattle.sqlite.specs.State.{HasCleanDisk}
 use Rattle.sqlite.specs.Held.{state}
-use Rattle.bike_feeds.specs.Desk.{desk_state}
+use Rattle.bike_desk.specs.Desk.{desk_state}
 use Rattle.bike_recovery.proofs.raising.raise_crash_and_read.Goals as goal
 
 pub returns-in-Ok-adopt-clause-headline : goal.returns-in-Ok-adopt-clause-headline

@@ -1,6 +1,6 @@
 use Rattle.std.proofs.Common.{arith}
 use Rattle.sqlite.specs.State.{HasCleanDisk}
-use Rattle.bike_feeds.specs.Desk.{desk_state}
+use Rattle.bike_desk.specs.Desk.{desk_state}
 use Rattle.bike_recovery.proofs.ReadingLemmas.{reads}
 use Rattle.bike_recovery.proofs.reading.read_again.Goals as goal
 

@@ -1,6 +1,6 @@
 use Rattle.std.proofs.Common.{arith}
 use Rattle.sqlite.specs.State.{HasCleanDisk}
-use Rattle.bike_feeds.specs.Desk.{desk_state}
+use Rattle.bike_desk.specs.Desk.{desk_state}
 use Rattle.bike_laws.specs.Sessions.{after_sessions}
 use Rattle.bike_recovery.proofs.SessionsLemmas.{serves-none, serves-turn, serves-all}
 use Rattle.bike_recovery.proofs.sessions.serve_sessions.Goals as goal

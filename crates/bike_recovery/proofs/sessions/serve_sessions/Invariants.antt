@@ -1,7 +1,7 @@
 use Rattle.std.proofs.Common.{◌≡◌, ◌≤◌, map, take, length, vec_len, vec_capacity}
 use Rattle.sqlite.specs.State.{HasCleanDisk}
 use Rattle.bike_operator.specs.Operator.{Operator}
-use Rattle.bike_feeds.specs.Desk.{desk_state, IsAt}
+use Rattle.bike_desk.specs.Desk.{desk_state, IsAt}
 use Rattle.bike_recovery.specs.SessionsServed.{ServesSessions}
 use Rattle.bike_recovery.proofs.sessions.serve_sessions.Given as goal
 

@@ -1,6 +1,6 @@
 use Rattle.std.proofs.Common.{[], inr, arith}
 use Rattle.sqlite.specs.State.{HasCleanDisk}
-use Rattle.bike_http.specs.Desk.{desk_state}
+use Rattle.bike_desk.specs.Desk.{desk_state}
 use Rattle.bike_server.proofs.AnsweringLemmas.{known_keeps}
 use Rattle.bike_server.proofs.ServingLemmas.{requests_left, ends_listening}
 use Rattle.bike_server.proofs.server.listen.Goals as goal

@@ -1,7 +1,7 @@
 use Rattle.std.proofs.Common.{◌≡◌, ◌∙◌, [], sym, true, false, arith}
 use Rattle.sqlite.specs.State.{HasCleanDisk}
 use Rattle.bike_operator.specs.Runs.{after}
-use Rattle.bike_http.specs.Desk.{desk_state}
+use Rattle.bike_desk.specs.Desk.{desk_state}
 use Rattle.bike_server.proofs.ServingLemmas.{served, joined}
 use Rattle.bike_server.proofs.InOrder.{none_yet, enough, no_more, fails, one_more, opens, stopped_here}
 use Rattle.bike_server.proofs.server.serve_count.Goals as goal

@@ -4,7 +4,7 @@ use Rattle.sqlite_trees.specs.View.{doubt}
 use Rattle.bike_operator.specs.Operator.{Operator}
 use Rattle.bike_operator.specs.Runs.{Call, after}
 use Rattle.bike_operator.specs.Sound.{AreCalls}
-use Rattle.bike_http.specs.Desk.{desk_state, IsAt}
+use Rattle.bike_desk.specs.Desk.{desk_state, IsAt}
 use Rattle.bike_server.proofs.InOrder.{SoFar}
 use Rattle.bike_server.proofs.server.serve_count.Given as goal
 

@@ -1,5 +1,5 @@
 use Rattle.std.proofs.Common.{rules, false, sym, subst, ◌∙◌}
-use Rattle.bike_views.specs.Stored.{IsMovedStored}
+use Rattle.bike_booking.specs.Stored.{IsMovedStored}
 use Rattle.bike_views.proofs.OpenLaws.{open_as, open_failed, open_none, open_refused, open_then}
 use Rattle.bike_views.proofs.StoredLemmas.{counts_stored, dock_stored, held_stored, types_stored}
 use Rattle.bike_views.proofs.stored.find_moved.Goals as goal

@@ -1,5 +1,5 @@
 use Rattle.std.proofs.Common.{rules, subst}
-use Rattle.bike_views.specs.Fleet.{AreNumbersAt}
+use Rattle.bike_fleet_reads.specs.Fleet.{AreNumbersAt}
 use Rattle.bike_views.proofs.OpenLaws.{open_as, open_refused}
 use Rattle.bike_views.proofs.stored.find_numbers.Goals as goal
 

@@ -1,6 +1,6 @@
 use Rattle.std.proofs.Common.{sym, subst}
 use Rattle.std.specs.Prelude.{IfSome}
-use Rattle.bike_views.specs.Stored.{IsMovedStored}
+use Rattle.bike_booking.specs.Stored.{IsMovedStored}
 use Rattle.bike_views.proofs.OpenLaws.{open_none, open_weaker}
 use Rattle.bike_views.proofs.DockLemmas.{are_docks}
 use Rattle.bike_views.proofs.stored.find_stored.Goals as goal
