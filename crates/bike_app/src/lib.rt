@@ -1,6 +1,6 @@
 //! The tasks of the program's words over a database: it is taken into service, and then request lines are served, a
 //! feed or a day's table is written, or an import is taken in; or it is raised to the newest version. `run_lines` of
-//! `bike_batch` is passed on as a part of this surface.
+//! `bike_batch` is passed on as a part of this surface, and of `bike_console` what a program ends and shows by.
 #![tactic(auto)]
 
 mod bounds;
@@ -13,6 +13,7 @@ mod raise;
 mod words;
 
 pub use bike_batch::{LinesFault, run_lines};
+pub use bike_console::{CountingReader, Fault, Progress, exit_code};
 pub use bounds::word_bounds;
 pub use day::report_day;
 pub use feed::publish;

@@ -3,9 +3,8 @@
 
 ghost use Rattle.bike_command_line.specs.Program.{IsWithin, IsWithinOnFile};
 
-use bike_app::{run_on_file, run_words_in_memory};
+use bike_app::{CountingReader, Fault, Progress, exit_code, run_on_file, run_words_in_memory};
 use bike_command_line::{FileTask, Mistake, Task, WordsFault, read_words};
-use bike_console::{CountingReader, Fault, Progress, exit_code};
 use bike_http_sockets::clock_moment;
 use bike_server::{listen, listen_on_file};
 use sqlite::{Connection, Unknown};
