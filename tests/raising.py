@@ -379,7 +379,8 @@ def test_rows_of_counts(program):
             removed(file)
         bad = unsound(old, b"a1")
         changes = [*OF_COUNTS, *(added.format(", ".join(map(repr, it))) for it in WRONG_COUNTS)]
-        for change in [*changes, *(f"{OF_COUNTS[0]}; UPDATE {it} = 0" for it in ("riders SET balance", "meta SET cash"))]:
+        changes += [f"{OF_COUNTS[0]}; UPDATE {it} = 0" for it in ("riders SET balance", "meta SET cash")]
+        for change in changes:
             file = of_sql(program.folder, version)
             changed(file, change)
             with told_with(f"version {version}, {change}"):
