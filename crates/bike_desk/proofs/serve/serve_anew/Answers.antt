@@ -9,6 +9,11 @@ use Rattle.bike_desk.proofs.KeepLemmas.{on_err, kept_ours, still, still_left}
 use Rattle.bike_desk.proofs.ReadLemmas.{both_read, both_same, asked_command}
 use Rattle.bike_desk.proofs.serve.serve_anew.Goals as goal
 
+pub returns-in_err-figures-clause-failed : goal.returns-in_err-figures-clause-failed
+returns-in_err-figures-clause-failed g c clean s keeps remembers anew =
+    let left : AllLeft (state g.S.Store c.know_figures.new.conn) (TreesStandForEither s (step s c.args.moment c.args.asked.request.now).1) = λ db h. inl (still_left g.S.Store c.args.conn.now c.know_figures.new.conn s keeps clean c.know_figures.ensures.quiet db h) in
+    on_err _ left
+
 pub returns-in_err-found-clause-failed : goal.returns-in_err-found-clause-failed
 returns-in_err-found-clause-failed g c clean s keeps remembers anew =
     let early : HasCleanDisk (state g.S.Store c.know_figures.new.conn) = omega (arith, clean, c.find_view.ensures.quiet.survives.clean) in
