@@ -3,6 +3,7 @@ use Rattle.std.proofs.Common.{◌≡◌, ◌≤◌, ℕ, true, false, IsTrue, Li
 use Rattle.std.specs.Prelude.{option_map, IfSome}
 use Rattle.std.specs.FinMap as fin
 use Rattle.std.proofs.lemmas.Bool.{leb-true, le-leb, both_ways}
+use Rattle.sqlite_value.specs.declared.value.Value.{Value}
 use Rattle.sqlite_value.specs.declared.value.Value.TheVariants.{Text}
 use Rattle.sqlite_value.specs.Order.{Row}
 use Rattle.sqlite.specs.Effect.{Database}
@@ -119,9 +120,9 @@ module _ (e : Earlier) (old new : Database) (raised : IsRaised e old new) where
 -- where it stands for an operator, all keys are good
 pub stored_all_good : (e : Earlier) (old : Database) (s : Operator) → StoresAt e old s → (AllGood (tables_raised e old)) → AllGoodAt e (tables_raised e old)
 stored_all_good First old s it good = λ name key.
-    record { good = good name key; few = subst (λ t. KeepsBound t name key) (sym (raised_for First old s it.listed it.tables)) (bound_kept s it.listed (it.few_docks refl) name key) }
+    record { good = good name key; few = subst (λ t. KeepsBound t name key) (sym (raised_for First old s it.listed it.cash it.revenue it.tables)) (bound_kept s it.listed (it.few_docks refl) name key) }
 stored_all_good Second old s it good = λ name key.
-    record { good = good name key; few = subst (λ t. KeepsBound t name key) (sym (raised_for Second old s it.listed it.tables)) (bound_kept s it.listed (it.few_docks refl) name key) }
+    record { good = good name key; few = subst (λ t. KeepsBound t name key) (sym (raised_for Second old s it.listed it.cash it.revenue it.tables)) (bound_kept s it.listed (it.few_docks refl) name key) }
 stored_all_good Third old s it good = good
 
 -- then none is bad

@@ -32,6 +32,7 @@ use Rattle.bike_recognition.specs.EarlierVersions.Found.{IsNewest, IsOfEarlier, 
 use Rattle.bike_recognition.specs.EarlierVersions.Stores.{StoresAt, StandsForAt, TreesStandForAt}
 use Rattle.bike_desk.proofs.KeepLemmas.{no_meta}
 use Rattle.bike_audit.proofs.AdoptLemmas.{same_tables}
+use Rattle.bike_migrate.proofs.VersionLemmas.{old_found}
 
 -- ---- what a database has is told by its tables and trees
 
@@ -101,6 +102,8 @@ module _ (a b : Schema) (trees : Trees) (same : a.tables ≡ b.tables) where
     few_docks = it.few_docks;
     listed = it.listed;
     listing = it.listing;
+    cash = it.cash;
+    revenue = it.revenue;
     tables = tables_across e ∙ it.tables;
   }
 
