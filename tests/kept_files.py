@@ -145,7 +145,7 @@ def test_an_older_file_that_calls_itself_newer(program):
 
 
 # What schema 4 has more than schema 3, 3 than 2, and 2 than 1: bicycles by type in a station's row, numbers and moments
-# of the requests, further names, a station's region and a table of regions.
+# of the requests, and no sums in meta; further names; a station's region and a table of regions.
 MORE_NAMES = (
     "CREATE TABLE more_names (kind TEXT NOT NULL, id TEXT NOT NULL, language TEXT NOT NULL, name TEXT NOT NULL, "
     "PRIMARY KEY (kind, id, language)) STRICT;CREATE INDEX more_names_by_language ON more_names (language); "
@@ -154,7 +154,7 @@ MORE_NAMES = (
 REGIONS = "CREATE TABLE regions (region_id TEXT PRIMARY KEY NOT NULL, name TEXT NOT NULL) STRICT;"
 REQUESTS = (
     f"{HISTORY}; {BY_KEY}; INSERT INTO history SELECT row_number() OVER (ORDER BY rowid), 0, * FROM kept; "
-    "DROP TABLE kept; UPDATE meta SET version = 4"
+    "DROP TABLE kept; UPDATE meta SET version = 4, cash = 0, revenue = 0"
 )
 BY_TYPE = (
     "coalesce((SELECT group_concat(type_id || ':' || available || ':' || disabled, ';') FROM (SELECT * FROM counts "
