@@ -498,8 +498,8 @@ def test_what_came_later_is_served_of_a_raised_file(program):
 
 
 def test_cities_of_traffic(program):
-    """What today's program holds of them, less what came later and the moments of the requests, is what a raised file
-    holds."""
+    """What today's program holds of them, less what came later and the moments of the requests, of which meta has the
+    last, is what a raised file holds."""
     for seed, version, layout in (SEED, 1, "keyed"), (SEED + 1, 2, "unkeyed"), (SEED + 2, 3, "unkeyed"):
         file = Path(program.folder, f"city{version}.db")
         lines, told = traffic.made(seed, 600, languages=["en"])
@@ -510,10 +510,12 @@ def test_cities_of_traffic(program):
         assert program.run("lines", file.name, given=given) == (0, wanted, b"")
         whole = held(file)
         rows = [row[2:] for row in sorted(whole.rows["history"])]
+        ((*named, _, _, _),) = whole.rows["meta"]
+        meta = [(*named, max(row[1] for row in whole.rows["history"]), 0, 0)]
         feeds = {it: program.run("feed", file.name, it, "--at", "1800000000") for it in FEEDS}
         lowered(file, version, layout)
         is_raised(program, file, version)
-        assert held(file) == whole._replace(rows=whole.rows | {"history": requests(rows)})
+        assert held(file) == whole._replace(rows=whole.rows | {"history": requests(rows), "meta": meta})
         assert {it: program.run("feed", file.name, it, "--at", "1800000000") for it in FEEDS} == feeds
 
 

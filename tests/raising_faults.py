@@ -65,7 +65,8 @@ def verdict(file, version):
         return FOREIGN
     if row["version"] > NEWEST:
         return newer(row["version"])
-    row["version"] = NEWEST
+    # The sums tell nothing.
+    row |= {"version": NEWEST, "cash": 0, "revenue": 0}
     stations = [station_of_today(it, tables["counts"]) for it in tables["stations_4"]]
     whole = {name: tables.get(name, []) for name in audit.TABLES} | {"stations_4": stations}
     most = MOST_DOCKS_BEFORE if version < 3 else MOST_DOCKS
@@ -92,7 +93,7 @@ def test_a_station_of_more_docks(program):
             (more, unsound(old, most)),
             (f"{more}; UPDATE counts SET available = available + 1", None),
             (f"{more}; DELETE FROM counts", None),
-            (f"{more}; UPDATE meta SET cash = cash + 1", unsound("meta", b"1")),
+            (f"{more}; UPDATE meta SET cash = cash + 1", unsound(old, most)),
             (
                 f"{more}; {new.format(quoted('-', chr(39)))}; "
                 f"UPDATE {old} SET free = 201, broken = 0 WHERE station_id = '-'",
