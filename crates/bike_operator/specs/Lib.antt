@@ -1,4 +1,5 @@
 pub mod Operator
+pub mod Requests
 pub mod Counts
 pub mod Names
 pub mod View

@@ -5,8 +5,8 @@
 //! for a command, with the test whether its numbers are those of a sound one. Decisions, and what they make, stand
 //! above.
 //!
-//! What is shown of a rental and of a station stands here too: queries answer it, and feeds, HTTP and day tables are
-//! made of it.
+//! What is shown of a rental, of a station and of an accepted request stands here too: queries answer it, and feeds,
+//! HTTP and day tables are made of it.
 #![tactic(auto)]
 
 mod bounds;
@@ -14,6 +14,7 @@ mod change;
 mod limits;
 mod records;
 mod rental_info;
+mod request_info;
 mod station_info;
 mod view;
 
@@ -25,5 +26,6 @@ pub use limits::{
 };
 pub use records::{Bike, BikeState, Closing, Order, Place, Rental};
 pub use rental_info::{ClosingInfo, RentalInfo};
+pub use request_info::{RequestInfo, RequestPage};
 pub use station_info::{Counts, StationInfo, TypeCount};
 pub use view::{DockedBike, RentalView, RiderView, StationView, TruckView, View};
