@@ -155,7 +155,7 @@ all_full reader ps a h = rw (reader.full ps [] a (record { front = ps; split = s
 
 -- ---- writing
 
-fields_text_append : (fs gs : List Field) → fields_text (fs ++ gs) ≡ fields_text fs ++ fields_text gs
+pub fields_text_append : (fs gs : List Field) → fields_text (fs ++ gs) ≡ fields_text fs ++ fields_text gs
 unfolding fields_text
 fields_text_append [] gs = refl
 fields_text_append (f ∷ fs) gs =
