@@ -1,6 +1,6 @@
 -- Commands are read exactly, both ways, in a whole text.
 use Rattle.std.proofs.Common.{◌≡◌, ℕ, List, [], ◌∷◌, ◌&&◌, ◌==◌, Bool, true, false, not, cond, Option, Some, None, Result, Ok, Err, refl, sym, ap, ◌∙◌, subst, arith, codes}
-use Rattle.std.specs.Prelude.{IfSome, IfOk, IfErr, IsErr, IsErrAnd, IsSome, option_map, nat_le, int_le, length, pos, neg_ℤ, ℤ, ◌≤ℤ◌}
+use Rattle.std.specs.Prelude.{IfSome, IfOk, IfErr, IsErr, IsErrAnd, IsSome, option_map, int_le, length, pos, neg_ℤ, ℤ, ◌≤ℤ◌}
 use Rattle.std.specs.declared.alloc.AllocError.{AllocError}
 use Rattle.std.specs.List.{slice_split, join_with_byte, list_all}
 use Rattle.std.proofs.lemmas.Bool.{le-leb}
