@@ -14,7 +14,8 @@ use Rattle.bike_batch.specs.Again.{history_text}
 use Rattle.bike_batch.specs.Ends.{AppendsUntil}
 
 -- THE LINES of the operator's history behind a number
-abbrev pub WritesHistory : {A : Type 0} → Operator → ℕ → Option (List ℕ) → Option (List ℕ) → Result A HistoryFault → Type 0
+abbrev pub WritesHistory : {A : Type 0} → Operator → ℕ → Option (List ℕ) → Option (List ℕ) → Result A HistoryFault
+    → Type 0
 WritesHistory s after old new (Ok x) = Appends old new (history_text s after)
 WritesHistory s after old new (Err Write) = AppendsFront old new (history_text s after)
 WritesHistory s after old new (Err (Desk fault)) = AppendsUntil fault old new (history_text s after)

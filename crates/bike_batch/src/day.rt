@@ -18,11 +18,11 @@ use std::io::Write;
 /// number.
 ///
 /// An entry lies in the day where it was booked, a rental in that where it ended, a request in that of the operator's
-/// moment after it; `day_bounds` tells the day of a date (`YYYY-MM-DD`) and a zone (POSIX's `TZ`). `Day` comes exactly where that refuses them, before the desk is asked, and
-/// then nothing is written. After `Write` a front of the table is written, and not all; so it is after `NoMemory`,
-/// which is that of a line; after another fault of the desk a front, or all. What is kept never changes. `NoMemory` and
-/// `Write` leave the desk as it was, `StoreFailed` stops it, and a stopped desk answers `Stopped`, stays as it is and
-/// writes nothing.
+/// moment after it; `day_bounds` tells the day of a date (`YYYY-MM-DD`) and a zone (POSIX's `TZ`). `Day` comes exactly
+/// where that refuses them, before the desk is asked, and then nothing is written. After `Write` a front of the table
+/// is written, and not all; so it is after `NoMemory`, which is that of a line; after another fault of the desk a
+/// front, or all. What is kept never changes. `NoMemory` and `Write` leave the desk as it was, `StoreFailed` stops it,
+/// and a stopped desk answers `Stopped`, stays as it is and writes nothing.
 pub fn day_csv<S: Alter, W: Write>(
     alloc: Global,
     desk: &mut Desk<S>,

@@ -73,13 +73,13 @@ fn last_behind(requests: &[RequestInfo], number: u64) -> Option<u64>
     }
 }
 
-/// Writes the history behind a number of the operator for which the desk stands, all of it where the number is 0: a line
-/// for each request, which `run_lines` would serve again, its moment the operator's after it.
+/// Writes the history behind a number of the operator for which the desk stands, all of it where the number is 0: each
+/// request as a line that `run_lines` would serve again, its moment the operator's after it.
 ///
-/// It is read by pages, and each page is written before the next is read. After `Write` a front of the lines is written,
-/// and not all; so it is after `NoMemory`, which is that of a page's lines; after another fault of the desk a front, or
-/// all. What is kept never changes. `NoMemory` and `Write` leave the desk as it was, `StoreFailed` stops it, and a
-/// stopped desk answers `Stopped`, stays as it is and writes nothing.
+/// It is read page by page, and a page is written before the next is read. After `Write` a front of the lines is
+/// written, and not all; so it is after `NoMemory`, which is that of a page's lines; after another fault of the desk a
+/// front, or all. What is kept never changes. `NoMemory` and `Write` leave the desk as it was, `StoreFailed` stops it,
+/// and a stopped desk answers `Stopped`, stays as it is and writes nothing.
 pub fn write_history<S: Alter, W: Write>(
     alloc: Global,
     desk: &mut Desk<S>,

@@ -4,9 +4,9 @@
 //!   are those of the operator for which the desk stands, for every way in which the input arrives. Where the run ends
 //!   before its input does, the fault tells how far reading, writing and the desk came.
 //! - `import_stations`: a table of stations, taken into service row by row.
-//! - `day_csv`: the ledger's entries, the rentals that ended, or the accepted requests, on the local day that a date and
-//!   a zone name, as comma-separated values. Its rows are read one at a time and written as they are read, so no more
-//!   than one is held.
+//! - `day_csv`: the ledger's entries, the rentals that ended, or the accepted requests, on the local day that a date
+//!   and a zone name, as comma-separated values. Its rows are read one at a time and written as they are read, so no
+//!   more than one is held.
 //! - `write_history`: the accepted requests behind a number, as lines that `run_lines` would serve again. They are read
 //!   page by page, and a page is written before the next is read.
 #![tactic(auto)]
