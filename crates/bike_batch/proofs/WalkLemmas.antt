@@ -29,12 +29,12 @@ use Rattle.bike_batch.proofs.DeskLemmas.{earlier, going_only, stays_asked, stays
 
 -- ---- fronts
 
-front_first : (a b : Option (List ℕ)) (x y : List ℕ) → AppendsFront a b x → AppendsFront a b (x ++ y)
+pub front_first : (a b : Option (List ℕ)) (x y : List ℕ) → AppendsFront a b x → AppendsFront a b (x ++ y)
 front_first a b x y h =
     let short : h.0 ≤ length x = omega (arith, h.1) in
     (h.0, omega (arith, length-append x y, h.1), rw (take-append-le h.0 x y short) h.2)
 
-front_then : (a b c : Option (List ℕ)) (x y : List ℕ) → Appends a b x → AppendsFront b c y → AppendsFront a c (x ++ y)
+pub front_then : (a b c : Option (List ℕ)) (x y : List ℕ) → Appends a b x → AppendsFront b c y → AppendsFront a c (x ++ y)
 front_then a b c x y h k = (
   length x + k.0,
   omega (arith, length-append x y, k.1),
@@ -42,15 +42,15 @@ front_then a b c x y h k = (
       (Appends-trans a b c x (take k.0 y) h k.2),
 )
 
-some_first : (a b : Option (List ℕ)) (x y : List ℕ) → Appends a b x → AppendsSome a b (x ++ y)
+pub some_first : (a b : Option (List ℕ)) (x y : List ℕ) → Appends a b x → AppendsSome a b (x ++ y)
 some_first a b x y h = (length x, rw (take-append_seam x y) h)
 
 -- where something is left, it isn't all
-part_first : (a b : Option (List ℕ)) (x y : List ℕ) → 0 < length y → Appends a b x → AppendsFront a b (x ++ y)
+pub part_first : (a b : Option (List ℕ)) (x y : List ℕ) → 0 < length y → Appends a b x → AppendsFront a b (x ++ y)
 part_first a b x y more h = (length x, omega (arith, length-append x y, more), rw (take-append_seam x y) h)
 
 -- a question to the desk takes no memory
-until_some : (fault : DeskFault) (a b : Option (List ℕ)) (text : List ℕ) → (fault ≡ NoMemory → ⊥) → AppendsSome a b text → AppendsUntil fault a b text
+pub until_some : (fault : DeskFault) (a b : Option (List ℕ)) (text : List ℕ) → (fault ≡ NoMemory → ⊥) → AppendsSome a b text → AppendsUntil fault a b text
 until_some NoMemory a b text other some = absurd (other refl)
 until_some StoreFailed a b text other some = some
 until_some Stopped a b text other some = some
@@ -69,7 +69,6 @@ pub record Source (X Y : Type 0) : Type 0 where
   pub answers_none : (s : Operator) → answers s None ≡ None
   pub answers_some : (s : Operator) (x : X) → answers s (Some x) ≡ Some (shows s x)
   pub numbered : (s : Operator) → IsSound s → IsNumbered number 1 (held s)
-  pub few : (s : Operator) → IsSound s → length (held s) ≤ 100000000
   -- no line is empty
   pub headed : 0 < length header
   pub lined : (x : X) → passes x ≡ true → 0 < length (line x)
@@ -241,6 +240,15 @@ module _ {S X Y : Type 0} (g : Ghosts S) (t : Source X Y) where
         };
   }
 
+  -- how many rows are written isn't told
+  pub walk_uncounted : {next : Option Y} {count : ℕ} {d e : DeskValue S} {a b : Option (List ℕ)} → Walks next count d e a b → Walks next 0 d e a b
+  walk_uncounted w = record {
+    stays = w.stays;
+    ahead = λ clean s at.
+        let it = w.ahead clean s at in
+        record { front = it.front; rest = it.rest; split = it.split; first = it.first; many = omega arith; wrote = it.wrote };
+  }
+
   -- ---- ends
 
   -- a desk that answered wasn't stopped
@@ -269,13 +277,14 @@ module _ {S X Y : Type 0} (g : Ghosts S) (t : Source X Y) where
 
   -- what never comes: there are fewer rows than turns
   pub walk_runs_out : {A : Type 0} {count : ℕ} {next : Option Y} {d e : DeskValue S} {a b : Option (List ℕ)}
+      → ((s : Operator) → IsSound s → length (t.held s) ≤ 100000000)
       → Walks next count d e a b → 100000000 < count
       → WritesTable g d e a b {A = A} (Err Write) (text t)
-  walk_runs_out w many = record {
+  walk_runs_out few w many = record {
     desk = leaves_write g w.stays;
     wrote = λ clean s at.
         let it = w.ahead clean s at in
-        absurd (omega (arith, many, it.many, length-append it.front it.rest, ap length it.split, t.few s (sound_of _ s at)));
+        absurd (omega (arith, many, it.many, length-append it.front it.rest, ap length it.split, few s (sound_of _ s at)));
     nothing = not_stopped w.stays;
     day = tt;
   }
