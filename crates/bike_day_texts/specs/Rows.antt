@@ -6,8 +6,9 @@ use Rattle.bike_fixed.specs.Text.{cents_text, moment_text}
 use Rattle.bike_ledger.specs.declared.entry.EntryKind.{EntryKind}
 use Rattle.bike_ledger.specs.declared.entry.EntryKind.TheVariants.{TopUp, Fare, Refund, Withdrawal, Charge, Credit}
 use Rattle.bike_ledger.specs.Entries.{Entry}
+use Rattle.bike_operator.specs.Requests.{RequestTexts}
 use Rattle.bike_day_texts.specs.declared.table.DayTable.{DayTable}
-use Rattle.bike_day_texts.specs.declared.table.DayTable.TheVariants.{Entries, Rentals}
+use Rattle.bike_day_texts.specs.declared.table.DayTable.TheVariants.{Entries, Rentals, Requests}
 
 -- fields as one line of comma-separated values, which ends in a line feed
 unfoldable pub line_of : List (List ℕ) → List ℕ
@@ -18,6 +19,8 @@ columns_of Entries = codes "number" ∷ codes "kind" ∷ codes "rider" ∷ codes
 columns_of Rentals =
     codes "number" ∷ codes "rider" ∷ codes "bike" ∷ codes "plan" ∷ codes "from" ∷ codes "start" ∷ codes "to"
     ∷ codes "end" ∷ codes "fare" ∷ []
+columns_of Requests =
+    codes "number" ∷ codes "moment" ∷ codes "caller" ∷ codes "key" ∷ codes "command" ∷ codes "reply" ∷ []
 
 abbrev pub header_line : DayTable → List ℕ
 header_line table = line_of (columns_of table)
@@ -68,6 +71,14 @@ ended_fields r =
 
 abbrev pub ended_line : EndedRow → List ℕ
 ended_line r = line_of (ended_fields r)
+
+-- ---- accepted requests
+
+abbrev pub request_fields : RequestTexts → List (List ℕ)
+request_fields x = decimal x.number ∷ moment_text x.moment ∷ x.caller ∷ x.key ∷ x.command ∷ x.reply ∷ []
+
+abbrev pub request_line : RequestTexts → List ℕ
+request_line x = line_of (request_fields x)
 
 -- ---- whole tables
 

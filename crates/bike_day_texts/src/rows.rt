@@ -1,7 +1,7 @@
 //! The header and the rows of a day's tables.
 
 ghost use Rattle.std.specs.Prelude.{◌≡◌};
-ghost use Rattle.bike_day_texts.specs.Rows.{header_line, kind_name, stop_text, entry_line, ended_line};
+ghost use Rattle.bike_day_texts.specs.Rows.{header_line, kind_name, stop_text, entry_line, ended_line, request_line};
 ghost use Rattle.bike_day_texts.specs.Ended.{info_row};
 ghost use Rattle.bike_day_texts.specs.Writing.{WritesLine};
 
@@ -10,7 +10,7 @@ use crate::line::write_line;
 use crate::table::DayTable;
 use bike_fields::{Ident, RentalNumber};
 use bike_ledger::{Entry, EntryKind};
-use bike_operator::{ClosingInfo, RentalInfo};
+use bike_operator::{ClosingInfo, RentalInfo, RequestInfo};
 use itoa::Buffer;
 use std::alloc::Global;
 use std::io::Write;
@@ -45,6 +45,18 @@ pub fn write_header<W: Write>(alloc: Global, table: DayTable, out: &mut W) -> Re
                 "to".as_bytes(),
                 "end".as_bytes(),
                 "fare".as_bytes(),
+            ],
+            out,
+        ),
+        DayTable::Requests => write_line(
+            alloc,
+            &[
+                "number".as_bytes(),
+                "moment".as_bytes(),
+                "caller".as_bytes(),
+                "key".as_bytes(),
+                "command".as_bytes(),
+                "reply".as_bytes(),
             ],
             out,
         ),
@@ -123,6 +135,27 @@ pub fn write_ended<W: Write>(
         stop_of(&closing.to_station).as_bytes(),
         finish.as_str().as_bytes(),
         fare.as_str().as_bytes(),
+    ];
+    write_line(alloc, &fields, out)
+}
+
+/// Writes an accepted request's row as one line. Faults come as those of `write_header` do.
+pub fn write_request<W: Write>(
+    alloc: Global,
+    request: &RequestInfo,
+    out: &mut W,
+) -> Result<(), LineFault>
+    ensures { WritesLine (W.contents out.old) (W.contents out.new) (request_line request.now) result }
+{
+    let mut number = Buffer::new();
+    let moment = request.moment.text();
+    let fields = [
+        number.format(request.number).as_bytes(),
+        moment.as_str().as_bytes(),
+        request.caller.as_bytes(),
+        request.key.as_bytes(),
+        request.command.as_bytes(),
+        request.reply.as_bytes(),
     ];
     write_line(alloc, &fields, out)
 }

@@ -10,6 +10,8 @@ pub enum DayTable {
     Entries,
     /// The rentals that ended.
     Rentals,
+    /// The accepted requests.
+    Requests,
 }
 
 impl DayTable {
@@ -20,6 +22,7 @@ impl DayTable {
         match self {
             DayTable::Entries => "entries",
             DayTable::Rentals => "rentals",
+            DayTable::Requests => "requests",
         }
     }
 
@@ -31,6 +34,7 @@ impl DayTable {
         match text {
             "entries" => Some(DayTable::Entries),
             "rentals" => Some(DayTable::Rentals),
+            "requests" => Some(DayTable::Requests),
             _ => None,
         }
     }
