@@ -1,6 +1,7 @@
 //! The tasks of the program's words over a database: it is taken into service, and then request lines are served, a
-//! feed, a day's table or the history is written, or an import is taken in; or it is raised to the newest version. `run_lines` of
-//! `bike_batch` is passed on as a part of this surface, and of `bike_console` what a program ends and shows by.
+//! feed, a day's table or the history is written, or an import is taken in; or it is raised to the newest version.
+//! `run_lines` of `bike_batch` is passed on as a part of this surface, and of `bike_console` what a program ends and
+//! shows by.
 #![tactic(auto)]
 
 mod bounds;

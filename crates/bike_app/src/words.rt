@@ -82,9 +82,10 @@ fn look_over<S: Alter, W: Write, P: Watch>(
 /// the line `ready`, `Raise` raises it to the newest version, as `raise_up` does, `Lines` serves the input, as `serve`
 /// does, and `Import` takes the input's stations in, as `import_from`. `Check` looks at it and tells by the line
 /// `sound` that it may be served, `Feed` writes a feed, as `publish` does, `Day` a table, as `report_day`, and
-/// `History` the history, as `report_history`: these four change nothing, and make no tables. Only `Lines` and `Import` read the input. Where a feed or an import is
-/// asked for at no moment, it is the clock's. Gives the connection back with the number of lines or rows served, or
-/// with the fault at which that ended. `watch` is told how far `Init`, `Check` and `Raise` are.
+/// `History` the history, as `report_history`: these four change nothing, and make no tables. Only `Lines` and `Import`
+/// read the input. Where a feed or an import is asked for at no moment, it is the clock's. Gives the connection back
+/// with the number of lines or rows served, or with the fault at which that ended. `watch` is told how far `Init`,
+/// `Check` and `Raise` are.
 ///
 /// However `Raise` ends, a database that stood for an operator at some version stands after a crash for that operator,
 /// at that version or at the newest.

@@ -12,7 +12,7 @@ use Rattle.bike_fixed.specs.Whole.{last_moment, number_of}
 use Rattle.bike_fields.specs.Bytes.{ident_of, is_ident}
 use Rattle.bike_day_texts.specs.Tables.{table_name, table_of}
 use Rattle.bike_day_texts.specs.declared.table.DayTable.{DayTable}
-use Rattle.bike_day_texts.specs.declared.table.DayTable.TheVariants.{Entries, Rentals}
+use Rattle.bike_day_texts.specs.declared.table.DayTable.TheVariants.{Entries, Rentals, Requests}
 use Rattle.bike_feed_texts.specs.Feeds.{feed_name, feed_of}
 use Rattle.bike_feed_texts.specs.declared.feed.Feed.{Feed as AnyFeed}
 use Rattle.bike_feed_texts.specs.declared.feed.Feed.TheVariants as feeds
@@ -54,6 +54,7 @@ table_named : (table : DayTable) → table_of (table_name table) ≡ Some table
 unfolding table_of
 table_named Entries = refl
 table_named Rentals = refl
+table_named Requests = refl
 
 ident_named : (name : Text) → is_ident name ≡ true → ident_of name ≡ Some name
 unfolding ident_of

@@ -8,7 +8,8 @@ use Rattle.bike_fields.specs.Bytes.{ident_of, is_ident, kept_if}
 use Rattle.bike_day_texts.specs.declared.table.DayTable.{DayTable}
 use Rattle.bike_feed_texts.specs.declared.feed.Feed.{Feed as AnyFeed}
 use Rattle.bike_command_line.specs.Program.{IsWithin}
-use Rattle.bike_command_line.specs.Asked.{Found, after_given, after_in, count_in, day_task, feed_in, feed_task, history_task, import_in, import_task, moment_in, name_in, number_given, port_in, serve_task}
+use Rattle.bike_command_line.specs.Asked.{Found, after_given, after_in, count_in, day_task, feed_in, feed_task, history_task, import_in, import_task, moment_in}
+use Rattle.bike_command_line.specs.Asked.{name_in, number_given, port_in, serve_task}
 use Rattle.bike_command_line.specs.Asked.{Wanted, Feed, Day, History, Import, Serve, table_in, task_in, task_of, value_in, want_of}
 use Rattle.bike_command_line.specs.declared.task.Task.{Task}
 use Rattle.bike_command_line.specs.declared.task.Task.TheVariants as task

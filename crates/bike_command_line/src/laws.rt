@@ -12,10 +12,10 @@ use bike_day_texts::DayTable;
 use bike_feed_texts::Feed;
 
 /// What some words ask for: a word alone, a second FILE, a flag, another word and a wish for help ask for nothing, and
-/// so do a NAME that is no feed or no identifier, a WHICH that is no table, no ZONE, a number out of its bounds or with
-/// a sign, no port, a second value and another word's option. Any DATE and any ZONE are taken, behind `--` also one
-/// that begins with a hyphen. A FILE that begins with a hyphen stands behind `--`, and an option may stand before the
-/// FILE. The numbers of what is asked lie within their bounds.
+/// so do a NAME that is no feed or no identifier, a WHICH that is no table, no ZONE, a number out of its bounds, with a
+/// leading zero or with a sign, no port, a second value and another word's option. Any DATE and any ZONE are taken,
+/// behind `--` also one that begins with a hyphen. A FILE that begins with a hyphen stands behind `--`, and an option
+/// may stand before the FILE. The numbers of what is asked lie within their bounds.
 pub fn word_laws()
     // Each task that is spelled as usual is read, and what is read lies within its bounds.
     ensures file { (task : Task) (file : Text) → starts_with_minus file ≡ false → IsWithin task
