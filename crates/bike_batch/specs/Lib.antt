@@ -11,3 +11,6 @@ pub mod DayLines
 pub mod Days
 pub mod Ends
 pub mod Walking
+pub mod HistoryFaults
+pub mod Again
+pub mod HistoryEnds

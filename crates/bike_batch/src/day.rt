@@ -6,7 +6,7 @@ ghost use Rattle.bike_desk.specs.Desk.{OfOperator};
 ghost use Rattle.bike_batch.specs.Ends.{EndsByDay, WritesDay, LeavesDesk};
 
 use crate::day_fault::DayTableFault;
-use crate::day_tables::{write_entries, write_rentals};
+use crate::day_tables::{write_entries, write_rentals, write_requests};
 use bike_day_texts::DayTable;
 use bike_desk::Desk;
 use bike_fixed::day_bounds;
@@ -17,12 +17,12 @@ use std::io::Write;
 /// Writes a day's table of the operator for which the desk stands: its header, and the rows that lie in the day, by
 /// number.
 ///
-/// An entry lies in the day where it was booked, a rental in that where it ended; `day_bounds` tells the day of a date
-/// (`YYYY-MM-DD`) and a zone (POSIX's `TZ`). `Day` comes exactly where that refuses them, before the desk is asked, and
-/// then nothing is written. After `Write` a front of the table is written, and not all; so it is after `NoMemory`,
-/// which is that of a line; after another fault of the desk a front, or all. What is kept never changes. `NoMemory` and
-/// `Write` leave the desk as it was, `StoreFailed` stops it, and a stopped desk answers `Stopped`, stays as it is and
-/// writes nothing.
+/// An entry lies in the day where it was booked, a rental in that where it ended, a request in that of the operator's
+/// moment after it; `day_bounds` tells the day of a date (`YYYY-MM-DD`) and a zone (POSIX's `TZ`). `Day` comes exactly
+/// where that refuses them, before the desk is asked, and then nothing is written. After `Write` a front of the table
+/// is written, and not all; so it is after `NoMemory`, which is that of a line; after another fault of the desk a
+/// front, or all. What is kept never changes. `NoMemory` and `Write` leave the desk as it was, `StoreFailed` stops it,
+/// and a stopped desk answers `Stopped`, stays as it is and writes nothing.
 pub fn day_csv<S: Alter, W: Write>(
     alloc: Global,
     desk: &mut Desk<S>,
@@ -41,5 +41,6 @@ pub fn day_csv<S: Alter, W: Write>(
     match table {
         DayTable::Entries => write_entries(alloc, desk, begin, until, out),
         DayTable::Rentals => write_rentals(alloc, desk, begin, until, out),
+        DayTable::Requests => write_requests(alloc, desk, begin, until, out),
     }
 }

@@ -1,20 +1,23 @@
 //! The tables of a span of time, each row read from the desk as it is written.
 
-ghost use Rattle.std.specs.Prelude.{◌≡◌, Some};
+ghost use Rattle.std.specs.Prelude.{◌≡◌, ◌≢◌, ◌<◌, Err, IfOk, IfSome, Some, option_map};
 ghost use Rattle.bike_day_texts.specs.Ended.{info_row};
 ghost use Rattle.bike_day_texts.specs.Rows.{ended_line};
 ghost use Rattle.bike_day_texts.specs.Writing.{WritesLine};
-ghost use Rattle.bike_day_texts.specs.declared.table.DayTable.TheVariants.{Entries, Rentals};
+ghost use Rattle.bike_day_texts.specs.declared.table.DayTable.TheVariants.{Entries, Rentals, Requests};
 ghost use Rattle.bike_operator.specs.declared.rental_info.ClosingInfo.{ClosingInfo};
+ghost use Rattle.bike_operator.specs.Requests.{request_texts};
+ghost use Rattle.bike_queries.specs.Requests.{request_after};
+ghost use Rattle.bike_desk.specs.Queries.{Queries};
 ghost use Rattle.bike_batch.specs.Days.{span_text};
 ghost use Rattle.bike_batch.specs.Walking.{WritesTable};
 
 use crate::day_fault::DayTableFault;
-use bike_day_texts::{DayTable, LineFault, write_ended, write_entry, write_header};
-use bike_desk::Desk;
+use bike_day_texts::{DayTable, LineFault, write_ended, write_entry, write_header, write_request};
+use bike_desk::{Desk, DeskFault};
 use bike_fields::RentalNumber;
 use bike_fixed::Moment;
-use bike_operator::RentalInfo;
+use bike_operator::{RentalInfo, RequestInfo};
 use sqlite::Alter;
 use std::alloc::Global;
 use std::io::Write;
@@ -83,4 +86,47 @@ pub(crate) fn write_rentals<S: Alter, W: Write>(
     }
     // No table is that long.
     Err(DayTableFault::Write)
+}
+
+/// The next request of a span, whose number is later than this one.
+fn next_request<S: Alter>(
+    alloc: Global,
+    desk: &mut Desk<S>,
+    number: u64,
+    begin: Moment,
+    until: Moment,
+) -> Result<Option<RequestInfo>, DeskFault>
+    ensures query { Queries S.Store desk.old desk.new result
+        (λ s x. x ≡ option_map request_texts (request_after s number begin until)) }
+    ensures takes_none { result ≢ Err DeskFault.NoMemory }
+    ensures later { IfOk result (λ x. IfSome x (λ request. number < request.number)) }
+{
+    match desk.request_after(alloc, number, begin, until)? {
+        Some(request) if request.number > number => Ok(Some(request)),
+        _ => Ok(None),
+    }
+}
+
+/// Writes the table of the accepted requests of a span.
+pub(crate) fn write_requests<S: Alter, W: Write>(
+    alloc: Global,
+    desk: &mut Desk<S>,
+    begin: Moment,
+    until: Moment,
+    out: &mut W,
+) -> Result<(), DayTableFault>
+    ensures { WritesTable S.Store desk.old desk.new (W.contents out.old) (W.contents out.new) result
+        (λ s. span_text s Requests begin until) }
+{
+    let mut number = 0;
+    let mut next = next_request(alloc, desk, number, begin, until)?;
+    write_header(alloc, DayTable::Requests, out)?;
+    'requests: loop {
+        let Some(request) = next else {
+            return Ok(());
+        };
+        write_request(alloc, &request, out)?;
+        number = request.number;
+        next = next_request(alloc, desk, number, begin, until)?;
+    }
 }
