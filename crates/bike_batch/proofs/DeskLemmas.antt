@@ -48,6 +48,22 @@ module _ {S : Type 0} (g : Ghosts S) where
     goes_on = q.goes_on;
   }
 
+  -- an answer that says the same of the operator
+  pub asked_as : {A : Type 0} {says : Operator → A → Type 0} {d e : DeskValue S} (x y : A) → ((s : Operator) → says s x → says s y)
+      → Queries g d e (Ok x) says
+      → Queries g d e (Ok y) says
+  asked_as x y as q = record {
+    clean = q.clean;
+    ok = λ clean s at. let it = q.ok clean s at in (as s it.0, it.1);
+    rests = q.rests;
+    goes_on = q.goes_on;
+    left = q.left;
+    no_memory = λ is. absurd cc;
+    stops = λ is. absurd cc;
+    stopped = λ is. absurd cc;
+    stays = λ is_stopped. let it = (q.stays is_stopped).0 in absurd cc;
+  }
+
   pub stays_then : {d e f : DeskValue S} → StaysAt g d e → StaysAt g e f → StaysAt g d f
   stays_then {d} {e} {f} p q = record {
     clean = omega (arith, p.clean, q.clean);

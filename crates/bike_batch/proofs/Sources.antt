@@ -1,31 +1,35 @@
--- The two tables of a span, as what is walked.
-use Rattle.std.proofs.Common.{◌≡◌, ℕ, suc, ◌+◌, ◌<◌, ◌≤◌, if◌then◌else◌, length-append, List, [], ◌∷◌, ◌++◌, length, Bool, true, false, cond, Option, Some, None, Result, refl, sym, ap, ◌∙◌, subst}
+-- The three tables of a span, as what is walked.
+use Rattle.std.proofs.Common.{◌≡◌, ℕ, suc, ◌+◌, ◌<◌, ◌≤◌, if◌then◌else◌, length-append, ◌&&◌, List, [], ◌∷◌, ◌++◌, length, Bool, true, false, cond, Option, Some, None, Result, refl, sym, ap, ◌∙◌, subst}
 use Rattle.std.proofs.Common.{arith}
-use Rattle.std.specs.Prelude.{option_map}
+use Rattle.std.specs.Prelude.{nat_lt, map, option_map}
 use Rattle.std.specs.List.{filter, filter_map, cons_option, flat_map}
+use Rattle.std.proofs.lemmas.List.Folds.{flat_map-map}
+use Rattle.std.proofs.lemmas.Bool.{and_parts, ltb-true}
 use Rattle.sqlite_trees.specs.declared.store.Store.{Ghosts}
 use Rattle.bike_ledger.specs.Entries.{Entry}
 use Rattle.bike_ledger.specs.Ledger.{refunded_of}
 use Rattle.bike_operator.specs.declared.records.Rental.{Rental}
 use Rattle.bike_operator.specs.declared.records.Closing.{Closing}
-use Rattle.bike_operator.specs.Operator.{Operator, item_at}
+use Rattle.bike_operator.specs.Operator.{Operator, AcceptedRequest, item_at}
+use Rattle.bike_operator.specs.Requests.{RequestTexts, request_texts}
 use Rattle.bike_operator.specs.Sound.{IsSound}
 use Rattle.bike_book.specs.Stored.{numbers_from, with_numbers}
 use Rattle.bike_operator.specs.declared.rental_info.ClosingInfo.{ClosingInfo}
 use Rattle.bike_operator.specs.declared.rental_info.RentalInfo.{RentalInfo}
 use Rattle.bike_queries.specs.Infos.{closing_info, rental_info}
 use Rattle.bike_queries.specs.Spans.{ended_info, lies_in, ends_in}
+use Rattle.bike_queries.specs.Requests.{request_after}
 use Rattle.bike_day_texts.specs.declared.fault.LineFault.{LineFault}
-use Rattle.bike_day_texts.specs.declared.table.DayTable.TheVariants.{Entries, Rentals}
+use Rattle.bike_day_texts.specs.declared.table.DayTable.TheVariants.{Entries, Rentals, Requests}
 use Rattle.csv.specs.Writing.{default_writer, row_body, is_blank, end_text}
 use Rattle.bike_day_texts.specs.Ended.{info_row}
-use Rattle.bike_day_texts.specs.Rows.{EndedRow, line_of, columns_of, header_line, entry_fields, entry_line, ended_fields, ended_line}
+use Rattle.bike_day_texts.specs.Rows.{EndedRow, line_of, columns_of, header_line, entry_fields, entry_line, ended_fields, ended_line, request_fields, request_line}
 use Rattle.bike_day_texts.specs.Writing.{WritesLine}
 use Rattle.bike_desk.specs.Desk.{DeskValue}
 use Rattle.bike_batch.specs.declared.day_fault.DayTableFault.{DayTableFault}
 use Rattle.bike_batch.specs.Walking.{WritesTable}
 use Rattle.bike_batch.specs.Days.{ended_row, ended_in, span_text}
-use Rattle.bike_batch.proofs.Lists.{IsNumbered}
+use Rattle.bike_batch.proofs.Lists.{IsNumbered, find_first}
 use Rattle.bike_batch.proofs.WalkLemmas.{Source, AsksLine, text, table_as}
 
 -- a line ends in a line feed
@@ -64,7 +68,6 @@ entries begin until = record {
   answers_none = λ s. refl;
   answers_some = λ s e. refl;
   numbered = numbered_entries;
-  few = few_entries;
   headed = lines_end (columns_of Entries);
   lined = λ e passes. lines_end (entry_fields e);
 }
@@ -108,7 +111,6 @@ rentals begin until = record {
   answers_none = λ s. refl;
   answers_some = λ s e. refl;
   numbered = λ s sound. numbered_from 1 s.rentals;
-  few = few_rentals;
   headed = lines_end (columns_of Rentals);
   lined = λ e passes. closed_lines begin until e.0 e.1 e.1.closing passes;
 }
@@ -167,3 +169,48 @@ module _ (begin until : ℕ) where
   pub rentals_told : {S A : Type 0} (g : Ghosts S) {d e : DeskValue S} {a b : Option (List ℕ)} {result : Result A DayTableFault}
       → WritesTable g d e a b result (text (rentals begin until)) → WritesTable g d e a b result (λ s. span_text s Rentals begin until)
   rentals_told g w = table_as g (text (rentals begin until)) (λ s. span_text s Rentals begin until) rentals_text w
+
+-- ---- accepted requests
+
+abbrev pub requests : ℕ → ℕ → Source (ℕ × AcceptedRequest) RequestTexts
+requests begin until = record {
+  header = header_line Requests;
+  number = λ e. e.0;
+  passes = λ e. lies_in begin until e.1.moment;
+  line = λ e. request_line (request_texts e);
+  held = λ s. with_numbers s.history;
+  shows = λ s e. request_texts e;
+  answers = λ s found. option_map request_texts found;
+  answers_none = λ s. refl;
+  answers_some = λ s e. refl;
+  numbered = λ s sound. numbered_from 1 s.history;
+  headed = lines_end (columns_of Requests);
+  lined = λ e passes. lines_end (request_fields (request_texts e));
+}
+
+pub request_asks : (begin until : ℕ) (y : RequestTexts) (b c : Option (List ℕ)) (result : Result (Unit {0}) LineFault)
+    → WritesLine b c (request_line y) result
+    → AsksLine (requests begin until) y b c result
+request_asks begin until y b c result wrote s x passes same = subst (λ (z : RequestTexts). WritesLine b c (request_line z) result) same wrote
+
+module _ (begin until : ℕ) where
+  -- a request that was found has a later number than the one that was told
+  pub found_later : (s : Operator) (number : ℕ) (y : RequestTexts) → Some y ≡ option_map request_texts (request_after s number begin until)
+      → number < y.number
+  found_later s number y is = go (request_after s number begin until) refl is where
+    go : (o : Option (ℕ × AcceptedRequest)) → request_after s number begin until ≡ o → Some y ≡ option_map request_texts o → number < y.number
+    go None found same = absurd cc
+    go (Some e) found same =
+        let first = find_first (λ (x : ℕ × AcceptedRequest). nat_lt number x.0 && lies_in begin until x.1.moment) e (with_numbers s.history) found in
+        let later = ltb-true number e.0 (and_parts (nat_lt number e.0) (lies_in begin until e.1.moment) first.passes).0 in
+        let shown : y ≡ request_texts e = cc in
+        omega (arith, later, ap (λ (x : RequestTexts). x.number) shown)
+
+  pub requests_text : (s : Operator) → text (requests begin until) s ≡ span_text s Requests begin until
+  requests_text s =
+      ap (λ (bytes : List ℕ). header_line Requests ++ bytes)
+      (sym (flat_map-map request_line request_texts (filter (λ e. lies_in begin until e.1.moment) (with_numbers s.history))))
+
+  pub requests_told : {S A : Type 0} (g : Ghosts S) {d e : DeskValue S} {a b : Option (List ℕ)} {result : Result A DayTableFault}
+      → WritesTable g d e a b result (text (requests begin until)) → WritesTable g d e a b result (λ s. span_text s Requests begin until)
+  requests_told g w = table_as g (text (requests begin until)) (λ s. span_text s Requests begin until) requests_text w

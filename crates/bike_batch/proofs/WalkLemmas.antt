@@ -69,7 +69,6 @@ pub record Source (X Y : Type 0) : Type 0 where
   pub answers_none : (s : Operator) → answers s None ≡ None
   pub answers_some : (s : Operator) (x : X) → answers s (Some x) ≡ Some (shows s x)
   pub numbered : (s : Operator) → IsSound s → IsNumbered number 1 (held s)
-  pub few : (s : Operator) → IsSound s → length (held s) ≤ 100000000
   -- no line is empty
   pub headed : 0 < length header
   pub lined : (x : X) → passes x ≡ true → 0 < length (line x)
@@ -241,6 +240,15 @@ module _ {S X Y : Type 0} (g : Ghosts S) (t : Source X Y) where
         };
   }
 
+  -- how many rows are written isn't told
+  pub walk_uncounted : {next : Option Y} {count : ℕ} {d e : DeskValue S} {a b : Option (List ℕ)} → Walks next count d e a b → Walks next 0 d e a b
+  walk_uncounted w = record {
+    stays = w.stays;
+    ahead = λ clean s at.
+        let it = w.ahead clean s at in
+        record { front = it.front; rest = it.rest; split = it.split; first = it.first; many = omega arith; wrote = it.wrote };
+  }
+
   -- ---- ends
 
   -- a desk that answered wasn't stopped
@@ -269,13 +277,14 @@ module _ {S X Y : Type 0} (g : Ghosts S) (t : Source X Y) where
 
   -- what never comes: there are fewer rows than turns
   pub walk_runs_out : {A : Type 0} {count : ℕ} {next : Option Y} {d e : DeskValue S} {a b : Option (List ℕ)}
+      → ((s : Operator) → IsSound s → length (t.held s) ≤ 100000000)
       → Walks next count d e a b → 100000000 < count
       → WritesTable g d e a b {A = A} (Err Write) (text t)
-  walk_runs_out w many = record {
+  walk_runs_out few w many = record {
     desk = leaves_write g w.stays;
     wrote = λ clean s at.
         let it = w.ahead clean s at in
-        absurd (omega (arith, many, it.many, length-append it.front it.rest, ap length it.split, t.few s (sound_of _ s at)));
+        absurd (omega (arith, many, it.many, length-append it.front it.rest, ap length it.split, few s (sound_of _ s at)));
     nothing = not_stopped w.stays;
     day = tt;
   }

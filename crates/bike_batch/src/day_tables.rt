@@ -101,10 +101,14 @@ fn next_request<S: Alter>(
     ensures takes_none { result ≢ Err DeskFault.NoMemory }
     ensures later { IfOk result (λ x. IfSome x (λ request. number < request.number)) }
 {
-    match desk.request_after(alloc, number, begin, until)? {
-        Some(request) if request.number > number => Ok(Some(request)),
-        _ => Ok(None),
+    let Some(request) = desk.request_after(alloc, number, begin, until)? else {
+        return Ok(None);
+    };
+    if request.number > number {
+        return Ok(Some(request));
     }
+    // No desk answers so; by this test it is plain that a walk ends.
+    Ok(None)
 }
 
 /// Writes the table of the accepted requests of a span.

@@ -1,6 +1,6 @@
 -- What is found and read of the history behind a number. No number of a row is greater than the greatest: so a request that was read is behind a number
 -- just where it is behind the lesser of that and the greatest, and where none is behind the greatest, none is behind a greater number.
-use Rattle.std.proofs.Common.{◌≡◌, ◌<◌, ◌≤◌, inl, inr, ℕ, ℤ, pos, List, [], ◌∷◌, map, filter, find, take, slice_get, min, nat_le, ◌&&◌, Bool, true, false, cond, Option, Some, None}
+use Rattle.std.proofs.Common.{◌≡◌, ◌<◌, ◌≤◌, inl, inr, ℕ, List, [], ◌∷◌, map, filter, find, take, slice_get, min, nat_le, ◌&&◌, Bool, true, false, cond, Option, Some, None}
 use Rattle.std.proofs.Common.{Result, Ok, refl, sym, ap, ap₂, subst, ◌∙◌, arith}
 use Rattle.std.specs.Prelude.{nat_lt, option_map}
 use Rattle.std.specs.List.{AllZip}
@@ -171,16 +171,14 @@ all_read (e ∷ es) (x ∷ xs) read =
     within first later f (inr has) = later f has
 
 -- THE PAGE
-pub page_read : (s : Operator) (number : ℕ) (start : ℤ) → start ≡ pos (min number most_requests) → (xs : List RequestRow)
-    → AllZip ReadsRow (take 64 (filter (is_behind start) (map stored_request (with_numbers s.history)))) xs → map (λ (x : RequestRow). x.request) xs ≡ request_page s number
-page_read s number start is xs read =
+pub page_read : (s : Operator) (number : ℕ) (xs : List RequestRow) → AllZip ReadsRow (take 64 (filter (is_behind (min number most_requests)) (map stored_request (with_numbers s.history)))) xs
+    → map (λ (x : RequestRow). x.request) xs ≡ request_page s number
+page_read s number xs read =
     let all = with_numbers s.history in
     let least = min number most_requests in
     let few = take 64 (filter (λ (e : ℕ × AcceptedRequest). nat_lt least e.0) all) in
-    let rows : take 64 (filter (is_behind start) (map stored_request all)) ≡ map stored_request few =
-    ap (λ (n : ℤ). take 64 (filter (is_behind n) (map stored_request all))) is
-    ∙ ap (take 64) (passing_rows stored_request (is_behind (pos least)) (λ e. nat_lt least e.0) all (λ e. behind_number least e.0))
-    ∙ take-map stored_request 64 _ in
+    let rows : take 64 (filter (is_behind least) (map stored_request all)) ≡ map stored_request few =
+    ap (take 64) (passing_rows stored_request (is_behind least) (λ e. nat_lt least e.0) all (λ e. behind_number least e.0)) ∙ take-map stored_request 64 _ in
     let it = all_read few xs (subst (λ (rs : List Row). AllZip ReadsRow rs xs) rows read) in
     it.0 ∙ ap (map request_texts) (first_behind number most_requests all it.1)
 

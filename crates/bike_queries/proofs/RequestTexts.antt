@@ -1,5 +1,5 @@
 -- The statement of a page of the history.
-use Rattle.std.proofs.Common.{ℤ, List, [], ◌∷◌, codes, filter, take, pos, refl, ap, subst, ◌∙◌}
+use Rattle.std.proofs.Common.{ℕ, List, [], ◌∷◌, codes, filter, take, pos, refl, ap, subst, ◌∙◌}
 use Rattle.sqlite_value.specs.declared.value.Value.TheVariants.{Int}
 use Rattle.sqlite_value.specs.declared.keys.Collation.TheVariants.{Binary}
 use Rattle.sqlite_value.specs.Order.{column}
@@ -11,6 +11,7 @@ use Rattle.bike_sql.specs.Answer.{HasOneAnswer}
 use Rattle.bike_sql.proofs.PageLaw.{map_same_list}
 use Rattle.bike_sql.proofs.SelectLaws.{every_column, rows_passing}
 use Rattle.bike_book.specs.Tables.{History}
+use Rattle.bike_book.specs.Rows.{number_value}
 use Rattle.bike_schema.specs.Layouts.{layout_of}
 use Rattle.bike_schema.proofs.KeyLemmas.{table_key}
 use Rattle.bike_schema.proofs.ListedLemmas.{ListsIn}
@@ -22,12 +23,12 @@ use Rattle.bike_queries.proofs.SpanLaw.{over_test}
 abbrev behind_tests : List Term
 behind_tests = op2 (Compare Gt Binary) (col 1 0) (col 0 0) ∷ []
 
-pub lists_requests_behind : (number : ℤ) → ListsIn (codes "SELECT * FROM history WHERE number > ?1 ORDER BY number LIMIT 64") (Int number ∷ [])
+pub lists_requests_behind : (number : ℕ) → ListsIn (codes "SELECT * FROM history WHERE number > ?1 ORDER BY number LIMIT 64") (number_value number ∷ [])
     (λ t. take 64 (filter (is_behind number) t.history))
 unfolding everything
 lists_requests_behind number = record {
-  lists = λ db has. subst (HasOneAnswer db _ (Int number ∷ [])) (ap (take 64) (map_same_list _))
-      (rows_passing (table_key History) (has History) (every_column (layout_of History)) (λ row. row) (shows_every History (Int number ∷ [])) behind_tests (lit (Int (pos 64)))
+  lists = λ db has. subst (HasOneAnswer db _ (number_value number ∷ [])) (ap (take 64) (map_same_list _))
+      (rows_passing (table_key History) (has History) (every_column (layout_of History)) (λ row. row) (shows_every History (number_value number ∷ [])) behind_tests (lit (Int (pos 64)))
       (is_behind number) (λ tree. refl, refl)
-      (λ r. and_true _ ∙ over_test (column r 0) number));
+      (λ r. and_true _ ∙ over_test (column r 0) (pos number)));
 }

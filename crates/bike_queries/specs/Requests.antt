@@ -1,12 +1,11 @@
 -- The history by number: what is behind a number, page by page, and what of it lies in a span of time.
-use Rattle.std.specs.Prelude.{◌≡◌, ◌≤◌, ◌&&◌, ℕ, ℤ, Bool, List, map, filter, find, take, nat_lt, Option}
+use Rattle.std.specs.Prelude.{◌≡◌, ◌≤◌, ◌&&◌, ℕ, Bool, List, map, filter, find, take, nat_lt, Option}
 use Rattle.std.specs.Ordering.{is_gt}
-use Rattle.sqlite_value.specs.declared.value.Value.TheVariants.{Int}
 use Rattle.sqlite_value.specs.Order.{Row, column, value_cmp}
 use Rattle.bike_operator.specs.Operator.{Operator, AcceptedRequest}
 use Rattle.bike_operator.specs.Requests.{RequestTexts, request_texts}
 use Rattle.bike_book.specs.Numbers.{most_requests}
-use Rattle.bike_book.specs.Rows.{history_row}
+use Rattle.bike_book.specs.Rows.{history_row, number_value}
 use Rattle.bike_book.specs.Stored.{with_numbers}
 use Rattle.bike_queries.specs.declared.requests.TheConstants.{REQUESTS_A_PAGE}
 use Rattle.bike_queries.specs.Spans.{lies_in}
@@ -27,8 +26,8 @@ request_after s number begin end =
 -- ---- rows
 
 -- the number of the row comes after this one
-abbrev pub is_behind : ℤ → Row → Bool
-is_behind number row = is_gt (value_cmp (column row 0) (Int number))
+abbrev pub is_behind : ℕ → Row → Bool
+is_behind number row = is_gt (value_cmp (column row 0) (number_value number))
 
 -- the row of a request
 abbrev pub texts_row : RequestTexts → Row

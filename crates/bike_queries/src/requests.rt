@@ -71,17 +71,14 @@ fn read_request(alloc: Global, row: &Row) -> Result<RequestInfo, StatementFault>
 }
 
 /// Begins to read the requests of a later number, as many as a page holds.
-fn begin_requests<'a, S: Alter>(
-    conn: &'a mut Connection<S>,
-    start: i64,
-) -> Result<Rows<'a, S>, Error>
+fn begin_requests<S: Alter>(conn: &mut Connection<S>, number: u64) -> Result<Rows<'_, S>, Error>
     ensures* lends { sem 𝓛 (LendsWhere S.row S.Store IsOurs conn.entry result) }
-    ensures walks { WalksWhere S.Store IsOurs conn.entry result
-        (λ db. take REQUESTS_A_PAGE (filter (is_behind start) (tables_of db).history)) }
+    ensures walks { WalksWhere S.Store IsOurs conn.entry result (λ db.
+        take REQUESTS_A_PAGE (filter (is_behind (min number most_requests)) (tables_of db).history)) }
 {
     conn.query(
         "SELECT * FROM history WHERE number > ?1 ORDER BY number LIMIT 64",
-        params![start],
+        params![start_at(number)],
     )
 }
 
@@ -94,7 +91,7 @@ fn select_requests<S: Alter>(
     ensures { Answers S.Store conn.old conn.new result
         (λ s m rows. map (λ row. row.request) rows.items ≡ request_page s number) }
 {
-    let mut rows = begin_requests(conn, start_at(number))?;
+    let mut rows = begin_requests(conn, number)?;
     collect_rows(alloc, &mut rows)
 }
 

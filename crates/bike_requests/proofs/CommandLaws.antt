@@ -1,6 +1,6 @@
 -- Commands are read exactly, both ways, in a whole text.
 use Rattle.std.proofs.Common.{◌≡◌, ℕ, List, [], ◌∷◌, ◌&&◌, ◌==◌, Bool, true, false, not, cond, Option, Some, None, Result, Ok, Err, refl, sym, ap, ◌∙◌, subst, arith, codes}
-use Rattle.std.specs.Prelude.{IfSome, IfOk, IfErr, IsErr, IsErrAnd, IsSome, option_map, nat_le, int_le, length, pos, neg_ℤ, ℤ, ◌≤ℤ◌}
+use Rattle.std.specs.Prelude.{IfSome, IfOk, IfErr, IsErr, IsErrAnd, IsSome, option_map, int_le, length, pos, neg_ℤ, ℤ, ◌≤ℤ◌}
 use Rattle.std.specs.declared.alloc.AllocError.{AllocError}
 use Rattle.std.specs.List.{slice_split, join_with_byte, list_all}
 use Rattle.std.proofs.lemmas.Bool.{le-leb}
@@ -172,6 +172,20 @@ pub position_not_made : (ps : Parts) (e : Unread) (s : Result Command Unread) �
 unfolding command_by
 position_not_made =
     not_made position_kind refl (λ v. option_map (command.MoveStation v.0) (position_within (position_of_fields v.1.0 v.1.1))) (λ v g. rw (latitude_holds v.1.0 (g.1.0.0, g.1.0.1)) refl)
+
+-- the command's word and fields are those of a row
+pub record IsOfRow (c : Command) : Type 0 where
+  pub row : Row
+  pub found : row_by rows (word_of c) ≡ Some row
+  pub values : Value row.kind
+  pub word : word_of c ≡ row.word
+  pub fields : fields_of c ≡ fields_with row.kind values
+
+pub of_row : (c : Command) → IsCommand c → IsOfRow c
+of_row c good =
+    let m = is_made c in
+    let is = (row_is rows are_rows are_fit (word_of c) m.row m.found).law m.values c (m.made good) in
+    record { row = m.row; found = m.found; values = m.values; word = sym is.0; fields = is.1 }
 
 pub word_no_tab : (c : Command) → HasNoTab (word_of c)
 word_no_tab c =

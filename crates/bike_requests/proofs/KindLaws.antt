@@ -1,5 +1,5 @@
 -- Fields are read exactly: what is read is spelled by the parts, and what the parts spell is read.
-use Rattle.std.proofs.Common.{◌≡◌, ℕ, List, [], ◌∷◌, ◌++◌, ◌&&◌, Bool, true, false, not, ◌==◌, Option, Some, None, Result, Ok, Err, OnOk, refl, sym, ap, ◌∙◌, subst, arith, append_assoc, codes}
+use Rattle.std.proofs.Common.{◌≡◌, ℕ, List, [], ◌∷◌, ◌++◌, ◌&&◌, Bool, true, false, not, ◌==◌, Option, Some, Result, Ok, Err, OnOk, refl, sym, ap, ◌∙◌, subst, arith, append_assoc}
 use Rattle.std.specs.Prelude.{nat_le, ◌≤◌}
 use Rattle.std.specs.List.{list_all}
 use Rattle.std.specs.Str.{bytes_eq}
@@ -7,15 +7,13 @@ use Rattle.std.proofs.lemmas.Bool.Decides.{nat_tests}
 use Rattle.std.proofs.lemmas.List.{append-nil}
 use Rattle.std.proofs.lemmas.Option.{option_and_then_some, same_Some}
 use Rattle.bike_fields.proofs.Lengths.{both_hold}
-use Rattle.bike_fields.specs.Vehicle.{propulsion_text}
-use Rattle.bike_fields.specs.declared.vehicle.Propulsion.{Propulsion}
 use Rattle.bike_texts.specs.Parts.{Parts}
 use Rattle.bike_texts.specs.Fields.{Field, fields_text, field_text}
-use Rattle.bike_texts.specs.Reading.{◌>>=◌, field_at, no_more, metres_of}
+use Rattle.bike_texts.specs.Reading.{◌>>=◌, field_at, no_more}
 use Rattle.bike_texts.proofs.TabFree.{AreRead}
 use Rattle.bike_texts.proofs.Chains.{IsReader, number_reader, choice_reader, ident_reader, language_reader, currency_reader, name_reader, ascii_reader, degrees_reader, form_reader, propulsion_reader}
 use Rattle.bike_texts.proofs.Chains.{metres_reader, segments_reader, end_reader, ident_or_none_reader, side_reader, kind_reader}
-use Rattle.bike_requests.specs.Kinds.{Kind, Numbers, Idents, Languages, Currencies, Names, Asciis, Choices, Coordinates, Forms, Ranges, SegmentLists, Ends, IdentsOrNone, Sides, NameKinds, ◌&◌, Value}
+use Rattle.bike_requests.specs.Kinds.{Kind, Numbers, Idents, Languages, Currencies, Names, Asciis, Choices, Coordinates, Forms, Ranges, SegmentLists, Ends, IdentsOrNone, Sides, NameKinds, ◌&◌}
 use Rattle.bike_requests.specs.Kinds.{then_at, reads, fields_with, all_at}
 
 -- the fields stand first in the parts
@@ -155,7 +153,7 @@ all_full reader ps a h = rw (reader.full ps [] a (record { front = ps; split = s
 
 -- ---- writing
 
-fields_text_append : (fs gs : List Field) → fields_text (fs ++ gs) ≡ fields_text fs ++ fields_text gs
+pub fields_text_append : (fs gs : List Field) → fields_text (fs ++ gs) ≡ fields_text fs ++ fields_text gs
 unfolding fields_text
 fields_text_append [] gs = refl
 fields_text_append (f ∷ fs) gs =

@@ -1,6 +1,5 @@
 -- Kinds of fields: the value that is read, its reader, and the fields in which it stands.
 use Rattle.std.specs.Prelude.{◌≡◌, ℕ, ℤ, List, [], ◌∷◌, ◌++◌, Bool, Option, Some, None, Result, Ok, Err, option_map}
-use Rattle.std.specs.Prelude.{codes}
 use Rattle.bike_fixed.specs.Whole.{number_of}
 use Rattle.bike_fields.specs.Bytes.{ident_of, language_of, currency_of}
 use Rattle.bike_fields.specs.Values.{SegmentRow}

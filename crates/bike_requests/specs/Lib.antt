@@ -4,3 +4,4 @@ pub mod Kinds
 pub mod Readers
 pub mod RequestReaders
 pub mod Spelling
+pub mod Lines

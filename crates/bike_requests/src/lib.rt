@@ -7,6 +7,7 @@
 //! written (`Spelled`), pairs do it for any number of them, and memory is asked for once all fields are tested.
 #![tactic(auto)]
 
+mod again;
 mod line;
 mod owned;
 mod plain;
@@ -18,6 +19,7 @@ mod spelled;
 mod unread;
 mod writing;
 
+pub use again::line_again_law;
 pub use line::read_line;
 pub use reading::read_command;
 pub use writing::{command_text, command_text_law};

@@ -1,5 +1,5 @@
 use Rattle.std.proofs.Common.{Err, ap}
-use Rattle.bike_day_texts.specs.declared.table.DayTable.TheVariants.{Entries, Rentals}
+use Rattle.bike_day_texts.specs.declared.table.DayTable.TheVariants.{Entries, Rentals, Requests}
 use Rattle.bike_batch.proofs.DayLemmas.{refused, day_refused, day_written}
 use Rattle.bike_batch.proofs.day.day_csv.Goals as goal
 
@@ -21,3 +21,9 @@ returns-in-Rentals-clause-wrote g c clean s at =
     day_written c.args.date.now c.args.zone.now c.in_ok-begin.begin c.in_ok-begin.until c.in_ok-begin.ensures.bounds
     _ _ s c.args.table Rentals c.in-Rentals.is
     c.write_rentals.result (c.write_rentals.ensures.wrote clean s at)
+
+pub returns-in-Requests-clause-wrote : goal.returns-in-Requests-clause-wrote
+returns-in-Requests-clause-wrote g c clean s at =
+    day_written c.args.date.now c.args.zone.now c.in_ok-begin.begin c.in_ok-begin.until c.in_ok-begin.ensures.bounds
+    _ _ s c.args.table Requests c.in-Requests.is
+    c.write_requests.result (c.write_requests.ensures.wrote clean s at)

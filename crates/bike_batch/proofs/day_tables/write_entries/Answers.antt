@@ -1,6 +1,6 @@
 use Rattle.std.proofs.Common.{Ok, Err, ap, ◌∙◌, arith}
 use Rattle.bike_batch.proofs.WalkLemmas.{text, walk_begins, walk_writes, walk_goes, walk_ends, walk_runs_out, first_failed, next_failed, header_failed, row_failed, table_told}
-use Rattle.bike_batch.proofs.Sources.{entries, entry_asks}
+use Rattle.bike_batch.proofs.Sources.{entries, few_entries, entry_asks}
 use Rattle.bike_batch.proofs.day_tables.write_entries.Goals as goal
 
 pub returns-in_err-next : goal.returns-in_err-next
@@ -49,4 +49,4 @@ entries-preserved g c =
     (λ s x same. c.from.ensures ∙ (c.get.ensures.value ∙ (c.number.ensures ∙ ap (λ e. e.number) same)))
 
 pub returns : goal.returns
-returns g c = walk_runs_out g.S.Store (entries c.args.begin c.args.until) c.entries.invariant (omega (arith, c.entries-test.false))
+returns g c = walk_runs_out g.S.Store (entries c.args.begin c.args.until) few_entries c.entries.invariant (omega (arith, c.entries-test.false))

@@ -1,7 +1,7 @@
 use Rattle.std.proofs.Common.{ℕ, Ok, Err, ap, ◌∙◌, arith}
 use Rattle.bike_operator.specs.declared.rental_info.RentalInfo.{RentalInfo}
 use Rattle.bike_batch.proofs.WalkLemmas.{text, walk_begins, walk_writes, walk_goes, walk_ends, walk_runs_out, first_failed, next_failed, header_failed, row_failed, table_told}
-use Rattle.bike_batch.proofs.Sources.{rentals, rental_asks, rentals_told}
+use Rattle.bike_batch.proofs.Sources.{rentals, few_rentals, rental_asks, rentals_told}
 use Rattle.bike_batch.proofs.day_tables.write_rentals.Goals as goal
 
 pub returns-in_err-next : goal.returns-in_err-next
@@ -54,4 +54,4 @@ rentals-preserved g c =
 pub returns : goal.returns
 returns g c =
     rentals_told c.args.begin c.args.until g.S.Store
-    (walk_runs_out g.S.Store (rentals c.args.begin c.args.until) c.rentals.invariant (omega (arith, c.rentals-test.false)))
+    (walk_runs_out g.S.Store (rentals c.args.begin c.args.until) few_rentals c.rentals.invariant (omega (arith, c.rentals-test.false)))
