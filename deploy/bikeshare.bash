@@ -22,9 +22,9 @@ _bikeshare() {
 
     local typed=${COMP_WORDS[COMP_CWORD]} known=
     case $word:$place in
-    :*) known="init check raise lines feed day import serve" ;;
+    :*) known="init check raise lines feed day history import serve" ;;
     feed:1) known="gbfs system_information vehicle_types station_information station_status system_pricing_plans system_regions" ;;
-    day:1) known="entries rentals" ;;
+    day:1) known="entries rentals requests" ;;
     *:0)
         if [[ $typed != -* ]]; then
             compopt -o filenames 2>/dev/null

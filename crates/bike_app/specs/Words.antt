@@ -8,11 +8,13 @@ use Rattle.sqlite.specs.State.{IsUnchanged}
 use Rattle.bike_operator.specs.Operator.{Operator}
 use Rattle.bike_schema.specs.Stands.{IsOf, Keeps, TreesStandFor}
 use Rattle.bike_command_line.specs.declared.task.FileTask.{FileTask}
-use Rattle.bike_command_line.specs.declared.task.FileTask.TheVariants.{Init, Check, Raise, Lines, Feed, Day, Import}
+use Rattle.bike_command_line.specs.declared.task.FileTask.TheVariants.{Init, Check, Raise, Lines, Feed, Day, History}
+use Rattle.bike_command_line.specs.declared.task.FileTask.TheVariants.{Import}
 use Rattle.bike_console.specs.declared.end.Fault.{Fault}
 use Rattle.bike_app.specs.Program.{StandsAfterSome, Refuses, Serves, FailsToBegin, ServesInMemory}
 use Rattle.bike_app.specs.Feeds.{TellsPublished, PublishesInMemory, moment_of}
 use Rattle.bike_app.specs.Days.{TellsReported, ReportsInMemory}
+use Rattle.bike_app.specs.History.{TellsRecounted, RecountsInMemory}
 use Rattle.bike_app.specs.Imports.{TellsImported, ImportsInMemory}
 use Rattle.bike_app.specs.Raises.{WritesLine, TellsRaised, version_line}
 
@@ -53,6 +55,8 @@ module _ {S : Type 0} (g : Ghosts S) (input ahead old new : Option (List ℕ)) w
       KeepsBytes input ahead × TellsPublished g old new first last f (moment_of at clock) end
   Does (Day table date zone) clock first last end =
       KeepsBytes input ahead × TellsReported table date.now zone.now g old new first last end
+  Does (History after) clock first last end =
+      KeepsBytes input ahead × TellsRecounted after g old new first last end
   Does (Import name at) clock first last end =
       TellsImported g input ahead old new name.now first last (moment_of at clock) end
 
@@ -61,6 +65,7 @@ abbrev pub Looks : FileTask → Type 0
 Looks Check = Unit {0}
 Looks (Feed f at) = Unit {0}
 Looks (Day table date zone) = Unit {0}
+Looks (History after) = Unit {0}
 Looks _ = ⊥
 
 -- the word that raises
@@ -87,4 +92,5 @@ module _ (input ahead old new : Option (List ℕ)) where
   DoesInMemory (Feed f at) clock end = KeepsBytes input ahead × PublishesInMemory old new f (moment_of at clock) end
   DoesInMemory (Day table date zone) clock end =
       KeepsBytes input ahead × ReportsInMemory table date.now zone.now old new end
+  DoesInMemory (History after) clock end = KeepsBytes input ahead × RecountsInMemory old new end
   DoesInMemory (Import name at) clock end = ImportsInMemory input ahead old new name.now (moment_of at clock) end

@@ -61,7 +61,8 @@ pub fn run_file<F: Start, R: Read, W: Write, P: Watch>(
 fn wanted_of(task: &FileTask<'_>) -> Wanted {
     match task {
         FileTask::Init | FileTask::Lines | FileTask::Import { .. } => Wanted::AnyFile,
-        FileTask::Check | FileTask::Feed { .. } | FileTask::Day { .. } => Wanted::FileThere,
+        FileTask::Check | FileTask::Feed { .. } | FileTask::Day { .. } | FileTask::History { .. } =>
+            Wanted::FileThere,
         FileTask::Raise => Wanted::FileInUse,
     }
 }
@@ -72,7 +73,8 @@ fn settles(task: &FileTask<'_>) -> bool
 {
     match task {
         FileTask::Init | FileTask::Raise | FileTask::Lines | FileTask::Import { .. } => true,
-        FileTask::Check | FileTask::Feed { .. } | FileTask::Day { .. } => false,
+        FileTask::Check | FileTask::Feed { .. } | FileTask::Day { .. } | FileTask::History { .. } =>
+            false,
     }
 }
 

@@ -13,6 +13,7 @@ ghost use Rattle.bike_app.specs.Words.{Does, DoesInMemory, IsRaise, Looks, MaySt
 
 use crate::day::report_day;
 use crate::feed::{moment_of, publish};
+use crate::history::report_history;
 use crate::import::import_from;
 use crate::program::serve;
 use crate::raise::raise_up;
@@ -80,10 +81,11 @@ fn look_over<S: Alter, W: Write, P: Watch>(
 /// Does the task over the connection, which is outside a transaction: `Init` takes it into service and tells that by
 /// the line `ready`, `Raise` raises it to the newest version, as `raise_up` does, `Lines` serves the input, as `serve`
 /// does, and `Import` takes the input's stations in, as `import_from`. `Check` looks at it and tells by the line
-/// `sound` that it may be served, `Feed` writes a feed, as `publish` does, and `Day` a table, as `report_day`: these
-/// three change nothing, and make no tables. Only `Lines` and `Import` read the input. Where a feed or an import is
-/// asked for at no moment, it is the clock's. Gives the connection back with the number of lines or rows served, or
-/// with the fault at which that ended. `watch` is told how far `Init`, `Check` and `Raise` are.
+/// `sound` that it may be served, `Feed` writes a feed, as `publish` does, `Day` a table, as `report_day`, and
+/// `History` the history, as `report_history`: these four change nothing, and make no tables. Only `Lines` and `Import`
+/// read the input. Where a feed or an import is asked for at no moment, it is the clock's. Gives the connection back
+/// with the number of lines or rows served, or with the fault at which that ended. `watch` is told how far `Init`,
+/// `Check` and `Raise` are.
 ///
 /// However `Raise` ends, a database that stood for an operator at some version stands after a crash for that operator,
 /// at that version or at the newest.
@@ -120,6 +122,7 @@ pub fn run_words<S: Alter, R: Read, W: Write, P: Watch>(
         FileTask::Day { table, date, zone } => {
             report_day(alloc, *table, date, zone, conn, writer)
         }
+        FileTask::History { after } => report_history(alloc, *after, conn, writer),
         FileTask::Import { name, at } => {
             let moment = moment_of(*at, clock);
             import_from(alloc, name, moment, conn, reader, writer)

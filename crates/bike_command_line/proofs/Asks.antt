@@ -12,7 +12,7 @@ use Rattle.bike_fixed.specs.Whole.{last_moment, number_of}
 use Rattle.bike_fields.specs.Bytes.{ident_of, is_ident}
 use Rattle.bike_day_texts.specs.Tables.{table_name, table_of}
 use Rattle.bike_day_texts.specs.declared.table.DayTable.{DayTable}
-use Rattle.bike_day_texts.specs.declared.table.DayTable.TheVariants.{Entries, Rentals}
+use Rattle.bike_day_texts.specs.declared.table.DayTable.TheVariants.{Entries, Rentals, Requests}
 use Rattle.bike_feed_texts.specs.Feeds.{feed_name, feed_of}
 use Rattle.bike_feed_texts.specs.declared.feed.Feed.{Feed as AnyFeed}
 use Rattle.bike_feed_texts.specs.declared.feed.Feed.TheVariants as feeds
@@ -24,7 +24,7 @@ use Rattle.bike_command_line.specs.declared.word.Word.{Word}
 use Rattle.bike_command_line.specs.declared.word.Word.TheVariants as word
 use Rattle.bike_command_line.specs.declared.task.Task.{Task}
 use Rattle.bike_command_line.specs.declared.task.Task.TheVariants.{OnFile, Serve}
-use Rattle.bike_command_line.specs.declared.task.FileTask.TheVariants.{Init, Check, Raise, Lines, Feed, Day, Import}
+use Rattle.bike_command_line.specs.declared.task.FileTask.TheVariants.{Init, Check, Raise, Lines, Feed, Day, History, Import}
 use Rattle.bike_command_line.proofs.Entered.{Enters, fault_entered, subcommand_entered}
 use Rattle.bike_command_line.proofs.Numbers.{decimal_plain, read_back}
 use Rattle.bike_command_line.proofs.Plain.{ArePlain, Marked, fault_behind, level_marked, other, plain, rows_behind, rows_marked, text_of}
@@ -54,6 +54,7 @@ table_named : (table : DayTable) → table_of (table_name table) ≡ Some table
 unfolding table_of
 table_named Entries = refl
 table_named Rentals = refl
+table_named Requests = refl
 
 ident_named : (name : Text) → is_ident name ≡ true → ident_of name ≡ Some name
 unfolding ident_of
@@ -72,6 +73,7 @@ enters word.Raise = record { bare = refl; stops = refl; finds = refl; named = re
 enters word.Lines = record { bare = refl; stops = refl; finds = refl; named = refl; turns = refl; ends = refl }
 enters word.Feed = record { bare = refl; stops = refl; finds = refl; named = refl; turns = refl; ends = refl }
 enters word.Day = record { bare = refl; stops = refl; finds = refl; named = refl; turns = refl; ends = refl }
+enters word.History = record { bare = refl; stops = refl; finds = refl; named = refl; turns = refl; ends = refl }
 enters word.Import = record { bare = refl; stops = refl; finds = refl; named = refl; turns = refl; ends = refl }
 enters word.Serve = record { bare = refl; stops = refl; finds = refl; named = refl; turns = refl; ends = refl }
 
@@ -82,6 +84,7 @@ task_enters (OnFile Raise) = enters word.Raise
 task_enters (OnFile Lines) = enters word.Lines
 task_enters (OnFile (Feed feed at)) = enters word.Feed
 task_enters (OnFile (Day table date zone)) = enters word.Day
+task_enters (OnFile (History after)) = enters word.History
 task_enters (OnFile (Import name at)) = enters word.Import
 task_enters (Serve port count) = enters word.Serve
 
@@ -159,6 +162,15 @@ unfolding program clap_on_literals task_of
 behind_day_all table date zone file name is = record {
   free = refl;
   tells = ap (option_and_then (λ (table : DayTable). Some (want.Day table date.now zone.now))) is;
+  file_is = refl;
+}
+
+behind_history : (after : ℕ) (file text : Text) → number_of 0 9223372036854775807 text ≡ Some after
+    → Behind (OnFile (History after)) file (plain file ∷ plain text ∷ [])
+unfolding program clap_on_literals task_of
+behind_history after file text is = record {
+  free = refl;
+  tells = ap (option_map (λ (after : ℕ). want.History after)) is;
   file_is = refl;
 }
 
@@ -269,6 +281,9 @@ word_asks (OnFile (Feed feed (Some at))) file no_minus within =
     (no_minus, (feed_plain feed, (decimal_plain at (omega (arith, within)), tt)))
     (behind_feed_at feed at file (feed_name feed) (decimal at) (feed_named feed) (read_back 0 last_moment at (omega arith) (omega arith) within))
 word_asks (OnFile (Day table date zone)) file no_minus within = day_asks table date zone file
+word_asks (OnFile (History after)) file no_minus within =
+    asks_by (OnFile (History after)) file (plain file ∷ plain (decimal after) ∷ []) (no_minus, (decimal_plain after (omega (arith, within)), tt))
+    (behind_history after file (decimal after) (read_back 0 9223372036854775807 after (omega arith) (omega arith) within))
 word_asks (OnFile (Import name at)) file no_minus within = import_asks name at file within
 word_asks (Serve port None) file no_minus within =
     asks_by (Serve port None) file (plain file ∷ other (codes "--port") ∷ plain (decimal port) ∷ [])

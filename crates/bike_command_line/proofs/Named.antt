@@ -5,7 +5,7 @@ use Rattle.std.proofs.lemmas.Option.{same_Some}
 use Rattle.std.proofs.lemmas.Slice.Eq.{bytes_eq-Decides}
 use Rattle.clap.specs.Words.{Text, subcommand_of}
 use Rattle.bike_command_line.specs.Program.{program}
-use Rattle.bike_command_line.specs.Asked.{Found, IsNothing, Wanted, day_task, feed_task, import_task, name_in, serve_task, task_in, task_of, value_in, want_of}
+use Rattle.bike_command_line.specs.Asked.{Found, IsNothing, Wanted, day_task, feed_task, history_task, import_task, name_in, serve_task, task_in, task_of, value_in, want_of}
 use Rattle.bike_command_line.specs.Asked as want
 use Rattle.bike_command_line.specs.Names.{word_name, word_named}
 use Rattle.bike_command_line.specs.declared.word.Word.{Word}
@@ -31,8 +31,9 @@ named_back name it e =
     pick (bytes_eq name (codes "lines")) _ _ it e (λ is same. at (codes "lines") word.Lines is same refl) (λ e.
     pick (bytes_eq name (codes "feed")) _ _ it e (λ is same. at (codes "feed") word.Feed is same refl) (λ e.
     pick (bytes_eq name (codes "day")) _ _ it e (λ is same. at (codes "day") word.Day is same refl) (λ e.
+    pick (bytes_eq name (codes "history")) _ _ it e (λ is same. at (codes "history") word.History is same refl) (λ e.
     pick (bytes_eq name (codes "import")) _ _ it e (λ is same. at (codes "import") word.Import is same refl) (λ e.
-    pick (bytes_eq name (codes "serve")) _ _ it e (λ is same. at (codes "serve") word.Serve is same refl) (λ e. absurd cc))))))))
+    pick (bytes_eq name (codes "serve")) _ _ it e (λ is same. at (codes "serve") word.Serve is same refl) (λ e. absurd cc)))))))))
 
 pub name_read : (it : Word) → word_named (word_name it) ≡ Some it
 unfolding word_named
@@ -42,6 +43,7 @@ name_read word.Raise = refl
 name_read word.Lines = refl
 name_read word.Feed = refl
 name_read word.Day = refl
+name_read word.History = refl
 name_read word.Import = refl
 name_read word.Serve = refl
 
@@ -65,8 +67,9 @@ no_task name found e =
     pass (bytes_eq name (codes "lines")) word.Lines _ (Some want.Lines) _ e (λ e.
     pass (bytes_eq name (codes "feed")) word.Feed _ (feed_task found) _ e (λ e.
     pass (bytes_eq name (codes "day")) word.Day _ (day_task found) _ e (λ e.
+    pass (bytes_eq name (codes "history")) word.History _ (history_task found) _ e (λ e.
     pass (bytes_eq name (codes "import")) word.Import _ (import_task found) _ e (λ e.
-    pass (bytes_eq name (codes "serve")) word.Serve None (serve_task found) None e (λ e. refl))))))))
+    pass (bytes_eq name (codes "serve")) word.Serve None (serve_task found) None e (λ e. refl)))))))))
 
 -- where no word is found there is no task
 pub no_word : (found : Found) → option_and_then word_named (name_in found) ≡ None → IsNothing found

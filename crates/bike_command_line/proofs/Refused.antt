@@ -94,6 +94,7 @@ behind_bad word.Check value option text one is = absurd cc
 behind_bad word.Raise value option text one is = absurd cc
 behind_bad word.Lines value option text one is = absurd cc
 behind_bad word.Day value option text one is = absurd cc
+behind_bad word.History value option text one is = absurd cc
 behind_bad word.Feed value option text one is = pick (bytes_eq option (codes "--at")) _ _ value is
     (λ same. subst (λ (v : Value). IsTaken word.Feed v × IsBad v text) same (tt, no_signed 0 last_moment text (omega arith) one)) (λ e. absurd cc)
 behind_bad word.Import value option text one is = pick (bytes_eq option (codes "--at")) _ _ value is

@@ -12,7 +12,7 @@ use Rattle.bike_day_texts.specs.declared.table.DayTable.{DayTable}
 use Rattle.bike_feed_texts.specs.Feeds.{feed_of}
 use Rattle.bike_feed_texts.specs.declared.feed.Feed.{Feed as AnyFeed}
 use Rattle.bike_command_line.specs.Program.{program}
-use Rattle.bike_command_line.specs.declared.task.TheConstants.{MOST_CONNECTIONS}
+use Rattle.bike_command_line.specs.declared.task.TheConstants.{GREATEST_AFTER, MOST_CONNECTIONS}
 use Rattle.bike_command_line.specs.declared.task.Task.{Task}
 use Rattle.bike_command_line.specs.declared.task.Task.TheVariants as task
 use Rattle.bike_command_line.specs.declared.task.FileTask.TheVariants as file
@@ -28,6 +28,7 @@ pub data Wanted : Type 0 where
   Lines : Wanted
   Feed : AnyFeed → Option ℕ → Wanted
   Day : DayTable → Text → Text → Wanted
+  History : ℕ → Wanted
   Import : Text → Option ℕ → Wanted
   Serve : ℕ → Option ℕ → Wanted
 
@@ -38,6 +39,7 @@ want_of (task.OnFile file.Raise) = Raise
 want_of (task.OnFile file.Lines) = Lines
 want_of (task.OnFile (file.Feed feed at)) = Feed feed at
 want_of (task.OnFile (file.Day table date zone)) = Day table date.now zone.now
+want_of (task.OnFile (file.History after)) = History after
 want_of (task.OnFile (file.Import name at)) = Import name.now at
 want_of (task.Serve port count) = Serve port count
 
@@ -71,6 +73,14 @@ moment_in found = number_given 0 last_moment (value_in found (codes "at"))
 abbrev pub table_in : Found → Option DayTable
 table_in found = option_and_then table_of (value_in found (codes "which"))
 
+-- the number behind which the history is wanted; 0, behind which all of it stands, where it is left out
+abbrev pub after_given : Option Text → Option ℕ
+after_given None = Some 0
+after_given (Some text) = number_of 0 GREATEST_AFTER text
+
+abbrev pub after_in : Found → Option ℕ
+after_in found = after_given (value_in found (codes "after"))
+
 abbrev pub import_in : Found → Option Text
 import_in found = option_and_then ident_of (value_in found (codes "name"))
 
@@ -92,6 +102,9 @@ day_task found =
     (value_in found (codes "date")))
     (table_in found)
 
+abbrev pub history_task : Found → Option Wanted
+history_task found = option_map (λ after. History after) (after_in found)
+
 abbrev pub import_task : Found → Option Wanted
 import_task found = option_and_then (λ name. option_map (λ at. Import name at) (moment_in found)) (import_in found)
 
@@ -107,8 +120,9 @@ task_of name found =
     if bytes_eq name (codes "lines") then Some Lines else (
     if bytes_eq name (codes "feed") then feed_task found else (
     if bytes_eq name (codes "day") then day_task found else (
+    if bytes_eq name (codes "history") then history_task found else (
     if bytes_eq name (codes "import") then import_task found else (
-    if bytes_eq name (codes "serve") then serve_task found else None)))))))
+    if bytes_eq name (codes "serve") then serve_task found else None))))))))
 
 abbrev pub task_in : Found → Option Wanted
 task_in found = option_and_then (λ name. task_of name found) (name_in found)

@@ -6,7 +6,7 @@ use Rattle.bike_fixed.specs.Whole.{last_moment, number_of}
 use Rattle.bike_fields.specs.Bytes.{ident_of}
 use Rattle.bike_day_texts.specs.Tables.{table_of}
 use Rattle.bike_feed_texts.specs.Feeds.{feed_of}
-use Rattle.bike_command_line.specs.declared.task.TheConstants.{MOST_CONNECTIONS}
+use Rattle.bike_command_line.specs.declared.task.TheConstants.{GREATEST_AFTER, MOST_CONNECTIONS}
 use Rattle.bike_command_line.specs.declared.word.Word.{Word}
 use Rattle.bike_command_line.specs.declared.word.Word.TheVariants as word
 use Rattle.bike_command_line.specs.declared.value.Value.{Value}
@@ -19,6 +19,7 @@ word_name word.Raise = codes "raise"
 word_name word.Lines = codes "lines"
 word_name word.Feed = codes "feed"
 word_name word.Day = codes "day"
+word_name word.History = codes "history"
 word_name word.Import = codes "import"
 word_name word.Serve = codes "serve"
 
@@ -31,8 +32,9 @@ word_named name =
     if bytes_eq name (codes "lines") then Some word.Lines else (
     if bytes_eq name (codes "feed") then Some word.Feed else (
     if bytes_eq name (codes "day") then Some word.Day else (
+    if bytes_eq name (codes "history") then Some word.History else (
     if bytes_eq name (codes "import") then Some word.Import else (
-    if bytes_eq name (codes "serve") then Some word.Serve else None)))))))
+    if bytes_eq name (codes "serve") then Some word.Serve else None))))))))
 
 -- under which id clap finds a value
 abbrev pub id_of : Value → Text
@@ -41,6 +43,7 @@ id_of value.Feed = codes "name"
 id_of value.Table = codes "which"
 id_of value.Date = codes "date"
 id_of value.Zone = codes "zone"
+id_of value.After = codes "after"
 id_of value.Import = codes "name"
 id_of value.Moment = codes "at"
 id_of value.Port = codes "port"
@@ -69,6 +72,7 @@ IsWanted word value = ⊥
 -- .. or takes it, where it is given
 abbrev pub IsTaken : Word → Value → Type 0
 IsTaken word.Feed value.Moment = Unit
+IsTaken word.History value.After = Unit
 IsTaken word.Import value.Moment = Unit
 IsTaken word.Serve value.Count = Unit
 IsTaken word value = IsWanted word value
@@ -77,6 +81,7 @@ IsTaken word value = IsWanted word value
 abbrev pub IsBad : Value → Text → Type 0
 IsBad value.Feed text = feed_of text ≡ None
 IsBad value.Table text = table_of text ≡ None
+IsBad value.After text = number_of 0 GREATEST_AFTER text ≡ None
 IsBad value.Import text = ident_of text ≡ None
 IsBad value.Moment text = number_of 0 last_moment text ≡ None
 IsBad value.Port text = number_of 0 65535 text ≡ None

@@ -9,13 +9,14 @@ use Rattle.bike_fixed.specs.Whole.{last_moment}
 use Rattle.bike_fields.specs.Bytes.{is_ident}
 use Rattle.bike_day_texts.specs.Tables.{table_name}
 use Rattle.bike_feed_texts.specs.Feeds.{feed_name}
-use Rattle.bike_command_line.specs.declared.task.TheConstants.{MOST_CONNECTIONS}
+use Rattle.bike_command_line.specs.declared.task.TheConstants.{GREATEST_AFTER, MOST_CONNECTIONS}
 use Rattle.bike_command_line.specs.declared.task.Task.{Task}
 use Rattle.bike_command_line.specs.declared.word.Word.{Word}
 use Rattle.bike_command_line.specs.declared.word.Word.TheVariants as word
 use Rattle.bike_command_line.specs.declared.task.Task.TheVariants.{OnFile, Serve}
 use Rattle.bike_command_line.specs.declared.task.FileTask.{FileTask}
-use Rattle.bike_command_line.specs.declared.task.FileTask.TheVariants.{Init, Check, Raise, Lines, Feed, Day, Import}
+use Rattle.bike_command_line.specs.declared.task.FileTask.TheVariants.{Init, Check, Raise, Lines, Feed, Day, History}
+use Rattle.bike_command_line.specs.declared.task.FileTask.TheVariants.{Import}
 
 abbrev pub name_of : Task → Text
 name_of (OnFile Init) = codes "init"
@@ -24,6 +25,7 @@ name_of (OnFile Raise) = codes "raise"
 name_of (OnFile Lines) = codes "lines"
 name_of (OnFile (Feed feed at)) = codes "feed"
 name_of (OnFile (Day table date zone)) = codes "day"
+name_of (OnFile (History after)) = codes "history"
 name_of (OnFile (Import name at)) = codes "import"
 name_of (Serve port count) = codes "serve"
 
@@ -49,6 +51,10 @@ day_word =
     with_rule (with_rule (with_rule (on_file (codes "day")) (value_rule (codes "which"))) (value_rule (codes "date")))
     (value_rule (codes "zone"))
 
+-- .. and may have the number AFTER which the history is asked for
+abbrev pub history_word : App
+history_word = with_rule (on_file (codes "history")) (value_rule (codes "after"))
+
 -- .. and a port, and may have a count
 abbrev pub serve_word : App
 serve_word = with_rule (with_rule (on_file (codes "serve")) (option_rule (codes "port"))) (option_rule (codes "count"))
@@ -65,6 +71,7 @@ program = fold (λ (app word : App). with_subcommand app word.top) top
     ∷ on_file (codes "lines")
     ∷ named_word (codes "feed")
     ∷ day_word
+    ∷ history_word
     ∷ named_word (codes "import")
     ∷ serve_word
     ∷ [])
@@ -89,6 +96,7 @@ words_for (OnFile Lines) file = codes "lines" ∷ file ∷ []
 words_for (OnFile (Feed feed at)) file = codes "feed" ∷ file ∷ feed_name feed ∷ option_words (codes "--at") at
 words_for (OnFile (Day table date zone)) file =
     codes "day" ∷ words_in_order (file ∷ table_name table ∷ date.now ∷ zone.now ∷ []) []
+words_for (OnFile (History after)) file = codes "history" ∷ file ∷ decimal after ∷ []
 words_for (OnFile (Import name at)) file =
     codes "import" ∷ words_in_order (file ∷ name.now ∷ []) (option_words (codes "--at") at)
 words_for (Serve port count) file =
@@ -97,6 +105,7 @@ words_for (Serve port count) file =
 -- its numbers lie within their bounds, and the name of an import is spelled as an identifier
 abbrev pub IsWithinOnFile : FileTask → Type 0
 IsWithinOnFile (Feed feed at) = IfSome at (λ seconds. seconds ≤ last_moment)
+IsWithinOnFile (History after) = after ≤ GREATEST_AFTER
 IsWithinOnFile (Import name at) = (is_ident name.now ≡ true) × IfSome at (λ seconds. seconds ≤ last_moment)
 IsWithinOnFile _ = Unit
 
@@ -112,6 +121,7 @@ word_of (OnFile Raise) = word.Raise
 word_of (OnFile Lines) = word.Lines
 word_of (OnFile (Feed feed at)) = word.Feed
 word_of (OnFile (Day table date zone)) = word.Day
+word_of (OnFile (History after)) = word.History
 word_of (OnFile (Import name at)) = word.Import
 word_of (Serve port count) = word.Serve
 
@@ -119,6 +129,7 @@ word_of (Serve port count) = word.Serve
 abbrev pub form_of : Task → Text
 form_of (OnFile (Feed feed at)) = codes "feed FILE NAME [--at M]"
 form_of (OnFile (Day table date zone)) = codes "day FILE WHICH DATE ZONE"
+form_of (OnFile (History after)) = codes "history FILE [AFTER]"
 form_of (OnFile (Import name at)) = codes "import FILE NAME [--at M]"
 form_of (Serve port count) = codes "serve FILE --port P [--count N]"
 form_of task = name_of task ++ codes " FILE"

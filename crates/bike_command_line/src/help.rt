@@ -39,6 +39,11 @@ const DAY: &str = "day FILE WHICH DATE ZONE";
 const DAY_DOES: &str =
     "         writes the table WHICH of a local day on standard output, as CSV\n";
 
+const HISTORY: &str = "history FILE [AFTER]";
+
+const HISTORY_DOES: &str =
+    "             writes the accepted requests behind number AFTER on standard output, as request lines\n";
+
 const IMPORT: &str = "import FILE NAME [--at M]";
 
 const IMPORT_DOES: &str =
@@ -64,9 +69,15 @@ pub(crate) const FEEDS: &str =
     "gbfs, system_information, vehicle_types, station_information, station_status, system_pricing_plans \
      or system_regions";
 
-const DAY_IS: &str =
-    "WHICH is entries or rentals, DATE is the day's date as 2024-03-31, and ZONE a POSIX time zone as \
+const DAY_WHICH: &str = "WHICH is ";
+
+pub(crate) const TABLES: &str = "entries, rentals or requests";
+
+const DAY_IS: &str = ", DATE is the day's date as 2024-03-31, and ZONE a POSIX time zone as \
      CET-1CEST,M3.5.0,M10.5.0/3.\n";
+
+const HISTORY_IS: &str =
+    "AFTER is a request's number, 0 to 9223372036854775807; all are written where it is left out.\n";
 
 const IMPORT_IS: &str =
     "An import's NAME is 1 to 36 of a-z 0-9 _ -, and stands for the caller import:NAME.\n";
@@ -91,6 +102,7 @@ pub(crate) fn form_of(word: Word) -> &'static str
         Word::Lines => LINES,
         Word::Feed => FEED,
         Word::Day => DAY,
+        Word::History => HISTORY,
         Word::Import => IMPORT,
         Word::Serve => SERVE,
     }
@@ -125,6 +137,9 @@ pub fn usage() -> &'static [&'static str]
         DAY,
         DAY_DOES,
         ROW,
+        HISTORY,
+        HISTORY_DOES,
+        ROW,
         IMPORT,
         IMPORT_DOES,
         ROW,
@@ -138,7 +153,10 @@ pub fn usage() -> &'static [&'static str]
         FEED_IS,
         FEEDS,
         ".\n",
+        DAY_WHICH,
+        TABLES,
         DAY_IS,
+        HISTORY_IS,
         IMPORT_IS,
         FILE_IS,
         "No arguments at all mean lines :memory:.\n",
@@ -160,7 +178,19 @@ pub fn usage_of(word: Word) -> &'static [&'static str]
         Word::Feed => &[
             HEAD, FEED, FIRST_ROW, FEED, FEED_DOES, "\n", AT, "\n", FEED_IS, FEEDS, ".\n", FILE_IS,
         ],
-        Word::Day => &[HEAD, DAY, FIRST_ROW, DAY, DAY_DOES, "\n", DAY_IS, FILE_IS],
+        Word::Day => &[
+            HEAD, DAY, FIRST_ROW, DAY, DAY_DOES, "\n", DAY_WHICH, TABLES, DAY_IS, FILE_IS,
+        ],
+        Word::History => &[
+            HEAD,
+            HISTORY,
+            FIRST_ROW,
+            HISTORY,
+            HISTORY_DOES,
+            "\n",
+            HISTORY_IS,
+            FILE_IS,
+        ],
         Word::Import => &[
             HEAD,
             IMPORT,

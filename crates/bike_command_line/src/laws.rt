@@ -12,10 +12,10 @@ use bike_day_texts::DayTable;
 use bike_feed_texts::Feed;
 
 /// What some words ask for: a word alone, a second FILE, a flag, another word and a wish for help ask for nothing, and
-/// so do a NAME that is no feed or no identifier, a WHICH that is no table, no ZONE, a number out of its bounds or with
-/// a sign, no port, a second value and another word's option. Any DATE and any ZONE are taken, behind `--` also one
-/// that begins with a hyphen. A FILE that begins with a hyphen stands behind `--`, and an option may stand before the
-/// FILE. The numbers of what is asked lie within their bounds.
+/// so do a NAME that is no feed or no identifier, a WHICH that is no table, no ZONE, a number out of its bounds, with a
+/// leading zero or with a sign, no port, a second value and another word's option. Any DATE and any ZONE are taken,
+/// behind `--` also one that begins with a hyphen. A FILE that begins with a hyphen stands behind `--`, and an option
+/// may stand before the FILE. The numbers of what is asked lie within their bounds.
 pub fn word_laws()
     // Each task that is spelled as usual is read, and what is read lies within its bounds.
     ensures file { (task : Task) (file : Text) → starts_with_minus file ≡ false → IsWithin task
@@ -46,6 +46,13 @@ pub fn word_laws()
         (Task.OnFile (FileTask.Day DayTable.Rentals date zone)) (codes "f") }
     ensures no_table { AskNothing (parted (codes "day f riders 2024-03-31 UTC0")) }
     ensures no_zone { AskNothing (parted (codes "day f entries 2024-03-31")) }
+    // The history, whole or behind a number; nothing behind one out of its bounds, or with a leading zero or a sign.
+    ensures history { Ask (parted (codes "history f")) (Task.OnFile (FileTask.History 0)) (codes "f") }
+    ensures history_after { Ask (parted (codes "history f 9223372036854775807"))
+        (Task.OnFile (FileTask.History 9223372036854775807)) (codes "f") }
+    ensures past { AskNothing (parted (codes "history f 9223372036854775808")) }
+    ensures led { AskNothing (parted (codes "history f 01")) }
+    ensures below { AskNothing (parted (codes "history f -1")) }
     // An import, now or at a moment; nothing without a NAME that is an identifier.
     ensures import { (name : Bor Text) → name.now ≡ codes "harbor-2"
         → Ask (parted (codes "import f harbor-2")) (Task.OnFile (FileTask.Import name None)) (codes "f") }

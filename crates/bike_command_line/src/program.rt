@@ -3,8 +3,8 @@
 ghost use Rattle.std.specs.Prelude.{◌≡◌, IfOk, false};
 ghost use Rattle.clap.specs.Words.{App, Rule, app_of, rule_of, with_rule, with_subcommand};
 ghost use Rattle.clap.specs.declared.builder.command.Command.TheViews.{out-Command as fields_of};
-ghost use Rattle.bike_command_line.specs.Program.{day_word, named_word, on_file, option_rule, program, serve_word};
-ghost use Rattle.bike_command_line.specs.Program.{value_rule};
+ghost use Rattle.bike_command_line.specs.Program.{day_word, history_word, named_word, on_file, option_rule, program};
+ghost use Rattle.bike_command_line.specs.Program.{serve_word, value_rule};
 
 use clap::{Arg, Command};
 use std::alloc::{AllocError, Global};
@@ -82,6 +82,14 @@ fn day_word<'a>(alloc: Global) -> Result<Command<'a>, AllocError>
     with_arg(word, value(alloc, "zone"))
 }
 
+/// The word for the history.
+fn history_word<'a>(alloc: Global) -> Result<Command<'a>, AllocError>
+    ensures app { IfOk result (λ c. app_of c ≡ history_word) }
+    ensures local { IfOk result (λ c. (fields_of c).has_globals ≡ false) }
+{
+    with_arg(on_file(alloc, "history"), value(alloc, "after"))
+}
+
 /// The word for serving HTTP.
 fn serve_word<'a>(alloc: Global) -> Result<Command<'a>, AllocError>
     ensures app { IfOk result (λ c. app_of c ≡ serve_word) }
@@ -102,6 +110,7 @@ pub(crate) fn program<'a>(alloc: Global) -> Result<Command<'a>, AllocError>
     let program = with_word(program, on_file(alloc, "lines"));
     let program = with_word(program, named_word(alloc, "feed"));
     let program = with_word(program, day_word(alloc));
+    let program = with_word(program, history_word(alloc));
     let program = with_word(program, named_word(alloc, "import"));
     with_word(program, serve_word(alloc))
 }

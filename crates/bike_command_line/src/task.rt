@@ -2,8 +2,8 @@
 
 ghost use Rattle.std.specs.Prelude.{◌≡◌, MatchResult, None, Some, option_map};
 ghost use Rattle.clap.specs.Words.{subcommand_rows_of};
-ghost use Rattle.bike_command_line.specs.Asked.{count_in, day_task, feed_in, feed_task, import_in, import_task};
-ghost use Rattle.bike_command_line.specs.Asked.{moment_in, port_in, serve_task};
+ghost use Rattle.bike_command_line.specs.Asked.{after_in, count_in, day_task, feed_in, feed_task, history_task};
+ghost use Rattle.bike_command_line.specs.Asked.{import_in, import_task, moment_in, port_in, serve_task};
 ghost use Rattle.bike_command_line.specs.Asked.{table_in, task_of, value_in, want_of};
 ghost use Rattle.bike_command_line.specs.Names.{id_of, word_name};
 ghost use Rattle.bike_command_line.specs.BadValue.{IsRead, IsWrong};
@@ -18,6 +18,9 @@ use clap::ArgMatches;
 
 /// After how many connections the serving ends at most, where it has an end.
 pub const MOST_CONNECTIONS: u64 = 1_000_000_000;
+
+/// The greatest number behind which the history is asked for, which is the greatest that a request may have.
+pub const GREATEST_AFTER: u64 = 9_223_372_036_854_775_807;
 
 /// What the program does.
 #[derive(Clone, Copy)]
@@ -59,6 +62,11 @@ pub enum FileTask<'a> {
         date: &'a str,
         /// The POSIX time zone in which that is a day. Any text is taken.
         zone: &'a str,
+    },
+    /// Writes the accepted requests of the history as request lines.
+    History {
+        /// Those of a later number than this, which is at most `GREATEST_AFTER`; behind 0 stand all.
+        after: u64,
     },
     /// Adds the stations of standard input.
     Import {
@@ -138,6 +146,16 @@ fn import_in<'a>(matches: &ArgMatches<'a>) -> Result<&'a str, BadValue<'a>>
     Ident::checked(text).ok_or(BadValue::Bad(Value::Import, text))
 }
 
+/// The number behind which the history is asked for; 0 where it is left out.
+fn after_in<'a>(matches: &ArgMatches<'a>) -> Result<u64, BadValue<'a>>
+    ensures { IsRead Word.History (subcommand_rows_of matches.now) (λ after. after) after_in result }
+{
+    let Some(text) = value_in(matches, "after") else {
+        return Ok(0);
+    };
+    read_whole(text, 0, GREATEST_AFTER).ok_or(BadValue::Bad(Value::After, text))
+}
+
 /// The port.
 fn port_in<'a>(matches: &ArgMatches<'a>) -> Result<u16, BadValue<'a>>
     ensures { IsRead Word.Serve (subcommand_rows_of matches.now) (λ port. port) port_in result }
@@ -181,6 +199,14 @@ fn day_task<'a>(matches: &ArgMatches<'a>) -> Result<Task<'a>, BadValue<'a>>
     Ok(Task::OnFile(FileTask::Day { table, date, zone }))
 }
 
+/// The number behind which the history is asked for.
+fn history_task<'a>(matches: &ArgMatches<'a>) -> Result<Task<'a>, BadValue<'a>>
+    ensures { IsRead Word.History (subcommand_rows_of matches.now) want_of history_task result }
+{
+    let after = after_in(matches)?;
+    Ok(Task::OnFile(FileTask::History { after }))
+}
+
 /// The import's name and its moment.
 fn import_task<'a>(matches: &ArgMatches<'a>) -> Result<Task<'a>, BadValue<'a>>
     ensures { IsRead Word.Import (subcommand_rows_of matches.now) want_of import_task result }
@@ -211,6 +237,7 @@ pub(crate) fn task_of<'a>(word: Word, matches: &ArgMatches<'a>) -> Result<Task<'
         Word::Lines => Ok(Task::OnFile(FileTask::Lines)),
         Word::Feed => feed_task(matches),
         Word::Day => day_task(matches),
+        Word::History => history_task(matches),
         Word::Import => import_task(matches),
         Word::Serve => serve_task(matches),
     }

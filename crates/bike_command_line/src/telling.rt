@@ -1,13 +1,13 @@
 //! How a mistake is reported: a line that says what is wrong and what is wanted, and the usage of the subcommand.
 
-use crate::help::{FEEDS, form_of, usage, usage_of};
+use crate::help::{FEEDS, TABLES, form_of, usage, usage_of};
 use crate::mistake::Mistake;
 use crate::value::Value;
 use crate::word::Word;
 use std::fmt;
 
 /// The names of the subcommands.
-const SUBCOMMANDS: &str = "init, check, raise, lines, feed, day, import or serve";
+const SUBCOMMANDS: &str = "init, check, raise, lines, feed, day, history, import or serve";
 
 /// How many characters of an argument are shown.
 const MOST_SHOWN: usize = 60;
@@ -74,6 +74,7 @@ fn sign_of(value: Value) -> &'static str {
         Value::Table => "WHICH",
         Value::Date => "DATE",
         Value::Zone => "ZONE",
+        Value::After => "AFTER",
         Value::Moment => "--at",
         Value::Port => "--port",
         Value::Count => "--count",
@@ -85,9 +86,10 @@ fn wanted_as(value: Value) -> &'static str {
     match value {
         Value::File => "an SQLite database, or :memory:",
         Value::Feed => FEEDS,
-        Value::Table => "entries or rentals",
+        Value::Table => TABLES,
         Value::Date => "a day's date as 2024-03-31",
         Value::Zone => "a POSIX time zone as CET-1CEST,M3.5.0,M10.5.0/3",
+        Value::After => "a whole number from 0 to 9223372036854775807, with no leading zeros",
         Value::Import => "1 to 36 of a-z 0-9 _ -",
         Value::Moment => "a whole number from 0 to 253402300799, with no leading zeros",
         Value::Port => "a whole number from 0 to 65535, with no leading zeros",

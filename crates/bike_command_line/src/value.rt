@@ -18,6 +18,8 @@ pub enum Value {
     Date,
     /// The ZONE of a day.
     Zone,
+    /// The AFTER of a history.
+    After,
     /// The NAME of an import.
     Import,
     /// The moment, behind `--at`.
@@ -39,6 +41,7 @@ impl Value {
             Value::Table => "which",
             Value::Date => "date",
             Value::Zone => "zone",
+            Value::After => "after",
             Value::Moment => "at",
             Value::Port => "port",
             Value::Count => "count",
@@ -51,7 +54,8 @@ impl Value {
         ensures { result ≡ value_behind word option.now }
     {
         match word {
-            Word::Init | Word::Check | Word::Raise | Word::Lines | Word::Day => None,
+            Word::Init | Word::Check | Word::Raise | Word::Lines | Word::Day | Word::History =>
+                None,
             Word::Feed | Word::Import => match option {
                 "--at" => Some(Value::Moment),
                 _ => None,

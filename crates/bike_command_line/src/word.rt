@@ -18,6 +18,8 @@ pub enum Word {
     Feed,
     /// Writes a table of a day.
     Day,
+    /// Writes accepted requests.
+    History,
     /// Adds stations.
     Import,
     /// Answers HTTP requests.
@@ -36,6 +38,7 @@ impl Word {
             Word::Lines => "lines",
             Word::Feed => "feed",
             Word::Day => "day",
+            Word::History => "history",
             Word::Import => "import",
             Word::Serve => "serve",
         }
@@ -53,6 +56,7 @@ impl Word {
             "lines" => Some(Word::Lines),
             "feed" => Some(Word::Feed),
             "day" => Some(Word::Day),
+            "history" => Some(Word::History),
             "import" => Some(Word::Import),
             "serve" => Some(Word::Serve),
             _ => None,

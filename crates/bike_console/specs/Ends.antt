@@ -21,6 +21,8 @@ use Rattle.bike_feeds.specs.declared.fault.FeedFault.{FeedFault}
 use Rattle.bike_feeds.specs.declared.fault.FeedFault.TheVariants as feed
 use Rattle.bike_batch.specs.declared.day_fault.DayTableFault.{DayTableFault}
 use Rattle.bike_batch.specs.declared.day_fault.DayTableFault.TheVariants as table
+use Rattle.bike_batch.specs.declared.history_fault.HistoryFault.{HistoryFault}
+use Rattle.bike_batch.specs.declared.history_fault.HistoryFault.TheVariants as history
 use Rattle.bike_batch.specs.declared.import_fault.ImportFault.{ImportFault}
 use Rattle.bike_batch.specs.declared.import_fault.ImportFault.TheVariants as stations
 use Rattle.bike_batch.specs.declared.line_fault.LinesFault.{LinesFault}
@@ -119,6 +121,10 @@ abbrev pub table_fault : DayTableFault → Fault
 table_fault (table.Day fault) = day_fault fault
 table_fault table.Write = WriteFailed
 table_fault (table.Desk fault) = fault_of_desk fault
+
+abbrev pub history_fault : HistoryFault → Fault
+history_fault history.Write = WriteFailed
+history_fault (history.Desk fault) = fault_of_desk fault
 
 abbrev pub import_fault : ImportFault → Fault
 import_fault stations.BadHeader = BadHeader

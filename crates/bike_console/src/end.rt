@@ -8,11 +8,11 @@ ghost use Rattle.bike_migrate.specs.Raising.{handed as handed_back};
 ghost use Rattle.bike_console.specs.Pieces.{Puts, PutsLine};
 ghost use Rattle.bike_console.specs.Ends.{word_of, row_detail, detail_of, fault_status, status_of, line_of};
 ghost use Rattle.bike_console.specs.Ends.{adopt_fault, raise_fault, day_fault, fault_of_desk, feed_fault, import_fault};
-ghost use Rattle.bike_console.specs.Ends.{table_fault};
+ghost use Rattle.bike_console.specs.Ends.{history_fault, table_fault};
 
 use crate::pieces::{put, put_key, put_number};
 use bike_audit::{AdoptCause, AdoptFault};
-use bike_batch::{DayTableFault, ImportFault, LinesFault};
+use bike_batch::{DayTableFault, HistoryFault, ImportFault, LinesFault};
 use bike_commands::Refusal;
 use bike_desk::DeskFault;
 use bike_feeds::FeedFault;
@@ -139,6 +139,16 @@ impl Fault {
             DayTableFault::Day(fault) => Fault::of_day(fault),
             DayTableFault::Write => Fault::WriteFailed,
             DayTableFault::Desk(fault) => Fault::of_desk(fault),
+        }
+    }
+
+    /// The fault of the history.
+    pub fn of_history(fault: HistoryFault) -> Fault
+        ensures { result ≡ history_fault fault }
+    {
+        match fault {
+            HistoryFault::Write => Fault::WriteFailed,
+            HistoryFault::Desk(fault) => Fault::of_desk(fault),
         }
     }
 

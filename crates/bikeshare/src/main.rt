@@ -16,7 +16,7 @@ use std::process::ExitCode;
 /// The status of words that aren't the program's.
 const WRONG_WORDS: u8 = 2;
 
-/// How many bytes of a feed or a table are written at once.
+/// How many bytes of a feed, a table or the history are written at once.
 const PIECE: usize = 65_536;
 
 /// Tells what is wrong with the words, and how the program is used; that this can't be written changes nothing.
@@ -38,7 +38,11 @@ fn lent(alloc: Global, texts: &[String]) -> Result<Vec<&str>, AllocError> {
 fn is_looked_on(rt: &HostRuntime, task: &FileTask<'_>) -> bool {
     match task {
         FileTask::Check | FileTask::Raise | FileTask::Import { .. } => rt.stderr().is_terminal(),
-        FileTask::Init | FileTask::Lines | FileTask::Feed { .. } | FileTask::Day { .. } => false,
+        FileTask::Init
+        | FileTask::Lines
+        | FileTask::Feed { .. }
+        | FileTask::Day { .. }
+        | FileTask::History { .. } => false,
     }
 }
 
@@ -114,7 +118,9 @@ fn run_task(rt: &HostRuntime, task: &FileTask<'_>, file: &str) -> Result<u64, Fa
     requires { IsWithinOnFile task.now }
 {
     match task {
-        FileTask::Feed { .. } | FileTask::Day { .. } => publish(rt, task, file),
+        FileTask::Feed { .. } | FileTask::Day { .. } | FileTask::History { .. } => {
+            publish(rt, task, file)
+        }
         FileTask::Init
         | FileTask::Check
         | FileTask::Raise

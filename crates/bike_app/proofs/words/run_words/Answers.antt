@@ -29,3 +29,6 @@ returns-in-Raise-clause-kept g c clean s stands live db h =
 
 pub returns-in-Day-clause-done : goal.returns-in-Day-clause-done
 returns-in-Day-clause-done g c clean = rw c.in-Day.is (Keeps-refl _, c.report_day.ensures.told clean)
+
+pub returns-in-History-clause-done : goal.returns-in-History-clause-done
+returns-in-History-clause-done g c clean = rw c.in-History.is (Keeps-refl _, c.report_history.ensures.told clean)
