@@ -1,7 +1,7 @@
-"""Words that only look. `check`, `feed`, `day` and `history` change nothing: no byte of FILE and of its log, whatever these hold,
-and not FILE's journal mode. They make no table, and leave no log where there was none. They and `raise` make no FILE. A
-file that is refused gets no log, and a log whose header is damaged is refused by every word. So is a file in which
-something else has a name that our tables take.
+"""Words that only look. `check`, `feed`, `day` and `history` change nothing: no byte of FILE and of its log, whatever
+these hold, and not FILE's journal mode. They make no table, and leave no log where there was none. They and `raise`
+make no FILE. A file that is refused gets no log, and a log whose header is damaged is refused by every word. So is a
+file in which something else has a name that our tables take.
 """
 
 import collections
