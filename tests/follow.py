@@ -446,13 +446,13 @@ def test_two_followers(program):
             assert stopped(child).status == 0
         assert place.rows() == rows
         # One that comes while the other ends goes on behind it.
-        city.rows = rows
-        with place.following(city.url) as one, place.following(city.url) as two:
-            until(lambda: one.poll() is None and two.poll() is None and children(one.pid) + children(two.pid))
-            one.send_signal(signal.SIGTERM)
-            one.communicate(timeout=SECONDS)
-            if two.poll() is None:
-                assert stopped(two).status == 0
+        with place.following(city.url) as one:
+            until(lambda: children(one.pid))
+            with place.following(city.url) as two:
+                time.sleep(0.5)
+                assert two.poll() is None and not children(two.pid), "it doesn't wait"
+                assert stopped(one).status == 0
+                assert line_of(two) == b"follows after request 100\n" and stopped(two).status == 0
     assert place.rows() == rows
 
 
@@ -659,7 +659,7 @@ def test_a_full_disk(program):
     with disk(place.folder / "small", 1 << 20), City(rows) as city:
         place.begin(rows[:5], "small/copy.db")
         ended = place.follow(city.url, "--once", name="small/copy.db")
-        assert ended.status in (7, 8) and "store failed" in ended.said[0], ended
+        assert ended.status == 7 and "store failed" in ended.said[0], ended
         left = taken(place.folder / "small/copy.db")
         put(left, place.folder, "copy.db")
     with City(rows) as city:
