@@ -25,9 +25,10 @@ from pathlib import Path
 
 import raising
 import tampered
+from operating import TOKENS, Gateway
 from package import sections_of
 from shared import (
-    HISTORY, READY, SOUND, TOP, Server, can_mount, disk, free_port, is_sound, line_of, loaded, put, ran, taken,
+    HISTORY, READY, SOUND, TOP, Server, can_mount, disk, free_port, is_sound, line_of, loaded, needs, put, ran, taken,
 )
 
 SCRIPT = TOP / "deploy/bikeshare-follow"
@@ -526,6 +527,26 @@ def test_words_that_are_wrong(program):
         # A link leads to the file beside which the log is.
         (place.folder / "link.db").symlink_to("copy.db")
         assert place.follow(city.url, "--once", name="link.db").status == 0
+
+
+@needs("nginx")
+def test_through_the_gateway(program):
+    """With a token of the office it gets the history, page by page, and with another's, or none, it is turned away."""
+    place, rows = Place(program), made(400)
+    place.begin(rows[:20])
+    # The gateway knows the city by its host name, which leads here.
+    text = SCRIPT.read_text(encoding="utf-8")
+    named = text.replace('{"Authorization": f"Bearer {token}"}', '{"Host": HOST, "Authorization": f"Bearer {token}"}')
+    named = named.replace("\nFULL,", '\nHOST = "metro.example"\nFULL,').replace(" if token else {}", "")
+    (place.folder / "named").write_text(named, encoding="utf-8")
+    with City(rows) as city, Gateway(program, {"metro": city.server.server_address[1]}) as gateway:
+        url, how = f"http://127.0.0.1:{gateway.port}", {"script": place.folder / "named"}
+        for caller, said in ("rider:17", "403 (the token isn't the office's)"), ("none", "401 (the token isn't known"):
+            ended = place.follow(url, "--once", BIKESHARE_TOKEN=TOKENS.get(caller, "f" * 32), **how)
+            assert ended.status == 1 and f"answered {said}" in ended.said[0] and not city.asked, (caller, ended)
+        ended = place.follow(url, "--once", BIKESHARE_TOKEN=TOKENS["office:anna"], **how)
+        assert ended.status == 0 and {it for it, *_ in city.asked} == {"GET"}, ended
+    assert place.rows() == rows
 
 
 def test_page_and_completion(program):
