@@ -268,6 +268,25 @@ def test_all_requests_in_their_order(program):
     assert place.rows() == rows
 
 
+def test_how_often_it_asks(program):
+    """Pages that are full follow at once, others after a second; a signal ends that pause at once."""
+    place, rows = Place(program), made(400)
+    place.begin([])
+    with City(rows) as city:
+        with place.following(city.url, "--every", "60") as child:
+            until(lambda: city.asked and city.asked[-1][1] == "/history/378")
+            time.sleep(1)
+            since = time.monotonic()
+            assert stopped(child).status == 0 and time.monotonic() - since < 10
+        assert place.rows() == rows and len(city.asked) == 7, city.asked
+        city.asked.clear()
+        with place.following(city.url, "--every", "1") as child:
+            until(lambda: city.asked)
+            time.sleep(3)
+            assert stopped(child).status == 0
+        assert 2 <= len(city.asked) <= 5, city.asked
+
+
 def test_from_the_first_request(program):
     """A copy without a request begins with the first one."""
     place, rows = Place(program), made(65)
@@ -447,14 +466,16 @@ def test_two_followers(program):
             assert stopped(child).status == 0
         assert place.rows() == rows
         # One that comes while the other ends goes on behind it.
-        with place.following(city.url) as one:
-            until(lambda: children(one.pid))
-            with place.following(city.url) as two:
+        place.begin(rows[:20], "pair.db")
+        city.asked.clear()
+        with place.following(city.url, name="pair.db") as one:
+            until(lambda: city.asked and city.asked[-1][1] == "/history/99")
+            with place.following(city.url, name="pair.db") as two:
                 time.sleep(0.5)
                 assert two.poll() is None and not children(two.pid), "it doesn't wait"
                 assert stopped(one).status == 0
                 assert line_of(two) == b"follows after request 100\n" and stopped(two).status == 0
-    assert place.rows() == rows
+    assert place.rows("pair.db") == rows
 
 
 def test_signals(program):
@@ -509,6 +530,7 @@ def test_words_that_are_wrong(program):
             (["absent.db", city.url], "absent.db: No such file or directory"), ([".", city.url], ".: Is a directory"),
             (["text.db", city.url], "text.db: it is no city of this version"), (["none.db", city.url], "no such table"),
             (["copy.db", "metro.example"], "is no address"), (["copy.db", "ftp://metro.example"], "is no address"),
+            (["copy.db", "http://"], "is no address"), (["copy.db", "http://a b"], "is no address"),
             (["copy.db", city.url, "--token-file", "absent"], "absent can't be read"),
             (["copy.db", city.url, "--token-file", "blank"], "has no token"), ([], "usage"), (["copy.db"], "usage"),
             (["copy.db", city.url, "--every", "0"], "usage"), (["copy.db", city.url, "--every", "x"], "usage"),
@@ -517,6 +539,8 @@ def test_words_that_are_wrong(program):
             assert status == 2 and said in text, (words, status, text)
         status, text = ran(SCRIPT, "copy.db", city.url, cwd=place.folder, env={**os.environ, "BIKESHARE": "/nowhere"})
         assert status == 2 and "No such file or directory: /nowhere" in text, text
+        status, text = ran(SCRIPT, "copy.db", city.url, cwd=place.folder, env=place.env(BIKESHARE_TOKEN="a\nb"))
+        assert status == 2 and "BIKESHARE_TOKEN has no token" in text, text
         assert not city.asked and sorted(it.name for it in place.folder.iterdir()) == before
         for words, env, shown in (
             (["--token-file", "token"], {}, f"Bearer {'0f' * 16}"), ([], {"BIKESHARE_TOKEN": "abc"}, "Bearer abc"),
