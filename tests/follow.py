@@ -28,7 +28,8 @@ import tampered
 from operating import TOKENS, Gateway
 from package import sections_of
 from shared import (
-    HISTORY, READY, SOUND, TOP, Server, can_mount, disk, free_port, is_sound, line_of, loaded, needs, put, ran, taken,
+    HISTORY, READY, SOUND, TOP, Server, can_mount, disk, free_port, is_sound, line_of, loaded, needs, put, ran, removed,
+    taken,
 )
 
 SCRIPT = TOP / "deploy/bikeshare-follow"
@@ -65,9 +66,12 @@ class Riders:
 
 
 def stands_in(file):
-    """Answers lines over a file whose history alone counts. STANDS_IN has it end, as `3 5 store failed` after three
-    lines with status 5, or answer a line wrongly, as `3 wrong`."""
+    """Answers lines over a file whose history alone counts. STANDS_IN has it end, as by `3 5 unsound bikes 7` at the
+    third line with status 5, or before the first by a 0, or answer a line wrongly, as `3 wrong`."""
     count, how, *said = os.environ.get("STANDS_IN", "0").split(" ", 2) + ["", ""]
+    if count == "0" and how:
+        print(said[0], file=sys.stderr)
+        return int(how)
     base = sqlite3.connect(file, isolation_level=None, timeout=0)
     try:
         base.executescript("PRAGMA locking_mode = EXCLUSIVE; PRAGMA journal_mode = WAL; BEGIN IMMEDIATE; COMMIT")
@@ -429,7 +433,17 @@ def test_a_program_that_ends(program):
             # It goes on behind that, once the log is brought in.
             assert place.follow(city.url, "--once").lines[0] == f"follows after request {left}"
             assert place.rows() == rows
-            (place.folder / "copy.db").unlink()
+            removed(place.folder, "copy.db")
+        # It may end before it answers, also as it brings in a log that was left.
+        for status, how, wanted in ((5, "unsound bikes 7", 8), (5, "older 3", 8), (3, "store failed", 7)):
+            for has_log in False, True:
+                place.begin(rows[:20])
+                if has_log:
+                    assert place.follow(city.url, STANDS_IN="9 3 store failed").status == 7
+                ended = place.follow(city.url, STANDS_IN=f"0 {status} {how}")
+                said = f"copy.db: bikeshare lines ended with status {status}: {how}"
+                assert (ended.status, ended.said) == (wanted, [said]), (has_log, ended)
+                removed(place.folder, "copy.db")
         # An answer that isn't the recorded one ends it, and what was done for it stays.
         place.begin(rows[:20])
         ended = place.follow(city.url, STANDS_IN="5 wrong")
