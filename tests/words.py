@@ -280,12 +280,8 @@ def test_what_was_typed_is_shown_on_one_line(program):
         ("y" * 100_000, "y" * 60 + ".."),
     ):
         is_mistaken(program, f"NAME is {shown}; wanted is {FEEDS}", "feed", "city.db", text)
-        is_mistaken(
-            program,
-            f"{shown} is no subcommand of bikeshare; wanted is init, check, raise, lines, feed, day, history, import or "
-            "serve",
-            text,
-        )
+        wanted = "init, check, raise, lines, feed, day, history, import or serve"
+        is_mistaken(program, f"{shown} is no subcommand of bikeshare; wanted is {wanted}", text)
 
 
 def test_words_that_are_not_utf_8(program):
