@@ -52,6 +52,9 @@ BOUNDS = {
     "MOST_FIELDS": 32,
     "HEAD_LENGTH": 8192,
     "BODY_LENGTH": 16384,
+    "GREATEST_AFTER": 2**63 - 1,
+    "GREATEST_REQUEST": 2**63 - 1,
+    "REQUESTS_A_PAGE": 64,
 }
 
 # How long the server waits, how many connections, calls and descriptors it counts, and how much it holds of each. A

@@ -112,6 +112,7 @@ def test_a_file_without_tables_has_an_empty_day(program):
     changed(Path(program.folder, "city.db"), "CREATE TABLE notes (note TEXT)")
     assert table(program, "entries", "2024-03-31", "UTC0") == ENTRIES
     assert table(program, "rentals", "2024-03-31", "UTC0") == RENTALS
+    assert table(program, "requests", "2024-03-31", "UTC0") == REQUESTS
 
 
 def test_refused_days(program):

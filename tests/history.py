@@ -117,7 +117,7 @@ def test_where_nothing_is_behind(program):
 def test_words_that_are_no_number(program):
     """AFTER is a whole number within the bounds of a row's; others are mistakes of the command line."""
     city(program)
-    for after in "-1", "+1", "1.0", "x", "", " 1", "1e3", str(LAST + 1), "9" * 40:
+    for after in "-1", "+1", "01", "00", "1.0", "x", "", " 1", "1e3", str(LAST + 1), "9" * 40:
         status, out, said = program.run("history", "city.db", *(["--"] if after.startswith("-") else []), after)
         assert (status, out) == (2, b"") and said.startswith(b"bikeshare: "), (after, status, out, said)
     assert program.run("history", "city.db", "1", "2")[0] == 2

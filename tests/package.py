@@ -291,7 +291,7 @@ def usage_of(program):
     words = [it for it in rows if not it[0].startswith("-")]
     options = [it for it in rows if it[0].startswith("-")]
     values = [it for it in lines if it and not it.startswith(" ")]
-    assert status == 2 and len(words) == 9 and len(options) == 3 and len(values) == 5, said
+    assert status == 2 and len(words) == 9 and len(options) == 3 and len(values) == 6, said
     return first.removeprefix("usage: "), words, options, values
 
 
@@ -364,7 +364,7 @@ def test_completion(program):
         (folder / file).touch()
     names = [form.split()[0] for form, _ in words]
     feeds = re.findall(r"\w+", values[0].split(" is ", 1)[1].replace(" or ", " "))
-    tables = re.findall(r"\w+", values[1].split(" is ", 1)[1].split(",", 1)[0].replace(" or ", " "))
+    tables = re.findall(r"\w+", values[1].split(" is ", 1)[1].split(", DATE", 1)[0].replace(" or ", " "))
     assert completed(folder, "") == names and completed(folder, "ch") == ["check"]
     for form, _ in words:
         name = form.split()[0]

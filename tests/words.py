@@ -21,13 +21,15 @@ ADD_AGAIN = b"1700000000\toffice\tk1\tadd-rider\t17\n"
 # Each word with what it takes, and what is wanted of its values.
 FORMS = (
     "init FILE", "check FILE", "raise FILE", "lines FILE", "feed FILE NAME [--at M]", "day FILE WHICH DATE ZONE",
-    "import FILE NAME [--at M]", "serve FILE --port P [--count N]",
+    "history FILE [AFTER]", "import FILE NAME [--at M]", "serve FILE --port P [--count N]",
 )
 FILE = "an SQLite database, or :memory:"
 FEEDS = (
     "gbfs, system_information, vehicle_types, station_information, station_status, system_pricing_plans or "
     "system_regions"
 )
+TABLES = "entries, rentals or requests"
+AFTER = "a whole number from 0 to 9223372036854775807, with no leading zeros"
 ZONE = "a POSIX time zone as CET-1CEST,M3.5.0,M10.5.0/3"
 IDENT = "1 to 36 of a-z 0-9 _ -"
 MOMENT = "a whole number from 0 to 253402300799, with no leading zeros"
@@ -168,6 +170,7 @@ def test_usage_of_a_word(program):
             and ("An import's NAME is " in said) == form.startswith("import ")
         ), (form, said)
         assert ("WHICH is " in said) == form.startswith("day ") and "\nFILE is " in said, (form, said)
+        assert ("AFTER is " in said) == form.startswith("history "), (form, said)
 
 
 def test_help(program):
@@ -180,7 +183,7 @@ def test_help(program):
 
 
 def test_first_words_that_are_none(program):
-    wanted = "init, check, raise, lines, feed, day, import or serve"
+    wanted = "init, check, raise, lines, feed, day, history, import or serve"
     for words in (
         ["start", "city.db"], ["Init", "city.db"], ["city.db"], ["-x"], ["--"], ["--", "init", "city.db"],
         ["help", "nothing"],
@@ -190,13 +193,13 @@ def test_first_words_that_are_none(program):
 
 
 def test_values_that_are_missing(program):
-    for word in "init", "check", "raise", "lines", "feed", "day", "import", "serve":
+    for word in "init", "check", "raise", "lines", "feed", "day", "history", "import", "serve":
         is_mistaken(program, f"FILE is missing; wanted is {FILE}", word)
     is_mistaken(program, f"FILE is missing; wanted is {FILE}", "serve", "--port", "x")
     is_mistaken(program, f"NAME is missing; wanted is {FEEDS}", "feed", "gbfs")
     is_mistaken(program, f"NAME is missing; wanted is {FEEDS}", "feed", "city.db", "--at", "x")
     is_mistaken(program, f"NAME is missing; wanted is {IDENT}", "import", "city.db")
-    is_mistaken(program, "WHICH is missing; wanted is entries or rentals", "day", "city.db")
+    is_mistaken(program, f"WHICH is missing; wanted is {TABLES}", "day", "city.db")
     is_mistaken(program, "DATE is missing; wanted is a day's date as 2024-03-31", "day", "city.db", "entries")
     is_mistaken(program, f"ZONE is missing; wanted is {ZONE}", "day", "city.db", "entries", "2024-03-31")
     is_mistaken(program, f"--port is missing; wanted is {PORT}", "serve", "city.db", "--count", "1")
@@ -228,9 +231,9 @@ def test_values_that_are_bad(program):
         is_mistaken(program, f"--at is {text}; wanted is {MOMENT}", "import", "--at", text, "city.db", "spring")
     is_mistaken(program, f"NAME is nothing; wanted is {FEEDS}", "feed", "city.db", "nothing", "--at", "x")
     is_mistaken(program, f"NAME is Spring; wanted is {IDENT}", "import", "city.db", "Spring")
-    is_mistaken(
-        program, "WHICH is riders; wanted is entries or rentals", "day", "city.db", "riders", "2024-03-31", "UTC0"
-    )
+    is_mistaken(program, f"WHICH is riders; wanted is {TABLES}", "day", "city.db", "riders", "2024-03-31", "UTC0")
+    for text, shown in ("x", "x"), ("01", "01"), ("9223372036854775808", "9223372036854775808"), ("", "(empty)"):
+        is_mistaken(program, f"AFTER is {shown}; wanted is {AFTER}", "history", "city.db", text)
 
 
 def test_options_without_a_value_or_twice(program):
@@ -263,6 +266,7 @@ def test_words_too_many(program):
     is_mistaken(
         program, "-1 is unexpected; wanted is day FILE WHICH DATE ZONE", "day", "city.db", "entries", "-1", "UTC0"
     )
+    is_mistaken(program, "7 is unexpected; wanted is history FILE [AFTER]", "history", "city.db", "1", "7")
     is_mistaken(program, "0 is unexpected; wanted is serve FILE --port P [--count N]", "serve", "city.db", "0")
     is_mistaken(program, "more is unexpected; wanted is init FILE", "init", "city.db", "more", *["word"] * 10_000)
 
@@ -276,11 +280,8 @@ def test_what_was_typed_is_shown_on_one_line(program):
         ("y" * 100_000, "y" * 60 + ".."),
     ):
         is_mistaken(program, f"NAME is {shown}; wanted is {FEEDS}", "feed", "city.db", text)
-        is_mistaken(
-            program,
-            f"{shown} is no subcommand of bikeshare; wanted is init, check, raise, lines, feed, day, import or serve",
-            text,
-        )
+        wanted = "init, check, raise, lines, feed, day, history, import or serve"
+        is_mistaken(program, f"{shown} is no subcommand of bikeshare; wanted is {wanted}", text)
 
 
 def test_words_that_are_not_utf_8(program):
@@ -294,7 +295,7 @@ def test_words_that_are_not_utf_8(program):
 EVERY_WORD = [
     ["init", "city.db"], ["check", "city.db"], ["lines", "city.db"], ["feed", "city.db", "gbfs"], imports.IMPORT,
     ["feed", "city.db", "station_status", "--at", "0"], ["day", "city.db", "entries", "2023-11-14", "UTC0"],
-    ["day", "city.db", "rentals", "2023-02-29", "UTC0"],
+    ["day", "city.db", "rentals", "2023-02-29", "UTC0"], ["history", "city.db"],
     ["serve", "city.db", "--port", "0", "--count", "1"],
 ]
 
