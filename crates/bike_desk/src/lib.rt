@@ -7,6 +7,7 @@
 mod day;
 mod desk;
 mod fault;
+mod history;
 mod newest;
 mod queries;
 mod remembered;

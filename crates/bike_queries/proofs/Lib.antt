@@ -15,3 +15,5 @@ mod GroupLaw
 pub mod PageLaw
 mod PageTexts
 mod PageRows
+mod RequestTexts
+mod RequestLemmas

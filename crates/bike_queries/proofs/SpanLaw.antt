@@ -23,7 +23,7 @@ use Rattle.bike_sql.proofs.SelectLaws.{every_column, first_passing}
 use Rattle.bike_sql.proofs.TestLemmas.{truth_of}
 use Rattle.bike_sql.proofs.TextLemmas.{IsSelect}
 use Rattle.bike_sql.proofs.WalkLaw.{Finds}
-use Rattle.bike_book.specs.Tables.{TableName, rows_in, Rentals, Entries}
+use Rattle.bike_book.specs.Tables.{TableName, rows_in, Rentals, Entries, History}
 use Rattle.bike_book.specs.Rows.{number_value}
 use Rattle.bike_book.proofs.Keys.{value_cmp-number_value}
 use Rattle.bike_schema.specs.Layouts.{layout_of}
@@ -35,7 +35,7 @@ use Rattle.bike_schema.proofs.WithinLaw.{and_true, shows_every}
 -- ---- the tests of a WHERE
 
 -- `>` with a whole number is the order of values
-over_test : (v : Value) (n : ℤ) → is_true (binary (Compare Gt Binary) v (Int n)) ≡ is_gt (value_cmp v (Int n))
+pub over_test : (v : Value) (n : ℤ) → is_true (binary (Compare Gt Binary) v (Int n)) ≡ is_gt (value_cmp v (Int n))
 unfolding binary
 over_test Null n = sym (ap is_gt (value_cmp-Null (Int n)))
 over_test (Int m) n = truth_of (is_gt (value_cmp (Int m) (Int n)))
@@ -89,6 +89,12 @@ pub finds_ended_after : (number begin end : ℕ)
 unfolding everything
 finds_ended_after number begin end = spanned_in Rentals 7 8 number begin end (λ r. refl) (λ r. refl) (λ tree. refl, refl)
 
+pub finds_request_after : (number begin end : ℕ)
+    → FindsIn (codes "SELECT * FROM history WHERE number > ?1 AND moment >= ?2 AND moment < ?3 ORDER BY number LIMIT 1") (span_params number begin end)
+    (λ t. slice_get (filter (is_spanned 1 number begin end) t.history) 0)
+unfolding everything
+finds_request_after number begin end = spanned_in History 1 2 number begin end (λ r. refl) (λ r. refl) (λ tree. refl, refl)
+
 -- ---- numbers in place of values
 
 before_is : (a b : ℕ) → is_lt (nat_cmp a b) ≡ nat_lt a b
@@ -112,8 +118,8 @@ same_behind number most n within = by (nat_lt number n) refl where
   by true is = lt-ltb (min number most) n (omega (arith, ltb-true number n is))
   by false is = le-ltb (min number most) n (omega (arith, ltb-false number n is, within))
 
-behind_number : (number most n : ℕ) → n ≤ most → is_gt (value_cmp (number_value n) (number_value (min number most))) ≡ nat_lt number n
-behind_number number most n within = ap is_gt (value_cmp-number_value n (min number most)) ∙ behind_is n (min number most) ∙ same_behind number most n within
+pub behind_number : (number n : ℕ) → is_gt (value_cmp (number_value n) (number_value number)) ≡ nat_lt number n
+behind_number number n = ap is_gt (value_cmp-number_value n number) ∙ behind_is n number
 
 between_is : (begin end at : ℕ) → is_between begin end (number_value at) ≡ lies_in begin end at
 between_is begin end at =
@@ -122,15 +128,23 @@ between_is begin end at =
 null_between : (begin end : ℕ) → is_between begin end Null ≡ false
 null_between begin end = ap (λ a. not (is_lt a) && false) (value_cmp-Null (number_value begin))
 
--- what the tests say of a row with this number and a moment, or with NULL in place of the moment
-pub spanned_is : (at number most begin end n moment : ℕ) (row : Row) → n ≤ most → column row 0 ≡ number_value n → column row at ≡ number_value moment
+-- what the tests say of a row with this number and a moment
+pub spanned_is : (at number begin end n moment : ℕ) (row : Row) → column row 0 ≡ number_value n → column row at ≡ number_value moment
+    → is_spanned at number begin end row ≡ (nat_lt number n && lies_in begin end moment)
+spanned_is at number begin end n moment row first shown =
+    ap₂ (λ a b. is_gt (value_cmp a (number_value number)) && is_between begin end b) first shown
+    ∙ ap₂ (λ a b. a && b) (behind_number number n) (between_is begin end moment)
+
+-- .. of one whose number is at most the greatest
+pub spanned_within : (at number most begin end n moment : ℕ) (row : Row) → n ≤ most → column row 0 ≡ number_value n → column row at ≡ number_value moment
     → is_spanned at (min number most) begin end row ≡ (nat_lt number n && lies_in begin end moment)
-spanned_is at number most begin end n moment row within first shown =
-    ap₂ (λ a b. is_gt (value_cmp a (number_value (min number most))) && is_between begin end b) first shown
-    ∙ ap₂ (λ a b. a && b) (behind_number number most n within) (between_is begin end moment)
+spanned_within at number most begin end n moment row within first shown =
+    spanned_is at (min number most) begin end n moment row first shown ∙ ap (λ b. b && lies_in begin end moment) (same_behind number most n within)
+
+-- .. and with NULL in place of the moment
 
 pub never_spanned : (at number most begin end n : ℕ) (row : Row) → n ≤ most → column row 0 ≡ number_value n → column row at ≡ Null
     → is_spanned at (min number most) begin end row ≡ (nat_lt number n && false)
 never_spanned at number most begin end n row within first shown =
     ap₂ (λ a b. is_gt (value_cmp a (number_value (min number most))) && is_between begin end b) first shown
-    ∙ ap₂ (λ a b. a && b) (behind_number number most n within) (null_between begin end)
+    ∙ ap₂ (λ a b. a && b) (behind_number (min number most) n ∙ same_behind number most n within) (null_between begin end)

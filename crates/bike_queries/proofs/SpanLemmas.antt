@@ -17,7 +17,7 @@ use Rattle.bike_book.specs.Stored.{numbers_from, with_numbers, stored_entry, sto
 use Rattle.bike_operator.specs.declared.rental_info.RentalInfo.{RentalInfo}
 use Rattle.bike_queries.specs.Spans.{lies_in, ends_in, entry_after, ended_after, ended_info}
 use Rattle.bike_queries.proofs.AfterLaw.{first_passed}
-use Rattle.bike_queries.proofs.SpanLaw.{is_spanned, spanned_is, never_spanned}
+use Rattle.bike_queries.proofs.SpanLaw.{is_spanned, spanned_within, never_spanned}
 
 -- ---- members of numbered lists
 
@@ -59,7 +59,7 @@ entry_found s sound number begin end start is =
     ap (λ n. slice_get (filter (is_spanned 5 n begin end) (map stored_entry (with_numbers s.entries))) 0) is
     ∙ ap (λ rows. slice_get (filter (is_spanned 5 (min number MOST_ENTRIES) begin end) rows) 0) (own_rows 1 s.entries (λ i e at. (sound.ledger.entries (suc i) e at).number_is ∙ omega arith))
     ∙ first_passed own_row (is_spanned 5 (min number MOST_ENTRIES) begin end) (λ e. nat_lt number e.number && lies_in begin end e.at) s.entries
-    (λ e has. spanned_is 5 number MOST_ENTRIES begin end e.number e.at (own_row e) (within e has) refl refl)
+    (λ e has. spanned_within 5 number MOST_ENTRIES begin end e.number e.at (own_row e) (within e has) refl refl)
   where
     within : (e : Entry) → Has s.entries e → e.number ≤ MOST_ENTRIES
     within e has =
@@ -72,7 +72,7 @@ entry_found s sound number begin end start is =
 ended_is : (number begin end n : ℕ) (r : Rental) (refunded : ℤ) (closing : Option Closing) → n ≤ MOST_ENTRIES
     → is_spanned 7 (min number MOST_ENTRIES) begin end (rental_row n (record r { closing = closing }) refunded) ≡ (nat_lt number n && ends_in begin end closing)
 ended_is number begin end n r refunded None within = never_spanned 7 number MOST_ENTRIES begin end n (rental_row n (record r { closing = None }) refunded) within refl refl
-ended_is number begin end n r refunded (Some c) within = spanned_is 7 number MOST_ENTRIES begin end n c.finish (rental_row n (record r { closing = Some c }) refunded) within refl refl
+ended_is number begin end n r refunded (Some c) within = spanned_within 7 number MOST_ENTRIES begin end n c.finish (rental_row n (record r { closing = Some c }) refunded) within refl refl
 
 -- the row that is found is that of the first rental that ended in the span
 pub ended_found : (s : Operator) → IsSound s → (number begin end start : ℕ) → start ≡ min number MOST_ENTRIES

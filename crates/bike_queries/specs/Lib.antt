@@ -3,3 +3,4 @@ pub mod StationCounts
 pub mod After
 pub mod Pages
 pub mod Spans
+pub mod Requests
