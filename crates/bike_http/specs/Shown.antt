@@ -1,4 +1,4 @@
--- What an operator shows: the row that is asked for.
+-- What an operator shows: the row that is asked for, or a page of its history.
 use Rattle.std.specs.Prelude.{ℕ, Option, Some, None}
 use Rattle.std.specs.FinMap as map
 use Rattle.bike_ledger.specs.Ledger.{balance_of, refunded_of}
@@ -6,6 +6,7 @@ use Rattle.bike_operator.specs.declared.records.Rental.{Rental}
 use Rattle.bike_operator.specs.Operator.{Operator, Rider, item_numbered}
 use Rattle.bike_office_reads.specs.Newest.{open_number}
 use Rattle.bike_queries.specs.Infos.{rental_info}
+use Rattle.bike_queries.specs.Requests.{request_page}
 use Rattle.bike_http_head.specs.declared.rejection.Rejection.TheVariants.{NotFound}
 use Rattle.bike_http_head.specs.declared.row_key.RowKey.{RowKey}
 use Rattle.bike_http_head.specs.declared.row_key.RowKey.TheVariants as shown
@@ -33,9 +34,10 @@ shown_rider s n r =
 abbrev pub shown_rental : Operator → ℕ → Rental → Answer
 shown_rental s n r = answer.Rental n (rental_info (refunded_of n s.entries) r)
 
--- the row that is shown of an operator
+-- what is shown of an operator; a page without a request is one too
 abbrev pub shown_of : Operator → RowKey → Answer
 shown_of s (shown.Rider n) = shown_or_not_found (shown_rider s n) (map.get s.riders n)
 shown_of s (shown.Bike n) = shown_or_not_found (λ bike. answer.Bike n bike) (map.get s.bikes n)
 shown_of s (shown.Rental n) = shown_or_not_found (shown_rental s n) (item_numbered n s.rentals)
 shown_of s (shown.Order n) = shown_or_not_found (λ order. answer.Order n order) (item_numbered n s.orders)
+shown_of s (shown.History after) = answer.Requests (request_page s after)

@@ -48,7 +48,7 @@ fn act<S: Alter>(alloc: Global, desk: &mut Desk<S>, moment: Moment, request: &Re
     }
 }
 
-/// Asks the desk for a row.
+/// Asks the desk for what is shown of a key.
 fn find_row<S: Alter>(alloc: Global, desk: &mut Desk<S>, row: RowKey) -> Result<Answer, DeskFault>
     ensures { Queries S.Store desk.old desk.new result (λ s answer. answer ≡ shown_of s row) }
 {
@@ -57,10 +57,11 @@ fn find_row<S: Alter>(alloc: Global, desk: &mut Desk<S>, row: RowKey) -> Result<
         RowKey::Bike(bike) => Ok(bike_answer(bike, desk.bike(alloc, bike)?)),
         RowKey::Rental(rental) => Ok(rental_answer(rental, desk.rental(alloc, rental)?)),
         RowKey::Order(order) => Ok(order_answer(order, desk.order(alloc, order)?)),
+        RowKey::History(after) => Ok(Answer::Requests(desk.requests_after(alloc, after)?)),
     }
 }
 
-/// Asks the desk to show a row.
+/// Asks the desk to show what is of a key.
 fn show<S: Alter>(alloc: Global, desk: &mut Desk<S>, row: RowKey) -> Answer
     ensures clean { doubt (desk_state S.Store desk.old).is_clean ≤ doubt (desk_state S.Store desk.new).is_clean }
     ensures told { OfOperator S.Store desk.old desk.new (λ s.

@@ -1,11 +1,11 @@
--- An object whose members are those of a list, written one after the other.
+-- An object whose members are those of a list, written one after the other, and one whose member is an array.
 use Rattle.std.proofs.Common.{◌≡◌, ℕ, zero, suc, ◌+◌, ◌<◌, ◌≤◌, List, [], ◌∷◌, ◌++◌, Bool, true, false, IsTrue, length, drop, get_or, refl, sym, ap, ◌∙◌, arith, append_assoc, append-nil}
 use Rattle.bike_json.specs.Escapes.{string_text}
 use Rattle.bike_json.specs.Outputs.{OutputState}
-use Rattle.bike_json.specs.Tree.{Tree, object, comma, text_of, members_text}
-use Rattle.bike_json.specs.State.{Place, Wrote, WroteNext, IsAt, takes_name, has_more, after_value}
+use Rattle.bike_json.specs.Tree.{Tree, Items, object, array, member, no_members, comma, text_of, members_text, items_text}
+use Rattle.bike_json.specs.State.{Place, Wrote, WroteNext, IsAt, takes_name, takes_value, takes_array_end, has_more, after_value}
 use Rattle.bike_json.specs.declared.level.Level.{Level}
-use Rattle.bike_json.specs.declared.level.Level.TheVariants.{EmptyObject, FilledObject}
+use Rattle.bike_json.specs.declared.level.Level.TheVariants.{Start, Done, EmptyArray, FilledArray, EmptyObject, FilledObject, NamedObject}
 use Rattle.bike_json.proofs.Series.{Wrote_then, Wrote_as}
 use Rattle.bike_http_response.specs.Bodies.{members, member_text}
 
@@ -66,3 +66,29 @@ drop_none [] zero le = refl
 drop_none [] (suc i) le = refl
 drop_none (x ∷ xs) zero le = absurd (omega arith)
 drop_none (x ∷ xs) (suc i) le = drop_none xs i (omega arith)
+
+-- where an array may end, a value may come
+pub takes_item : (level : Level) → IsTrue (takes_array_end level) → IsTrue (takes_value level)
+takes_item Start h = refl
+takes_item Done h = absurd (cc h)
+takes_item EmptyArray h = refl
+takes_item FilledArray h = refl
+takes_item EmptyObject h = absurd (cc h)
+takes_item FilledObject h = absurd (cc h)
+takes_item NamedObject h = refl
+
+one_text : (more : Bool) (name items : List ℕ)
+    → (((((comma more ++ 123 ∷ []) ++ (string_text name ++ 58 ∷ [])) ++ 91 ∷ []) ++ items) ++ 93 ∷ []) ++ 125 ∷ []
+    ≡ comma more ++ (123 ∷ ((string_text name ++ 58 ∷ ((91 ∷ (items ++ 93 ∷ [])) ++ [])) ++ 125 ∷ []))
+one_text more name items = simp (append_assoc, append-nil)
+
+-- an object whose one member is an array
+pub one_array : {p q r s t u v : Place} {a b c d e f g : OutputState} (name : List ℕ) (all : Items)
+    → WroteNext p q a b (123 ∷ []) → q.top ≡ EmptyObject → Wrote q r b c (comma (has_more q.top) ++ string_text name ++ 58 ∷ []) → r.top ≡ NamedObject
+    → WroteNext r s c d (91 ∷ []) → Wrote s t d e (items_text false all) → Wrote t u e f (93 ∷ []) → Wrote u v f g (125 ∷ [])
+    → WroteNext p v a g (text_of (object (member name (array all) no_members)))
+one_array {p} {q} {r} name all begun empty named waits opened items ended closed =
+    let name_only = Wrote_as (ap (λ (l : Level). comma (has_more l) ++ string_text name ++ 58 ∷ []) empty) named in
+    let bracket = Wrote_as (ap (λ (l : Level). comma (has_more l) ++ 91 ∷ []) waits) opened in
+    Wrote_as (one_text (has_more p.top) name (items_text false all))
+    (Wrote_then (Wrote_then (Wrote_then (Wrote_then (Wrote_then begun name_only) bracket) items) ended) closed)

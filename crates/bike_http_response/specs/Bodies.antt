@@ -1,8 +1,9 @@
 -- The JSON bodies of answers.
-use Rattle.std.specs.Prelude.{ℕ, ℤ, pos, List, [], ◌∷◌, ◌++◌, Bool, true, false, codes, Option, Some, None}
+use Rattle.std.specs.Prelude.{ℕ, ℤ, pos, min, List, [], ◌∷◌, ◌++◌, Bool, true, false, codes, Option, Some, None}
 use Rattle.bike_fixed.specs.Text.{moment_text}
 use Rattle.bike_json.specs.Escapes.{string_text}
-use Rattle.bike_json.specs.Tree.{Tree, object, text, whole, flag, Members, no_members, member, comma, text_of}
+use Rattle.bike_json.specs.Rows.{items}
+use Rattle.bike_json.specs.Tree.{Tree, object, array, text, whole, flag, Members, no_members, member, comma, text_of}
 use Rattle.bike_texts.specs.declared.ends.OrderEnd.{OrderEnd}
 use Rattle.bike_texts.specs.declared.ends.OrderEnd.TheVariants.{Depot, Station}
 use Rattle.bike_commands.specs.declared.refusal.Refusal.{Refusal}
@@ -18,6 +19,8 @@ use Rattle.bike_operator.specs.declared.records.Bike.{Bike}
 use Rattle.bike_operator.specs.declared.records.Order.{Order}
 use Rattle.bike_operator.specs.declared.rental_info.ClosingInfo.{ClosingInfo}
 use Rattle.bike_operator.specs.declared.rental_info.RentalInfo.{RentalInfo}
+use Rattle.bike_operator.specs.Requests.{RequestTexts}
+use Rattle.bike_http_head.specs.declared.row_key.TheConstants.{GREATEST_REQUEST}
 use Rattle.bike_http_head.specs.declared.rejection.Rejection.{Rejection}
 use Rattle.bike_http_head.specs.declared.rejection.Rejection.TheVariants as rejection
 use Rattle.bike_http_response.specs.declared.answer.Answer.{Answer}
@@ -150,6 +153,20 @@ order_tree number o =
     (member (codes "type") (text o.type_id) (member (codes "count") (whole (pos o.count))
     (member (codes "delivered") (whole (pos o.delivered)) (member (codes "is_open") (flag o.is_open) no_members))))))))
 
+-- a number beyond the greatest, which no request has, would be told as that
+abbrev pub request_object : RequestTexts → List ℕ → Tree
+request_object r moment =
+    object (member (codes "number") (whole (pos (min r.number GREATEST_REQUEST)))
+    (member (codes "moment") (text moment)
+    (member (codes "caller") (text r.caller) (member (codes "key") (text r.key)
+    (member (codes "command") (text r.command) (member (codes "reply") (text r.reply) no_members))))))
+
+abbrev pub request_tree : RequestTexts → Tree
+request_tree r = request_object r (moment_text r.moment)
+
+abbrev pub requests_tree : List RequestTexts → Tree
+requests_tree rs = object (member (codes "requests") (array (items request_tree rs)) no_members)
+
 -- THE TABLE: the body of each answer
 abbrev pub body_of : Answer → Tree
 body_of (answer.Rejected r) = rejected_tree r
@@ -159,3 +176,4 @@ body_of (answer.Rider row) = rider_tree row
 body_of (answer.Bike number bike) = bike_tree number bike
 body_of (answer.Rental number rental) = rental_tree number rental
 body_of (answer.Order number order) = order_tree number order
+body_of (answer.Requests page) = requests_tree page

@@ -56,6 +56,7 @@ status_of (answer.Rider row) = status.Ok
 status_of (answer.Bike number bike) = status.Ok
 status_of (answer.Rental number rental) = status.Ok
 status_of (answer.Order number order) = status.Ok
+status_of (answer.Requests page) = status.Ok
 
 -- the method that is allowed, where another was used
 abbrev pub allow_of : Answer → Option Allow
@@ -67,3 +68,4 @@ allow_of (answer.Rider row) = None
 allow_of (answer.Bike number bike) = None
 allow_of (answer.Rental number rental) = None
 allow_of (answer.Order number order) = None
+allow_of (answer.Requests page) = None

@@ -8,7 +8,7 @@ use bike_commands::{Refusal, Reply};
 use bike_fields::{BicycleNumber, OrderNumber, RentalNumber, RiderNumber};
 use bike_fixed::Cents;
 use bike_http_head::{Allow, Rejection};
-use bike_operator::{Bike, Order, RentalInfo};
+use bike_operator::{Bike, Order, RentalInfo, RequestPage};
 
 /// A rider, as it is shown.
 #[derive(Clone, Copy)]
@@ -40,6 +40,8 @@ pub enum Answer {
     Rental(RentalNumber, RentalInfo),
     /// An order of that number.
     Order(OrderNumber, Order),
+    /// Accepted requests.
+    Requests(RequestPage),
 }
 
 /// The status of a refusal: a bad field is a bad request, every other refusal a conflict.
@@ -65,8 +67,11 @@ impl Answer {
             Answer::Unavailable => Status::ServiceUnavailable,
             Answer::Replied(Reply::Refused(refusal)) => refused_status(*refusal),
             Answer::Replied(_) => Status::Ok,
-            Answer::Rider(_) | Answer::Bike(_, _) | Answer::Rental(_, _) | Answer::Order(_, _) =>
-                Status::Ok,
+            Answer::Rider(_)
+            | Answer::Bike(_, _)
+            | Answer::Rental(_, _)
+            | Answer::Order(_, _)
+            | Answer::Requests(_) => Status::Ok,
         }
     }
 

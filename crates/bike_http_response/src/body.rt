@@ -7,6 +7,7 @@ ghost use Rattle.bike_http_response.specs.Bodies.{error_tree, refused_tree, reje
 
 use crate::answer::Answer;
 use crate::members::{Scalar, signed, whole, write_object};
+use crate::requests::write_requests;
 use crate::rows::{write_bike, write_order, write_rental, write_rider};
 use bike_commands::{Refusal, Reply};
 use bike_http_head::Rejection;
@@ -113,7 +114,7 @@ fn write_replied<W: Output>(json: &mut JsonState, out: &mut W, reply: &Reply)
 /// Writes the body of an answer as the next value.
 pub fn write_body<W: Output>(json: &mut JsonState, out: &mut W, answer: &Answer)
     requires value { IsTrue (takes_value json.old.top) }
-    requires room { length json.old.round < 16 }
+    requires room { length json.old.round < 14 }
     ensures wrote { WroteNext json.old json.new (W.contents out.old) (W.contents out.new)
         (text_of (body_of answer.now)) }
     ensures place { IsAt json.new (after_value json.old.top) json.old.round }
@@ -126,5 +127,6 @@ pub fn write_body<W: Output>(json: &mut JsonState, out: &mut W, answer: &Answer)
         Answer::Bike(number, bike) => write_bike(json, out, *number, bike),
         Answer::Rental(number, rental) => write_rental(json, out, *number, rental),
         Answer::Order(number, order) => write_order(json, out, *number, order),
+        Answer::Requests(page) => write_requests(json, out, page.requests()),
     }
 }

@@ -8,6 +8,7 @@ mod answer;
 mod body;
 mod head;
 mod members;
+mod requests;
 mod rows;
 mod send;
 mod status;

@@ -2,6 +2,8 @@ use Rattle.std.proofs.Common.{◌≡◌, ◌∙◌, sym, ap}
 use Rattle.std.specs.FinMap as map
 use Rattle.bike_operator.specs.Operator.{item_numbered}
 use Rattle.bike_queries.specs.Infos.{rider_info_at, rental_info_at}
+use Rattle.bike_queries.specs.Requests.{request_page}
+use Rattle.bike_http_response.specs.declared.answer.Answer.TheVariants as answer
 use Rattle.bike_http.specs.Shown.{shown_of}
 use Rattle.bike_http.specs.Rows.{rider_answer, bike_answer, rental_answer, order_answer}
 use Rattle.bike_http.proofs.Shows.{query_told, rider_shown, bike_shown, rental_shown, order_shown}
@@ -34,3 +36,10 @@ returns-in_ok-order-in-Order g c =
     c.in_ok-order-in-Order.field-0 c.order_answer.result
     (λ s is. c.order_answer.ensures ∙ ap (order_answer c.in-Order.order) is ∙ order_shown c.in-Order.order (item_numbered c.in-Order.order s.orders) ∙ sym (ap (shown_of s) c.in-Order.is))
     c.in_ok-order-in-Order.ensures.query
+
+pub returns-in_ok-requests_after-in-History : goal.returns-in_ok-requests_after-in-History
+returns-in_ok-requests_after-in-History g c =
+    query_told g.S.Store c.args.desk.now c.requests_after.new.self (λ s page. page ≡ request_page s c.in-History.after) (λ s answer. answer ≡ shown_of s c.args.row)
+    c.in_ok-requests_after-in-History.field-0 (answer.Requests c.in_ok-requests_after-in-History.field-0)
+    (λ s is. ap answer.Requests is ∙ sym (ap (shown_of s) c.in-History.is))
+    c.in_ok-requests_after-in-History.ensures.query
