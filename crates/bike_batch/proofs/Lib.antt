@@ -10,3 +10,6 @@ pub mod DeskLemmas
 pub mod WalkLemmas
 pub mod Sources
 pub mod DayLemmas
+pub mod PageLemmas
+pub mod HistoryLemmas
+pub mod AgainLemmas

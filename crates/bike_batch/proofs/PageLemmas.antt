@@ -70,7 +70,7 @@ lines_then xs ys = flat_map-append (λ (y : RequestTexts). line_again y ++ 10 �
 -- ---- pages
 
 -- accepted requests with their numbers, as texts
-abbrev texts_from : ℕ → List AcceptedRequest → List RequestTexts
+abbrev pub texts_from : ℕ → List AcceptedRequest → List RequestTexts
 texts_from a xs = map request_texts (numbers_from a xs)
 
 -- the history behind a number, as texts

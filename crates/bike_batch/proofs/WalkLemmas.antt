@@ -29,12 +29,12 @@ use Rattle.bike_batch.proofs.DeskLemmas.{earlier, going_only, stays_asked, stays
 
 -- ---- fronts
 
-front_first : (a b : Option (List ℕ)) (x y : List ℕ) → AppendsFront a b x → AppendsFront a b (x ++ y)
+pub front_first : (a b : Option (List ℕ)) (x y : List ℕ) → AppendsFront a b x → AppendsFront a b (x ++ y)
 front_first a b x y h =
     let short : h.0 ≤ length x = omega (arith, h.1) in
     (h.0, omega (arith, length-append x y, h.1), rw (take-append-le h.0 x y short) h.2)
 
-front_then : (a b c : Option (List ℕ)) (x y : List ℕ) → Appends a b x → AppendsFront b c y → AppendsFront a c (x ++ y)
+pub front_then : (a b c : Option (List ℕ)) (x y : List ℕ) → Appends a b x → AppendsFront b c y → AppendsFront a c (x ++ y)
 front_then a b c x y h k = (
   length x + k.0,
   omega (arith, length-append x y, k.1),
@@ -42,15 +42,15 @@ front_then a b c x y h k = (
       (Appends-trans a b c x (take k.0 y) h k.2),
 )
 
-some_first : (a b : Option (List ℕ)) (x y : List ℕ) → Appends a b x → AppendsSome a b (x ++ y)
+pub some_first : (a b : Option (List ℕ)) (x y : List ℕ) → Appends a b x → AppendsSome a b (x ++ y)
 some_first a b x y h = (length x, rw (take-append_seam x y) h)
 
 -- where something is left, it isn't all
-part_first : (a b : Option (List ℕ)) (x y : List ℕ) → 0 < length y → Appends a b x → AppendsFront a b (x ++ y)
+pub part_first : (a b : Option (List ℕ)) (x y : List ℕ) → 0 < length y → Appends a b x → AppendsFront a b (x ++ y)
 part_first a b x y more h = (length x, omega (arith, length-append x y, more), rw (take-append_seam x y) h)
 
 -- a question to the desk takes no memory
-until_some : (fault : DeskFault) (a b : Option (List ℕ)) (text : List ℕ) → (fault ≡ NoMemory → ⊥) → AppendsSome a b text → AppendsUntil fault a b text
+pub until_some : (fault : DeskFault) (a b : Option (List ℕ)) (text : List ℕ) → (fault ≡ NoMemory → ⊥) → AppendsSome a b text → AppendsUntil fault a b text
 until_some NoMemory a b text other some = absurd (other refl)
 until_some StoreFailed a b text other some = some
 until_some Stopped a b text other some = some
