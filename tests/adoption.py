@@ -690,7 +690,7 @@ INDEXES = {
 }
 EACH_WORD = [
     ["init"], ["check"], ["lines"], ["serve", "--port", "0", "--count", "1"], ["feed", "station_status"],
-    ["day", "entries", "2023-11-14", "UTC0"], ["import", "first"], ["raise"],
+    ["day", "entries", "2023-11-14", "UTC0"], ["history"], ["import", "first"], ["raise"],
 ]
 
 

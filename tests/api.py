@@ -34,7 +34,7 @@ def test_every_path_is_told(program):
     """The paths are those of docs/openapi.yaml, but for the feeds, which stand by one line."""
     text = (TOP / "docs/API.md").read_text(encoding="utf-8")
     paths = re.findall(r"^  (/\S+):$", (TOP / "docs/openapi.yaml").read_text(encoding="utf-8"), re.M)
-    assert len(paths) == 20, paths
+    assert len(paths) == 21, paths
     titles = " ".join(re.findall(r"^### .*$", text, re.M))
     for path in paths:
         assert path in titles or path.startswith("/gbfs/"), path

@@ -84,6 +84,12 @@ def test_bikeshare_office(program):
     tried(program, "bikeshare-office", cuts("bikeshare-office")[:-1], words, lambda _, said: False)
 
 
+def test_bikeshare_follow(program):
+    """Cut anywhere, it doesn't say that it took all that there is, where nobody answers."""
+    words = ["city.db", "http://127.0.0.1:1", "--once"]
+    tried(program, "bikeshare-follow", cuts("bikeshare-follow")[:-1], words, lambda _, said: False)
+
+
 def test_bikeshare_portal(program):
     """Cut anywhere, it doesn't say that all was made, where the program wasn't even there."""
     Path(program.folder, "office").mkdir()

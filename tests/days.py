@@ -32,6 +32,7 @@ SEED = int(os.environ.get("BIKESHARE_SEED", "1"))
 UTC, ROME = "UTC0", "CET-1CEST,M3.5.0,M10.5.0/3"
 ENTRIES = "number,kind,rider,rental,amount,at\n"
 RENTALS = "number,rider,bike,plan,from,start,to,end,fare\n"
+REQUESTS = "number,moment,caller,key,command,reply\n"
 CITY = [it for it in shared.CITY if not it.startswith("mark-dock")]
 
 # Moments about the bounds of the first day of UTC and of the last, the hundredths that are paid in then, and how both
@@ -132,7 +133,7 @@ def test_refused_days(program):
         ("9999-12-31", "UTC0", "day out of range"),
         ("9999-01-01", "UTC0", "day out of range"),
     ):
-        for which in ("entries", "rentals"):
+        for which in ("entries", "rentals", "requests"):
             ended = program.run("day", "city.db", which, day, zone)
             assert ended == (1, b"", word.encode() + b"\n"), (day, zone, ended)
     for day in ("1970-01-01", "9998-12-31"):

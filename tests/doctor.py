@@ -709,7 +709,8 @@ def test_a_file_that_is_not_there(program):
     file = city.with_name("mtero.db")
     found = looked_at(file)
     assert [it.word for it in found] == ["store failed"] and "metro.db?" in found[0].text, found
-    for word, *more in (("check",), ("feed", "gbfs"), ("day", "entries", "2023-11-14", "UTC0"), ("raise",)):
+    day = "day", "entries", "2023-11-14", "UTC0"
+    for word, *more in (("check",), ("feed", "gbfs"), day, ("history",), ("raise",)):
         assert program.run(word, "mtero.db", *more) == STORE_FAILED, word
     assert not file.exists()
 

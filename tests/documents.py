@@ -586,7 +586,7 @@ def test_subcommands(program):
     """Wherever a document shows the program's command line, its first word is one of docs/FORMATS.md, section 9."""
     texts = documents()
     known = set(re.findall(r"^\| `([a-z]+) FILE", texts["docs/FORMATS.md"], re.M))
-    assert len(known) == 8, known
+    assert len(known) == 9, known
     for name, text in texts.items():
         shown = [*"\n".join(BLOCK.findall(text)).splitlines(), *quoted(text)]
         found = {it[1] for line in shown if (it := re.match(r"(?:\S*/)?bikeshare ([a-z]+)\b", line))}

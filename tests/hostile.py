@@ -384,8 +384,8 @@ def answered(program, operator, lines, data, pick, where):
 # ---- words
 
 VOCABULARY = [
-    "init", "check", "lines", "feed", "serve", "day", "import", "raise", "help", "--port", "--count", "--at", "--", "-",
-    "--help", "-h", "-V", "--version", "--port=0", "--port=x", "--port=0=1", "--ports", "--por", "-p", "-p0",
+    "init", "check", "lines", "feed", "serve", "day", "history", "import", "raise", "help", "--port", "--count", "--at",
+    "--", "-", "--help", "-h", "-V", "--version", "--port=0", "--port=x", "--port=0=1", "--ports", "--por", "-p", "-p0",
     "--count=1", "--at=1", "--at=", "0", "1", "2", "65535", "65536", "-1", "+1", "00", "1e3", "253402300799",
     "253402300800", "9" * 400, "", " ", "city.db", "new.db", ":memory:", "text.db", "no/such.db", ".",
     "file:city.db?mode=ro", "gbfs", "station_status", "system_regions", "nothing", "é", "\udcff", "x" * 300,
@@ -398,7 +398,10 @@ ENDS = re.compile(
     ),
     re.S,
 )
-OUTPUT = re.compile(rb"|ready\n|sound\n|version [0-9]+\n|rows [0-9]+\n|\{.*\}|number,[a-z0-9,\n.:TZ*-]*\n")
+OUTPUT = re.compile(
+    rb"|ready\n|sound\n|version [0-9]+\n|rows [0-9]+\n|\{.*\}|number,[a-z0-9,\n.:TZ*-]*\n|"
+    rb"number,moment,caller,key,command,reply\n(?s:.*\n)?|(?:[0-9]+\t[a-z0-9:_-]+\t[A-Za-z0-9_-]+\t[^\n]+\n)+"
+)
 STATUS_OF = {
     b"system": 1, b"bad": 1, b"day": 1, b"row": 1, b"store": 3, b"out": 4, b"foreign": 5, b"unsound": 5, b"older": 5,
     b"newer": 5, b"read": 6, b"write": 6,
@@ -413,6 +416,7 @@ def some_words(pick):
             ["feed", "city.db", "station_status", "--at", "0"],
             ["serve", "city.db", "--port", "0", "--count", "1"], ["import", "city.db", "spring"],
             ["day", "city.db", "entries", "2023-11-14", "CET-1CEST,M3.5.0,M10.5.0/3"],
+            ["day", "city.db", "requests", "2023-11-14", "UTC0"], ["history", "city.db"], ["history", "city.db", "7"],
             ["check", "text.db"], ["lines", ":memory:"], ["feed", "new.db", "gbfs"], [],
         ])
         words = list(base)

@@ -186,6 +186,7 @@ ROUTES = [
     (rb"/office", "POST", {"command": "command"}), (rb"/office/(?P<person>[^/]*)", "POST", {"command": "command"}),
     (rb"/riders/(?P<rider>[^/]*)", "GET", "row"), (rb"/bikes/(?P<rider>[^/]*)", "GET", "row"),
     (rb"/rentals/(?P<serial>[^/]*)", "GET", "row"), (rb"/orders/(?P<serial>[^/]*)", "GET", "row"),
+    (rb"/history/(?P<number>[^/]*)", "GET", "feed"),
     *((rb"/gbfs/3\.0/%s\.json" % it.encode(), "GET", "feed") for it in FEEDS),
 ]
 
@@ -305,7 +306,7 @@ def routed(method_given, path, body, operator):
             continue
         good = {
             "rider": formats.COUNTED, "truck": formats.COUNTED, "station": formats.is_ident, "person": formats.is_ident,
-            "serial": formats.SERIALS,
+            "serial": formats.SERIALS, "number": formats.within(0, 2**63 - 1),
         }
         if not all(good[name](value) for name, value in parts.groupdict().items()):
             return 404, "not_found"

@@ -298,7 +298,9 @@ def test_paths(program):
         "/riders/" + "9" * 40, "/riders/-17", "/riders/+17", "/riders/17.0", "/riders/0x11", "/riders/17a", "/riders/*",
         "/riders/{rider}", "/riders/17,18", "/riders/\u0661\u0667", "/bikes/+7", "/bikes/07", "/bikes/0",
         "/bikes/1000000", "/rentals/0", "/rentals/01", "/rentals/100000001", "/orders/0", "/orders/01",
-        "/orders/100000001", "/orders/" + "1" * 40, "/riders/17/stop", "/riders/start", "/riders//start",
+        "/orders/100000001", "/orders/" + "1" * 40, "/history", "/history/", "/history/00", "/history/01", "/history/x",
+        "/history/-1", "/history/1/", "/history/9223372036854775808", "/history/" + "1" * 40,
+        "/riders/17/stop", "/riders/start", "/riders//start",
         "/riders/17/start/", "/riders/17//start", "/riders/17/Start", "/riders/017/start", "/docks/A1/end",
         "/docks//end", "/docks/a%31/end", "/docks/a1/end/", "/docks/*/end", "/docks/" + "a" * 37 + "/end", "/docks/a1",
         "/docks/a.1/end", "/docks/A1/mark-dock", "/docks/A1/mark-bike", "/docks/a1/start", "/docks/a1/mark_dock",
@@ -379,7 +381,8 @@ def test_other_methods(program):
     others = ["HEAD", "OPTIONS", "PUT", "DELETE", "PATCH", "TRACE", "CONNECT", "get", "Get", "post", "GETS", "X-Y", "!"]
     posts = ["/office", "/office/ann", "/riders/17/start", "/docks/a1/end", "/docks/a1/mark-dock"]
     posts += ["/docks/a1/mark-bike", "/crews/3/load", "/crews/3/unload", "/crews/3/mark-bike"]
-    gets = ["/riders/17", "/bikes/7", "/rentals/1", "/orders/1", *(f"/gbfs/3.0/{name}.json" for name in FEEDS)]
+    gets = ["/riders/17", "/bikes/7", "/rentals/1", "/orders/1", "/history/0"]
+    gets += [f"/gbfs/3.0/{name}.json" for name in FEEDS]
     holds(program, [
         *((get(it), error(405, "POST")) for it in posts),
         *((post(it, START), error(405, "GET")) for it in gets),

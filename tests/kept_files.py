@@ -67,7 +67,7 @@ def is_older(program, name, version):
     for words in (
         ["check"], ["init"], ["lines"], ["feed", "station_status", "--at", "1700000000"],
         ["feed", "system_regions", "--at", "0"],
-        ["day", "entries", "2023-11-14", "UTC0"], ["import", "spring", "--at", "1700000000"],
+        ["day", "entries", "2023-11-14", "UTC0"], ["history"], ["import", "spring", "--at", "1700000000"],
         ["serve", "--port", "0", "--count", "1"], ["check"],
     ):
         given = (

@@ -1,7 +1,7 @@
-"""Words that only look. `check`, `feed` and `day` change nothing: no byte of FILE and of its log, whatever these hold,
-and not FILE's journal mode. They make no table, and leave no log where there was none. They and `raise` make no FILE. A
-file that is refused gets no log, and a log whose header is damaged is refused by every word. So is a file in which
-something else has a name that our tables take.
+"""Words that only look. `check`, `feed`, `day` and `history` change nothing: no byte of FILE and of its log, whatever
+these hold, and not FILE's journal mode. They make no table, and leave no log where there was none. They and `raise`
+make no FILE. A file that is refused gets no log, and a log whose header is damaged is refused by every word. So is a
+file in which something else has a name that our tables take.
 """
 
 import collections
@@ -16,7 +16,7 @@ from pathlib import Path
 import adoption
 import lone_logs
 import raising
-from days import ENTRIES, RENTALS
+from days import ENTRIES, RENTALS, REQUESTS
 from shared import (
     CITY, DISTURBED, DONE, FOREIGN, HEADER, NO_SYSTEM, READY, SOUND, STORE_FAILED, Server, at_once, changed, city, held,
     killed, office, put, quickly, removed, requests_of, rows_of, taken, told_with,
@@ -27,7 +27,10 @@ LOOKS = {
     "feed": (["feed", "FILE", "gbfs", "--at", "1700000000"], NO_SYSTEM),
     "entries": (["day", "FILE", "entries", "2024-01-01", "UTC0"], (0, ENTRIES.encode(), b"")),
     "rentals": (["day", "FILE", "rentals", "2024-01-01", "CET-1"], (0, RENTALS.encode(), b"")),
+    "requests": (["day", "FILE", "requests", "2024-01-01", "UTC0"], (0, REQUESTS.encode(), b"")),
+    "history": (["history", "FILE", "7"], (0, b"", b"")),
 }
+LOOKING = {words[0] for words, _ in LOOKS.values()}
 OTHERS = "CREATE TABLE notes (note TEXT); INSERT INTO notes VALUES ('x'), ('y'); CREATE INDEX by_note ON notes (note)"
 
 
@@ -301,13 +304,13 @@ def test_names_of_ours_that_are_free(program):
 @quickly
 def test_a_foreign_file_that_is_looked_at_gets_no_log(program):
     for file in foreign(program):
-        gets_no_log(program, file, FOREIGN, [it for it in adoption.EACH_WORD if it[0] in ("check", "feed", "day")])
+        gets_no_log(program, file, FOREIGN, [it for it in adoption.EACH_WORD if it[0] in LOOKING])
 
 
 @quickly
 def test_a_foreign_file_gets_no_log_from_other_words(program):
     for file in foreign(program):
-        gets_no_log(program, file, FOREIGN, [it for it in adoption.EACH_WORD if it[0] not in ("check", "feed", "day")])
+        gets_no_log(program, file, FOREIGN, [it for it in adoption.EACH_WORD if it[0] not in LOOKING])
 
 
 # ---- Looks and other programs at one time

@@ -163,13 +163,13 @@ def test_every_route_is_there(program):
             "/riders/{rider}/start /docks/{station}/end /docks/{station}/mark-dock /docks/{station}/mark-bike "
             "/crews/{truck}/load /crews/{truck}/unload /crews/{truck}/mark-bike /office /office/{name}"
         ),
-        "get": "/riders/{rider} /bikes/{bike} /rentals/{rental} /orders/{order} "
+        "get": "/riders/{rider} /bikes/{bike} /rentals/{rental} /orders/{order} /history/{after} "
         + " ".join(f"/gbfs/3.0/{name}.json" for name in FEEDS),
     }
     for method, paths in wanted.items():
         assert sorted(path for path, found, _ in operations() if found == method) == sorted(paths.split()), method
     names = [it["operationId"] for _, _, it in operations()]
-    assert len(names) == len(set(names)) == 20, names
+    assert len(names) == len(set(names)) == 21, names
 
 
 def test_every_reference_names_something(program):

@@ -356,6 +356,7 @@ def test_release(program):
         "bikeshare",
         "deploy/backup",
         "deploy/bikeshare-doctor",
+        "deploy/bikeshare-follow",
         "deploy/bikeshare-office",
         "deploy/bikeshare-portal",
         "deploy/bikeshare-watch",
@@ -401,7 +402,7 @@ def test_release_in_an_empty_root(program):
 def test_unit_files(program):
     """systemd knows each line of the unit files, and finds the programs that they name."""
     folder = Path(program.folder)
-    names = ["bikeshare@.service", "bikeshare-gateway.service"]
+    names = ["bikeshare@.service", "bikeshare-gateway.service", "bikeshare-follow@.service"]
     names += [f"bikeshare-{it}@.{kind}" for it in ("backup", "portal") for kind in ("service", "timer")]
     for name in names:
         text = (DEPLOY / name).read_text().replace("/opt/bikeshare/bikeshare", program.file)
@@ -572,21 +573,22 @@ ROUTES = [
     ("POST", "/docks/a1/mark-bike"),
     ("POST", "/crews/3/load"), ("POST", "/crews/3/unload"), ("POST", "/crews/3/mark-bike"), ("POST", "/office"),
     ("GET", "/bikes/7"),
-    ("GET", "/orders/1"), ("GET", "/rentals/1"),
+    ("GET", "/orders/1"), ("GET", "/rentals/1"), ("GET", "/history/0"),
 ]
 MAY = {
     "rider:17": {"/riders/17/start", "/riders/17"},
     "rider:1": set(),
     "dock:a1": {"/docks/a1/end", "/docks/a1/mark-dock", "/docks/a1/mark-bike"},
     "crew:3": {"/crews/3/load", "/crews/3/unload", "/crews/3/mark-bike", "/bikes/7", "/orders/1"},
-    "office:anna": {"/riders/17", "/office", "/bikes/7", "/orders/1", "/rentals/1"},
+    "office:anna": {"/riders/17", "/office", "/bikes/7", "/orders/1", "/rentals/1", "/history/0"},
 }
 NEVER = [
     ("GET", "/riders/17/"), ("GET", "//riders/17"), ("GET", "/riders/17%0a"), ("GET", "/riders/1/../17/start"),
     ("PUT", "/office"), ("POST", "/office/anna"), ("POST", "/office/bob"), ("POST", "/office/"),
     ("GET", "/office"), ("GET", "/office/anna"), ("GET", "/riders/17/start"), ("POST", "/docks/a1/start"),
     ("POST", "/docks/b2/end"),
-    ("POST", "/crews/33/load"), ("GET", "/"),
+    ("POST", "/crews/33/load"), ("GET", "/"), ("GET", "/history"), ("GET", "/history/"), ("GET", "/history/x"),
+    ("POST", "/history/0"),
 ]
 
 

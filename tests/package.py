@@ -22,7 +22,7 @@ DEPLOY = TOP / "deploy"
 SECONDS = 120
 DOCUMENTS = "usr/share/doc/bikeshare"
 # The scripts for administrators and staff, each with a manual page and a completion beside it.
-SCRIPTS = "bikeshare-doctor", "bikeshare-office", "bikeshare-portal", "bikeshare-watch"
+SCRIPTS = "bikeshare-doctor", "bikeshare-follow", "bikeshare-office", "bikeshare-portal", "bikeshare-watch"
 PAGES = [f"{name}.1" for name in ("bikeshare", *SCRIPTS)]
 
 
@@ -56,6 +56,7 @@ def wanted_files():
         "usr/lib/systemd/system/bikeshare@.service": None,
         "usr/lib/systemd/system/bikeshare-gateway.service": None,
         "usr/lib/systemd/system/bikeshare-backup@.service": None,
+        "usr/lib/systemd/system/bikeshare-follow@.service": None,
         "usr/lib/systemd/system/bikeshare-portal@.service": None,
         "usr/lib/systemd/system/bikeshare-portal@.timer": None,
         "usr/lib/systemd/system/bikeshare-logs.service": None,
@@ -128,7 +129,7 @@ def has_good_files(program, found):
 def has_good_paths(found):
     """Holds the unit files and the script for backups to those of deploy/, with the paths of the package."""
     units = sorted(it.name for it in DEPLOY.iterdir() if it.suffix in (".service", ".timer"))
-    assert len(units) == 8, units
+    assert len(units) == 9, units
     for name in units:
         text = (DEPLOY / name).read_text()
         text = text.replace("/opt/bikeshare/bikeshare", "/usr/bin/bikeshare").replace(
@@ -263,7 +264,7 @@ def test_package(program):
     for name in PAGES:
         page = gzip.decompress(found[f"usr/share/man/man1/{name}.gz"][1])
         assert page == (one / "release/deploy" / name).read_bytes() and f'"{told["version"]}"'.encode() in page, name
-        rest = re.sub(rb"bikeshare(\\-(?:backup|portal))?@CITY", b"", page)
+        rest = re.sub(rb"bikeshare(\\-(?:backup|follow|portal))?@CITY", b"", page)
         assert b"@" not in rest, f"a mark of {name} wasn't replaced"
     # Another umask, another time zone, another language; and another package of that name, which isn't written over.
     status, said, again = released(program, two, umask=0o077, told={"TZ": "Asia/Tokyo", "LC_ALL": "C.UTF-8"})
@@ -290,7 +291,7 @@ def usage_of(program):
     words = [it for it in rows if not it[0].startswith("-")]
     options = [it for it in rows if it[0].startswith("-")]
     values = [it for it in lines if it and not it.startswith(" ")]
-    assert status == 2 and len(words) == 8 and len(options) == 3 and len(values) == 5, said
+    assert status == 2 and len(words) == 9 and len(options) == 3 and len(values) == 5, said
     return first.removeprefix("usage: "), words, options, values
 
 
@@ -382,7 +383,7 @@ def test_completion(program):
         and completed(folder, "feed", "x", "gb") == ["gbfs"]
     )
     assert (
-        len(tables) == 2
+        len(tables) == 3
         and completed(folder, "day", "x", "") == tables
         and completed(folder, "day", "x", "entries", "") == []
     )

@@ -82,7 +82,7 @@ def test_nobody_is_told_otherwise(program):
     for words in (
         ["init", "city.db"],
         ["feed", "city.db", "system_information", "--at", "1700000000"],
-        ["day", "city.db", "entries", "2023-11-14", "UTC0"],
+        ["day", "city.db", "entries", "2023-11-14", "UTC0"], ["history", "city.db"],
     ):
         status, _, told = looked_on(program, *words)
         assert (status, told) == (0, b""), words

@@ -15,6 +15,7 @@ MADE = re.compile(r"\btable!\((insert \w+)\)")
 OF_A_DAY = {
     "SELECT * FROM entries WHERE entry > ?1 AND at >= ?2 AND at < ?3 ORDER BY entry LIMIT 1",
     "SELECT * FROM rentals WHERE rental > ?1 AND finish >= ?2 AND finish < ?3 ORDER BY rental LIMIT 1",
+    "SELECT * FROM history WHERE number > ?1 AND moment >= ?2 AND moment < ?3 ORDER BY number LIMIT 1",
 }
 # What the office corrects now and then: each pushes out one text, which is compiled once more when it is asked for.
 OF_A_CORRECTION = {

@@ -310,8 +310,9 @@ def test_texts_that_fail_behind_each_byte(program):
     feed, day = (
         ["feed", "city.db", "station_status", "--at", imports.AT], ["day", "city.db", "entries", "2023-11-14", "UTC0"]
     )
-    named = ["feed", "city.db", "system_information", "--at", imports.AT]
-    for words, stride in (feed, 61), (named, 53), (day, 17), (["check", "city.db"], 2), (["init", "city.db"], 2):
+    named, history = ["feed", "city.db", "system_information", "--at", imports.AT], ["history", "city.db"]
+    others = (["check", "city.db"], 2), (["init", "city.db"], 2)
+    for words, stride in (feed, 61), (named, 53), (day, 17), (history, 31), *others:
         whole = program.run(*words)
         assert whole[0] == 0 and whole[1] and not whole[2], whole
         for size in some(len(whole[1]), stride):

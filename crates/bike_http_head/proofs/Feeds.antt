@@ -1,5 +1,5 @@
--- A path that takes the route of a feed begins as all of these do.
-use Rattle.std.proofs.Common.{◌≡◌, ℕ, zero, suc, List, [], ◌∷◌, ◌++◌, Bool, true, false, ◌==◌, not, ◌||◌, Option, Some, None, option_map, codes, take, drop, refl, sym, ap, ◌∙◌, subst, arith}
+-- A path that takes the route of a feed, or that of the history, begins as all of these do.
+use Rattle.std.proofs.Common.{◌≡◌, ℕ, zero, suc, List, [], ◌∷◌, ◌++◌, Bool, true, false, ◌==◌, not, ltb, ◌||◌, Option, Some, None, option_map, codes, length, take, drop, refl, sym, ap, ◌∙◌, subst, arith}
 use Rattle.std.proofs.Common.{append_assoc, take-append-drop}
 use Rattle.std.specs.List.{list_all, position_or_len}
 use Rattle.matchit.proofs.OnLiterals.{matchit_on_literals}
@@ -18,35 +18,26 @@ abbrev is_feed : Route → Bool
 is_feed (route.Publish feed) = true
 is_feed _ = false
 
-abbrev feeds_front : List ℕ
-feeds_front = codes "/gbfs/"
+abbrev is_history : Route → Bool
+is_history route.History = true
+is_history _ = false
 
--- the pattern of a feed begins so
-abbrev is_placed : List ℕ × RouteOf Route → Bool
-is_placed row = not (is_feed row.1.value) || same_text (take 6 row.0) feeds_front
+-- the pattern of such a route begins so
+abbrev is_placed : (Route → Bool) → List ℕ → List ℕ × RouteOf Route → Bool
+is_placed test front row = not (test row.1.value) || same_text (take (length front) row.0) front
 
-placed_table : list_all is_placed table ≡ true
+placed_feeds : list_all (is_placed is_feed (codes "/gbfs/")) table ≡ true
 unfolding matchit_on_literals table routes with_route
-placed_table = refl
+placed_feeds = refl
 
-begins : (t : List ℕ) (r : RouteOf Route) (feed : Feed) → r.value ≡ route.Publish feed → is_placed (t, r) ≡ true → t ≡ feeds_front ++ drop 6 t
-begins t r feed is placed =
-    let text : same_text (take 6 t) feeds_front ≡ true = rw is at placed in
-    sym (take-append-drop 6 t) ∙ ap (λ (l : List ℕ). l ++ drop 6 t) ((bytes_decides (take 6 t) feeds_front).0 text)
+placed_history : list_all (is_placed is_history (codes "/history/")) table ≡ true
+unfolding matchit_on_literals table routes with_route
+placed_history = refl
 
-first_of : (path : List ℕ) (feed : Feed) → (o : Option (RouteOf Route)) → first table path ≡ o → option_map (λ r. r.value) o ≡ Some (route.Publish feed)
-    → (r : RouteOf Route) × (first table path ≡ Some r) × (r.value ≡ route.Publish feed)
-first_of path feed None e is = absurd (cc)
-first_of path feed (Some r) e is = (r, e, cc)
-
--- the path begins so
-feed_path : (path : List ℕ) (feed : Feed) → IsBytes path → route_at path ≡ Some (route.Publish feed) → (rest : List ℕ) × (path ≡ feeds_front ++ rest)
-feed_path path feed bytes is =
-    let (r, found, value) = first_of path feed (first table path) refl is in
-    let (t, has, fits) = seek_found 0 table path r bytes found in
-    let form = begins t r feed value (row_has is_placed table t r placed_table has) in
-    let (rest, whole, more) = match_text feeds_front (drop 6 t) path refl (subst (λ (l : List ℕ). Matches l path) form fits) in
-    (rest, whole)
+first_of : (path : List ℕ) (value : Route) → (o : Option (RouteOf Route)) → first table path ≡ o → option_map (λ r. r.value) o ≡ Some value
+    → (r : RouteOf Route) × (first table path ≡ Some r) × (r.value ≡ value)
+first_of path value None e is = absurd (cc)
+first_of path value (Some r) e is = (r, e, cc)
 
 take_bytes : (n : ℕ) (xs : List ℕ) → IsBytes xs → IsBytes (take n xs)
 take_bytes zero xs bytes i = omega arith
@@ -54,9 +45,30 @@ take_bytes (suc n) [] bytes i = omega arith
 take_bytes (suc n) (x ∷ xs) bytes zero = bytes 0
 take_bytes (suc n) (x ∷ xs) bytes (suc i) = take_bytes n xs (λ j. bytes (suc j)) i
 
--- .. and so does the target
-pub feed_target : (target : List ℕ) (feed : Feed) → IsBytes target → route_at (path_of target) ≡ Some (route.Publish feed) → (rest : List ℕ) × (target ≡ feeds_front ++ rest)
-feed_target target feed bytes is =
-    let n : ℕ = position_or_len (λ b. b == 63) target in
-    let (rest, whole) = feed_path (path_of target) feed (take_bytes n target bytes) is in
-    (rest ++ drop n target, sym (take-append-drop n target) ∙ ap (λ (l : List ℕ). l ++ drop n target) whole ∙ append_assoc feeds_front rest (drop n target))
+module _ (test : Route → Bool) (front : List ℕ) (small : list_all (λ b. ltb b 256) front ≡ true) (placed : list_all (is_placed test front) table ≡ true) where
+  begins : (t : List ℕ) (r : RouteOf Route) → test r.value ≡ true → is_placed test front (t, r) ≡ true → t ≡ front ++ drop (length front) t
+  begins t r is placed =
+      let text : same_text (take (length front) t) front ≡ true = rw is at placed in
+      sym (take-append-drop (length front) t) ∙ ap (λ (l : List ℕ). l ++ drop (length front) t) ((bytes_decides (take (length front) t) front).0 text)
+
+  -- the path begins so
+  path_begins : (path : List ℕ) (value : Route) → IsBytes path → test value ≡ true → route_at path ≡ Some value → (rest : List ℕ) × (path ≡ front ++ rest)
+  path_begins path value bytes is takes =
+      let (r, found, same) = first_of path value (first table path) refl takes in
+      let (t, has, fits) = seek_found 0 table path r bytes found in
+      let form = begins t r (ap test same ∙ is) (row_has (is_placed test front) table t r placed has) in
+      let (rest, whole, more) = match_text front (drop (length front) t) path small (subst (λ (l : List ℕ). Matches l path) form fits) in
+      (rest, whole)
+
+  -- .. and so does the target
+  target_begins : (target : List ℕ) (value : Route) → IsBytes target → test value ≡ true → route_at (path_of target) ≡ Some value → (rest : List ℕ) × (target ≡ front ++ rest)
+  target_begins target value bytes is takes =
+      let n : ℕ = position_or_len (λ b. b == 63) target in
+      let (rest, whole) = path_begins (path_of target) value (take_bytes n target bytes) is takes in
+      (rest ++ drop n target, sym (take-append-drop n target) ∙ ap (λ (l : List ℕ). l ++ drop n target) whole ∙ append_assoc front rest (drop n target))
+
+pub feed_target : (target : List ℕ) (feed : Feed) → IsBytes target → route_at (path_of target) ≡ Some (route.Publish feed) → (rest : List ℕ) × (target ≡ codes "/gbfs/" ++ rest)
+feed_target target feed bytes takes = target_begins is_feed (codes "/gbfs/") refl placed_feeds target (route.Publish feed) bytes refl takes
+
+pub history_target : (target : List ℕ) → IsBytes target → route_at (path_of target) ≡ Some route.History → (rest : List ℕ) × (target ≡ codes "/history/" ++ rest)
+history_target target bytes takes = target_begins is_history (codes "/history/") refl placed_history target route.History bytes refl takes

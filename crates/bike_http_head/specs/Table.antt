@@ -30,6 +30,7 @@ routes =
     ∷ (codes "/bikes/{bike}", route.Bike)
     ∷ (codes "/rentals/{rental}", route.Rental)
     ∷ (codes "/orders/{order}", route.Order)
+    ∷ (codes "/history/{after}", route.History)
     ∷ (codes "/gbfs/3.0/gbfs.json", route.Publish Gbfs)
     ∷ (codes "/gbfs/3.0/system_information.json", route.Publish SystemInformation)
     ∷ (codes "/gbfs/3.0/vehicle_types.json", route.Publish VehicleTypes)

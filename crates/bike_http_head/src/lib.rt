@@ -17,4 +17,4 @@ pub use length::{BODY_LENGTH, BodyLength};
 pub use path::{may_ask_feed, path_of};
 pub use rejection::{Allow, Rejection};
 pub use routes::{Route, RouteMatch, Routes, route_laws};
-pub use row_key::RowKey;
+pub use row_key::{GREATEST_REQUEST, RowKey};

@@ -36,11 +36,13 @@ pub enum Route {
     Rental,
     /// `/orders/{order}`
     Order,
+    /// `/history/{after}`
+    History,
     /// `/gbfs/3.0/NAME.json`
     Publish(Feed),
 }
 
-const ROUTES: [(&str, Route); 20] = [
+const ROUTES: [(&str, Route); 21] = [
     ("/riders/{rider}/start", Route::Start),
     ("/docks/{station}/end", Route::End),
     ("/docks/{station}/mark-dock", Route::MarkDock),
@@ -54,6 +56,7 @@ const ROUTES: [(&str, Route); 20] = [
     ("/bikes/{bike}", Route::Bike),
     ("/rentals/{rental}", Route::Rental),
     ("/orders/{order}", Route::Order),
+    ("/history/{after}", Route::History),
     ("/gbfs/3.0/gbfs.json", Route::Publish(Feed::Gbfs)),
     (
         "/gbfs/3.0/system_information.json",
@@ -145,6 +148,7 @@ pub fn route_laws(_example: Route)
     ensures rider { route_at (codes "/riders/17") ≡ Some Route.Rider }
     ensures office { route_at (codes "/office") ≡ Some Route.Office }
     ensures staff { route_at (codes "/office/ann") ≡ Some Route.Staff }
+    ensures history { route_at (codes "/history/0") ≡ Some Route.History }
     ensures feed { route_at (codes "/gbfs/3.0/station_status.json") ≡ Some (Route.Publish Feed.StationStatus) }
     ensures any_part { route_at (codes "/bikes/x%2f") ≡ Some Route.Bike }
     // Paths that are near one and have none.
@@ -154,6 +158,7 @@ pub fn route_laws(_example: Route)
     ensures doubled { route_at (codes "//office") ≡ None }
     ensures no_name { route_at (codes "/office/") ≡ None }
     ensures longer { route_at (codes "/office/ann/") ≡ None }
+    ensures no_after { route_at (codes "/history") ≡ None }
     ensures other_feed { route_at (codes "/gbfs/3.0/x.json") ≡ None }
     ensures absolute { route_at (codes "http://h/office") ≡ None }
 {}

@@ -1,8 +1,11 @@
-//! The keys of rows that are shown.
+//! The keys of what is shown.
 
 use bike_fields::{BicycleNumber, OrderNumber, RentalNumber, RiderNumber};
 
-/// The key of a row that is shown: its kind and its number.
+/// The greatest number that a request of the history can have: it fits a signed integer of 64 bits.
+pub const GREATEST_REQUEST: u64 = 9_223_372_036_854_775_807;
+
+/// The key of what is shown: its kind and a number.
 #[derive(Clone, Copy)]
 pub enum RowKey {
     /// The rider of that number.
@@ -13,4 +16,6 @@ pub enum RowKey {
     Rental(RentalNumber),
     /// The order of that number.
     Order(OrderNumber),
+    /// The requests of the history behind that number: the first of them, a page.
+    History(u64),
 }

@@ -22,6 +22,7 @@ use Rattle.bike_http_head.specs.declared.length.BodyLength.{BodyLength}
 use Rattle.bike_http_head.specs.declared.length.BodyLength.TheVariants.{Malformed, TooLong, Of}
 use Rattle.bike_http_head.specs.declared.routes.Route.{Route}
 use Rattle.bike_http_head.specs.declared.routes.Route.TheVariants as route
+use Rattle.bike_http_head.specs.declared.row_key.TheConstants.{GREATEST_REQUEST}
 use Rattle.bike_http_head.specs.declared.row_key.RowKey.{RowKey}
 use Rattle.bike_http_head.specs.declared.row_key.RowKey.TheVariants as row
 use Rattle.bike_http_head.specs.Head.{HasHead, HasNoHead}
@@ -107,6 +108,7 @@ asked_at route.Rider method part body = shown method (option_map row.Rider (numb
 asked_at route.Bike method part body = shown method (option_map row.Bike (number_of 1 GREATEST_NUMBER part))
 asked_at route.Rental method part body = shown method (option_map row.Rental (number_of 1 GREATEST_SERIAL part))
 asked_at route.Order method part body = shown method (option_map row.Order (number_of 1 GREATEST_SERIAL part))
+asked_at route.History method part body = shown method (option_map row.History (number_of 0 GREATEST_REQUEST part))
 asked_at (route.Publish feed) method part body = got method (Publish feed)
 
 abbrev pub asked_found : Option (Route × List ℕ) → List ℕ → List ℕ → Action

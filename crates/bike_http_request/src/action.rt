@@ -15,8 +15,8 @@ use crate::members::key_in;
 use bike_commands::{Command, Request};
 use bike_feed_texts::Feed;
 use bike_fields::{Caller, CallerName, Ident, RequestKey};
-use bike_fixed::Within;
-use bike_http_head::{Allow, Rejection, Route, Routes, RowKey, path_of};
+use bike_fixed::{Within, read_whole};
+use bike_http_head::{Allow, GREATEST_REQUEST, Rejection, Route, Routes, RowKey, path_of};
 use serde_json::Value;
 use std::alloc::{AllocError, Global};
 
@@ -27,7 +27,7 @@ pub enum Action {
     Reject(Rejection),
     /// The operator is to act.
     Apply(Request),
-    /// A row is to be shown.
+    /// A row is to be shown, or a page of the history.
     Show(RowKey),
     /// A feed is to be shown.
     Publish(Feed),
@@ -42,7 +42,7 @@ fn is_method(method: &[u8], wanted: Allow) -> bool
     }
 }
 
-/// A row that GET shows.
+/// What GET shows of that key.
 fn show(method: &[u8], named: Option<RowKey>) -> Action
     ensures { result ≡ shown method.now named }
 {
@@ -167,6 +167,10 @@ fn ask_at(
         Route::Bike => Ok(show(method, Within::read(part).map(RowKey::Bike))),
         Route::Rental => Ok(show(method, Within::read(part).map(RowKey::Rental))),
         Route::Order => Ok(show(method, Within::read(part).map(RowKey::Order))),
+        Route::History => {
+            let after = read_whole(part, 0, GREATEST_REQUEST);
+            Ok(show(method, after.map(RowKey::History)))
+        }
         Route::Publish(feed) => Ok(publish(method, feed)),
     }
 }

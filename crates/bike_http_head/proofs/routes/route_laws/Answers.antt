@@ -10,6 +10,7 @@ returns c = record {
   rider = refl;
   office = refl;
   staff = refl;
+  history = refl;
   feed = refl;
   any_part = refl;
   trailing = refl;
@@ -18,6 +19,7 @@ returns c = record {
   doubled = refl;
   no_name = refl;
   longer = refl;
+  no_after = refl;
   other_feed = refl;
   absolute = refl;
 }
