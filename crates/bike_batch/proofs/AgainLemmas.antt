@@ -1,12 +1,11 @@
 -- The lines of a history spell its requests.
-use Rattle.std.proofs.Common.{◌≡◌, ℕ, zero, suc, ◌≤◌, List, [], ◌∷◌, ◌++◌, drop, true, Option, Some, refl, sym, ap, ◌∙◌, subst, arith, append_assoc, inl, inr}
+use Rattle.std.proofs.Common.{◌≡◌, ℕ, zero, suc, ◌≤◌, List, [], ◌∷◌, ◌++◌, drop, Some, refl, sym, ap, ◌∙◌, subst, arith, append_assoc, inl, inr}
 use Rattle.std.specs.Prelude.{map}
 use Rattle.std.proofs.lemmas.Bool.Decides.{eqb_tells}
 use Rattle.bike_fixed.specs.Whole.{last_moment}
 use Rattle.bike_requests.specs.Lines.{line_text, HasNoFeed}
 use Rattle.bike_requests.proofs.LineAgain.{line_again, line_fits}
 use Rattle.bike_operator.specs.Operator.{Operator, AcceptedRequest, item_numbered}
-use Rattle.bike_operator.specs.Requests.{request_texts}
 use Rattle.bike_operator.specs.Sound.{IsSound, IsAccepted}
 use Rattle.bike_laws.specs.History.{calls_of}
 use Rattle.bike_stream.specs.Lines.{lines_of, IsFree}

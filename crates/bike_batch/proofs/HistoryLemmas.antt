@@ -1,5 +1,5 @@
 -- The history, read page by page, each page written before the next is read.
-use Rattle.std.proofs.Common.{◌≡◌, ◌≢◌, ℕ, List, [], ◌++◌, length, Option, Some, None, IsTrue, Result, Ok, Err, refl, sym, ap, ◌∙◌, subst, arith, append_assoc, append-nil, length-append}
+use Rattle.std.proofs.Common.{◌≡◌, ℕ, List, [], ◌++◌, Option, Some, None, IsTrue, Result, Ok, Err, refl, sym, ap, ◌∙◌, subst, arith, append_assoc, append-nil, length-append}
 use Rattle.std.specs.Result.{IsErrAnd}
 use Rattle.std.specs.Io.KnownBytes.{Keeps, Appends}
 use Rattle.std.proofs.KnownBytes.{Appends-nil, Appends-trans, Appends-kept, Keeps-refl}
@@ -13,7 +13,7 @@ use Rattle.bike_day_texts.specs.declared.fault.LineFault.{LineFault}
 use Rattle.bike_day_texts.specs.declared.fault.LineFault.TheVariants as line
 use Rattle.bike_day_texts.specs.Writing.{WritesLine}
 use Rattle.bike_desk.specs.declared.fault.DeskFault.{DeskFault}
-use Rattle.bike_desk.specs.declared.fault.DeskFault.TheVariants.{NoMemory, StoreFailed, Stopped}
+use Rattle.bike_desk.specs.declared.fault.DeskFault.TheVariants.{NoMemory}
 use Rattle.bike_desk.specs.Desk.{DeskValue, desk_state, IsAt, OfOperator}
 use Rattle.bike_desk.specs.Queries.{Queries}
 use Rattle.bike_batch.specs.declared.day_fault.DayTableFault.{DayTableFault}

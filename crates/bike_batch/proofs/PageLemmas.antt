@@ -1,5 +1,5 @@
 -- The history behind a number, page by page.
-use Rattle.std.proofs.Common.{◌≡◌, ◌≢◌, ℕ, zero, suc, ◌+◌, ◌<◌, ◌≤◌, List, [], ◌∷◌, ◌++◌, length, take, drop, Bool, true, false, cond, ◌⊎◌, inl, inr, Option, Some, None, refl, sym, ap, ◌∙◌, subst, arith, append-nil, length-append}
+use Rattle.std.proofs.Common.{◌≡◌, ℕ, zero, suc, ◌+◌, ◌<◌, List, [], ◌∷◌, ◌++◌, length, take, drop, Bool, cond, ◌⊎◌, inl, inr, Option, Some, None, refl, sym, ap, ◌∙◌, subst, arith, append-nil, length-append}
 use Rattle.std.specs.Prelude.{map, nat_lt}
 use Rattle.std.specs.List.{filter, flat_map}
 use Rattle.std.proofs.lemmas.Bool.{lt-ltb, le-ltb}
@@ -8,9 +8,9 @@ use Rattle.std.proofs.lemmas.List.{take-append-drop}
 use Rattle.std.proofs.lemmas.List.Folds.{flat_map-map}
 use Rattle.bike_operator.specs.Operator.{Operator, AcceptedRequest}
 use Rattle.bike_operator.specs.Requests.{RequestTexts, request_texts, line_again}
-use Rattle.bike_book.specs.Stored.{numbers_from, with_numbers}
+use Rattle.bike_book.specs.Stored.{numbers_from}
 use Rattle.bike_queries.specs.declared.requests.TheConstants.{REQUESTS_A_PAGE}
-use Rattle.bike_queries.specs.Requests.{requests_behind, request_page}
+use Rattle.bike_queries.specs.Requests.{request_page}
 use Rattle.bike_batch.specs.Again.{lines_again, history_text}
 
 -- ---- lists

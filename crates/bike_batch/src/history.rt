@@ -94,10 +94,12 @@ pub fn write_history<S: Alter, W: Write>(
     let mut number = after;
     let mut page = desk.requests_after(alloc, number)?;
     // Each page ends with a later number than the one before.
-    'pages: while let Some(last) = last_behind(page.requests(), number) {
+    'pages: loop {
+        let Some(last) = last_behind(page.requests(), number) else {
+            return Ok(());
+        };
         write_page(alloc, page.requests(), out)?;
         number = last;
         page = desk.requests_after(alloc, number)?;
     }
-    Ok(())
 }

@@ -1,4 +1,4 @@
-use Rattle.std.proofs.Common.{Ok, Err, Some, None, arith}
+use Rattle.std.proofs.Common.{Some, None, arith}
 use Rattle.bike_batch.proofs.DeskLemmas.{asked_as}
 use Rattle.bike_batch.proofs.Sources.{found_later}
 use Rattle.bike_batch.proofs.day_tables.next_request.Goals as goal

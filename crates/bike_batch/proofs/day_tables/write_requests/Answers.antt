@@ -1,4 +1,4 @@
-use Rattle.std.proofs.Common.{Ok, Err, ap, arith}
+use Rattle.std.proofs.Common.{Ok, Err, ap}
 use Rattle.bike_operator.specs.Requests.{RequestTexts}
 use Rattle.bike_batch.proofs.WalkLemmas.{text, walk_begins, walk_writes, walk_goes, walk_uncounted, walk_ends, first_failed, next_failed, header_failed, row_failed, table_told}
 use Rattle.bike_batch.proofs.Sources.{requests, request_asks, requests_told}
