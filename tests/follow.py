@@ -158,9 +158,9 @@ class Place:
 
 
 def log_of(file):
-    """How long the log of a file is."""
+    """How long the log of a file is, where it may hold a request: a shorter one has no frame."""
     log = Path(f"{file}-wal")
-    return log.stat().st_size if log.exists() else 0
+    return log.stat().st_size if log.exists() and log.stat().st_size >= 568 else 0
 
 
 def stopped(child, by=signal.SIGTERM):
