@@ -111,6 +111,13 @@ fn next_request<S: Alter>(
     Ok(None)
 }
 
+/// The number of a request, behind which the walk goes on.
+fn number_of(request: &RequestInfo) -> u64
+    ensures { result ≡ request.now.number }
+{
+    request.number
+}
+
 /// Writes the table of the accepted requests of a span.
 pub(crate) fn write_requests<S: Alter, W: Write>(
     alloc: Global,
@@ -130,7 +137,7 @@ pub(crate) fn write_requests<S: Alter, W: Write>(
             return Ok(());
         };
         write_request(alloc, &request, out)?;
-        number = request.number;
+        number = number_of(&request);
         next = next_request(alloc, desk, number, begin, until)?;
     }
 }
