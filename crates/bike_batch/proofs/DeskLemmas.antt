@@ -52,9 +52,9 @@ module _ {S : Type 0} (g : Ghosts S) where
   pub asked_as : {A : Type 0} {says : Operator → A → Type 0} {d e : DeskValue S} (x y : A) → ((s : Operator) → says s x → says s y)
       → Queries g d e (Ok x) says
       → Queries g d e (Ok y) says
-  asked_as x y as q = record {
+  asked_as x y then_so q = record {
     clean = q.clean;
-    ok = λ clean s at. let it = q.ok clean s at in (as s it.0, it.1);
+    ok = λ clean s at. let it = q.ok clean s at in (then_so s it.0, it.1);
     rests = q.rests;
     goes_on = q.goes_on;
     left = q.left;

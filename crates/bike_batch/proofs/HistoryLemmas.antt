@@ -136,11 +136,11 @@ module _ {S : Type 0} (g : Ghosts S) where
   }
 
   -- a fault of the desk at the first page
-  pub first_failed : {A : Type 0} {says : Operator → List RequestTexts → Type 0} {after : ℕ} {d e : DeskValue S} {a : Option (List ℕ)} (fault : DeskFault)
+  pub first_failed : {A : Type 0} {says : Operator → List RequestTexts → Type 0} {d e : DeskValue S} (after : ℕ) (a : Option (List ℕ)) (fault : DeskFault)
       → (fault ≡ NoMemory → ⊥)
       → Queries g d e (Err fault) says
       → Wrote d e after a a {A = A} (Err (Desk fault))
-  first_failed {A = A} {after = after} {d = d} {e = e} {a = a} fault other q = record {
+  first_failed {A = A} {d = d} {e = e} after a fault other q = record {
     desk = leaves_as g d e (Err (Desk fault)) (leaves_first g {B = A} fault q);
     wrote = λ clean s at. until_some fault a a (history_text s after) other (some_first a a [] (history_text s after) (Appends-nil a));
     nothing = λ stopped. Keeps-refl a;

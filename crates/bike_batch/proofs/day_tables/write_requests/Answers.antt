@@ -57,4 +57,7 @@ requests-preserved g c =
     }
 
 pub requests-smaller : goal.requests-smaller
-requests-smaller g c = ?
+requests-smaller g c =
+    let later = rw c.in-Some.is at c.requests.invariant.later in
+    let range = c.next_request-next.type_inv in
+    ?

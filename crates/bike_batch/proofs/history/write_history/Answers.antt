@@ -6,7 +6,7 @@ use Rattle.bike_batch.proofs.history.write_history.Goals as goal
 pub returns-in_err-page : goal.returns-in_err-page
 returns-in_err-page g c =
     let w = wrote_told g.S.Store _ _ c.from_residual.ensures.1
-    (first_failed g.S.Store c.in_err-page.field-0.0 (λ is. c.in_err-page.ensures.takes_none (ap Err is)) c.in_err-page.ensures.query) in
+    (first_failed g.S.Store c.args.after (g.W.Write.contents c.args.out.now) c.in_err-page.field-0.0 (λ is. c.in_err-page.ensures.takes_none (ap Err is)) c.in_err-page.ensures.query) in
     record { desk = w.desk; wrote = w.wrote; nothing = w.nothing }
 
 pub pages-init : goal.pages-init
@@ -44,5 +44,6 @@ pages-preserved g c =
 
 pub pages-smaller : goal.pages-smaller
 pages-smaller g c =
-    let later = c.in-Some.ensures.later in
+    let later = rw c.in-Some.is at c.last_behind.ensures.later in
+    let range = c.last_behind.type_inv in
     ?
