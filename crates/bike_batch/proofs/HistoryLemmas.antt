@@ -146,12 +146,12 @@ module _ {S : Type 0} (g : Ghosts S) where
     nothing = λ stopped. Keeps-refl a;
   }
 
-  module _ {after number last : ℕ} {page : List RequestTexts} {d e : DeskValue S} {a b c : Option (List ℕ)} (w : Follows after number page d e a b)
+  module _ {after number last : ℕ} {page : List RequestTexts} {d e : DeskValue S} {a b : Option (List ℕ)} (w : Follows after number page d e a b)
       (tells : TellsLast page number (Some last)) where
     -- the page wasn't written whole
-    pub page_failed : {A : Type 0} (fault : LineFault) → WritesLine {A = Unit {0}} b c (lines_again page) (Err fault)
+    pub page_failed : {A : Type 0} (c : Option (List ℕ)) (fault : LineFault) → WritesLine {A = Unit {0}} b c (lines_again page) (Err fault)
         → Wrote d e after a c {A = A} (Err (page_fault fault))
-    page_failed {A = A} line.Write wrote = record {
+    page_failed {A = A} c line.Write wrote = record {
       desk = leaves_as g d e (Err Write) (leaves_write g {A = A} w.stays);
       wrote = λ clean s at.
           let it = w.ahead clean s at in
@@ -160,7 +160,7 @@ module _ {S : Type 0} (g : Ghosts S) where
           (front_then a b c it.front (lines_again page ++ history_text s last) it.wrote (front_first b c (lines_again page) (history_text s last) wrote));
       nothing = not_stopped w.stays;
     }
-    page_failed {A = A} line.NoMemory kept = record {
+    page_failed {A = A} c line.NoMemory kept = record {
       desk = leaves_as g d e (Err (Desk NoMemory)) (leaves_short g {A = A} w.stays);
       wrote = λ clean s at.
           let it = w.ahead clean s at in
@@ -172,7 +172,7 @@ module _ {S : Type 0} (g : Ghosts S) where
     }
 
     -- it was, and what it holds stands behind what was written before
-    module _ (wrote : Appends b c (lines_again page)) where
+    module _ (c : Option (List ℕ)) (wrote : Appends b c (lines_again page)) where
       written : (s : Operator) → IsWritten s after number page a b
           → (front : List ℕ) × (history_text s after ≡ front ++ history_text s last) × Appends a c front
       written s it =

@@ -1,4 +1,5 @@
-use Rattle.std.proofs.Common.{Some, None, arith}
+use Rattle.std.proofs.Common.{Some, None, ap, arith}
+use Rattle.bike_operator.specs.Requests.{RequestTexts}
 use Rattle.bike_batch.proofs.DeskLemmas.{asked_as}
 use Rattle.bike_batch.proofs.Sources.{found_later}
 use Rattle.bike_batch.proofs.day_tables.next_request.Goals as goal
@@ -7,5 +8,5 @@ use Rattle.bike_batch.proofs.day_tables.next_request.Goals as goal
 pub returns-clause-query : goal.returns-clause-query
 returns-clause-query g c =
     asked_as g.S.Store (Some c.in-Some.request) None
-    (λ s found. absurd (let later = found_later c.args.begin c.args.until s c.args.number c.in-Some.request found in omega (arith, later, c.if-request-number-number.false)))
-    (rw c.in-Some.is at c.in_ok-request_after.ensures.query)
+    (λ s found. absurd (let later = found_later c.args.begin c.args.until s c.args.number c.in-Some.request found in omega (arith, later, ap (λ (x : RequestTexts). x.number) c.request.view_is, c.if-request-number.false)))
+    (rw c.in-Some.is at c.in_ok-request.ensures.query)

@@ -1,4 +1,4 @@
-use Rattle.std.proofs.Common.{Ok, Err, ap}
+use Rattle.std.proofs.Common.{Ok, Err, ap, ◌∙◌, arith}
 use Rattle.bike_operator.specs.Requests.{RequestTexts}
 use Rattle.bike_batch.proofs.WalkLemmas.{text, walk_begins, walk_writes, walk_goes, walk_uncounted, walk_ends, first_failed, next_failed, header_failed, row_failed, table_told}
 use Rattle.bike_batch.proofs.Sources.{requests, request_asks, requests_told}
@@ -39,7 +39,7 @@ pub returns-in_err-next-2 : goal.returns-in_err-next-2
 returns-in_err-next-2 g c =
     let of = requests c.args.begin c.args.until in
     requests_told c.args.begin c.args.until g.S.Store (table_told g.S.Store (text of) _ _ c.from_residual-in_err-next-2.ensures.1
-    (next_failed g.S.Store of c.in-Some.request.number c.in_err-next-2.field-0.0 (λ is. c.in_err-next-2.ensures.takes_none (ap Err is))
+    (next_failed g.S.Store of c.request.inside.number c.in_err-next-2.field-0.0 (λ is. c.in_err-next-2.ensures.takes_none (ap Err is))
     (walk_writes g.S.Store of c.in-Some.request (rw c.in-Some.is at c.requests.invariant.walks)
     (request_asks c.args.begin c.args.until c.in-Some.request (g.W.Write.contents c.requests.out) (g.W.Write.contents c.write_request.new.out)
     (Ok tt) c.in_ok-write_request.ensures)) c.in_err-next-2.ensures.query))
@@ -48,16 +48,14 @@ pub requests-preserved : goal.requests-preserved
 requests-preserved g c =
     let of = requests c.args.begin c.args.until in
     record {
-      walks = walk_uncounted g.S.Store of (walk_goes g.S.Store of c.in-Some.request.number c.in_ok-next-2.next
+      walks = walk_uncounted g.S.Store of (walk_goes g.S.Store of c.request.inside.number c.in_ok-next-2.next
           (walk_writes g.S.Store of c.in-Some.request (rw c.in-Some.is at c.requests.invariant.walks)
           (request_asks c.args.begin c.args.until c.in-Some.request (g.W.Write.contents c.requests.out) (g.W.Write.contents c.write_request.new.out)
           (Ok tt) c.in_ok-write_request.ensures)) c.in_ok-next-2.ensures.query
-          (λ s x same. ap (λ (y : RequestTexts). y.number) same));
+          (λ s x same. ap (λ (y : RequestTexts). y.number) c.request.view_is ∙ ap (λ (y : RequestTexts). y.number) same));
       later = c.in_ok-next-2.ensures.later;
     }
 
 pub requests-smaller : goal.requests-smaller
 requests-smaller g c =
-    let later = rw c.in-Some.is at c.requests.invariant.later in
-    let range = c.next_request-next.type_inv in
-    ?
+    omega (arith, rw c.in-Some.is at c.requests.invariant.later, ap (λ (y : RequestTexts). y.number) c.request.view_is, c.request.invariant)
