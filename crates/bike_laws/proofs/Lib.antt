@@ -9,6 +9,7 @@ pub mod ReplyLemmas
 pub mod NameLemmas
 pub mod QuietLemmas
 pub mod QuietLaw
+pub mod PastLemmas
 pub mod LedgerLemmas
 pub mod LedgerLaw
 pub mod RentalLemmas

@@ -1,5 +1,6 @@
 pub mod Retries
 pub mod Answers
+pub mod Money
 pub mod SingleSteps
 pub mod Sessions
 pub mod History

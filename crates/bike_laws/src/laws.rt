@@ -1,12 +1,11 @@
 //! The laws.
 
 ghost use Rattle.std.specs.Prelude.{◌≡◌, ◌≤◌, ◌++◌, ℕ, List};
-ghost use Rattle.std.specs.FinMap.{keys};
 ghost use Rattle.bike_fixed.specs.Whole.{last_moment};
-ghost use Rattle.bike_ledger.specs.Money.{IsConserved};
 ghost use Rattle.bike_commands.specs.declared.request.Request.{Request};
 ghost use Rattle.bike_commands.specs.Requests.{IsRequest};
 ghost use Rattle.bike_operator.specs.Operator.{Operator, no_operator};
+ghost use Rattle.bike_laws.specs.Money.{KeepsMoney};
 ghost use Rattle.bike_laws.specs.SingleSteps.Accepted.{AcceptedKeeps};
 ghost use Rattle.bike_operator.specs.Sound.{IsSound, AreRentalsSound, IsLedgerSound, AreCalls};
 ghost use Rattle.bike_operator.specs.Runs.{Call, step, after, replies};
@@ -34,14 +33,14 @@ pub fn keeps_soundness_over_lists()
 
 /// The law of money: the balances of all riders and the revenue together are the cash.
 pub fn money_law()
-    ensures { (s : Operator) → IsSound s → IsConserved (keys s.riders) s.entries }
+    ensures { (s : Operator) → IsSound s → KeepsMoney s }
 {}
 
 /// The law of money over lists: after every list of requests from the operator of which nothing was asked, the
 /// balances of all riders and the revenue together are the cash.
 pub fn money_law_over_lists()
     ensures { (cs : List Call) → AreCalls cs
-        → IsConserved (keys (after no_operator cs).riders) (after no_operator cs).entries }
+        → KeepsMoney (after no_operator cs) }
 {}
 
 /// The operator of which nothing was asked yet is sound.
