@@ -25,7 +25,7 @@ system_found (Some x) = rw one_key refl
 
 pub found_by_key : WhereListed FoundByKey
 found_by_key s m sound listing = record {
-  meta = meta_found NEWEST m.since (pos 0) (pos 0);
+  meta = meta_found NEWEST m.since s.past.cash s.past.revenue;
   system = system_found s.system;
   plans = λ id. found_entries texts stored_plan (λ e. refl) id tt s.plans (λ q y found. tt);
   types = λ id. found_entries texts stored_type (λ e. refl) id tt s.types (λ q y found. tt);
@@ -33,10 +33,11 @@ found_by_key s m sound listing = record {
   stations = λ id. found_entries texts (stored_station s) (λ e. refl) id tt s.stations (λ q y found. tt);
   bikes = λ bike. found_entries numbers stored_bike (λ e. refl) bike tt s.bikes (λ q y found. tt);
   trucks = λ truck. found_entries numbers stored_truck (λ e. refl) truck tt s.trucks (λ q y found. tt);
-  riders = λ rider. found_entries numbers (stored_rider s.entries) (λ e. refl) rider tt s.riders (λ q y found. tt);
-  rentals = λ rental. found_number (stored_rental s.entries) (λ e. refl) rental s.rentals;
+  riders = λ rider. found_entries numbers (stored_rider s.entries.items) (λ e. refl) rider tt s.riders (λ q y found. tt);
+  rentals = λ rental. found_number (stored_rental s.entries.items) (λ e. refl) rental s.rentals;
   orders = λ order. found_number stored_order (λ e. refl) order s.orders;
   entries = λ entry. found_number stored_entry (λ e. refl) entry s.entries;
+  books = rw one_key refl;
   more_names = λ kind id language.
       found_entries triples stored_name (λ e. refl) (name_key kind id language) (name_triple kind id language) s.more_names (λ k y found. named_triple s sound.names k y found);
 }
