@@ -26,9 +26,9 @@ use Rattle.bike_book.specs.Tables.{TableName, rows_in, keys_of, Meta, System, Pl
 use Rattle.bike_book.specs.Tables.{Docks, Bikes, Trucks, Riders, Rentals, Orders, Entries, History, MoreNames, Books}
 use Rattle.bike_book.specs.Rows.{number_value, meta_row, system_row, plan_row, type_row, region_row, station_row}
 use Rattle.bike_book.specs.Rows.{dock_row, bike_row, truck_row, rider_row, rental_row, order_row, entry_row}
-use Rattle.bike_book.specs.Rows.{name_row, books_row}
+use Rattle.bike_book.specs.Rows.{name_row}
 use Rattle.bike_book.specs.Stored.{Listed, IsListing, with_numbers, segment_rows, stored_bike, stored_rental}
-use Rattle.bike_book.specs.Stored.{stored_request, tables_for}
+use Rattle.bike_book.specs.Stored.{stored_request, books_rows, tables_for}
 
 -- the fact holds of each sound operator whose rows are listed right
 abbrev pub WhereListed : (Operator → Listed → Type 0) → Type 0
@@ -68,7 +68,7 @@ pub record FoundByKey (s : Operator) (m : Listed) : Type 0 where
   pub entries : (entry : ℕ) → row_under s m Entries (number_value entry ∷ [])
       ≡ option_map (entry_row entry) (item_numbered entry s.entries)
   pub books : row_under s m Books (number_value 1 ∷ [])
-      ≡ Some (books_row s.history.archived s.entries.archived s.rentals.archived)
+      ≡ slice_get (books_rows s.history.archived s.entries.archived s.rentals.archived) 0
   pub more_names : (kind : NameKind) (id language : List ℕ)
       → row_under s m MoreNames (Text (kind_text kind) ∷ Text id ∷ Text language ∷ [])
       ≡ option_map (name_row (name_key kind id language)) (fin.get s.more_names (name_key kind id language))

@@ -1,6 +1,6 @@
 -- The tables of an operator: for each one the row of each record,
 -- in the order of its key, stored numbers by their definitions.
-use Rattle.std.specs.Prelude.{◌≡◌, ℕ, pos, suc, max, ◌+ℤ◌, List, [], ◌∷◌, ◌++◌, map, Option, Some, None, true}
+use Rattle.std.specs.Prelude.{◌≡◌, ◌==◌, if◌then◌else◌, ℕ, suc, max, ◌+◌, ◌+ℤ◌, pos, List, [], ◌∷◌, ◌++◌, map, Option, Some, None, true}
 use Rattle.std.specs.FinMap as fin
 use Rattle.std.specs.FinMap.{FinMap}
 use Rattle.std.specs.FinSet.{FinSet, contains}
@@ -91,9 +91,10 @@ stored_name e = name_row e.0 e.1
 abbrev pub meta_rows : ℕ → Past → List Row
 meta_rows since past = meta_row NEWEST since past.cash past.revenue ∷ []
 
--- how many requests, entries and rentals were archived
-abbrev pub books_rows : Operator → List Row
-books_rows s = books_row s.history.archived s.entries.archived s.rentals.archived ∷ []
+-- how many requests, entries and rentals were archived: no row where none was
+abbrev pub books_rows : ℕ → ℕ → ℕ → List Row
+books_rows requests entries rentals =
+    if requests + entries + rentals == 0 then [] else books_row requests entries rentals ∷ []
 
 abbrev pub system_rows : Option SystemRow → List Row
 system_rows None = []
@@ -140,7 +141,7 @@ tables_for s m = record {
   entries = map stored_entry (with_numbers s.entries);
   history = map stored_request (with_numbers s.history);
   more_names = map stored_name (fin.entries s.more_names);
-  books = books_rows s;
+  books = books_rows s.history.archived s.entries.archived s.rentals.archived;
 }
 
 -- the key is that of a dock of a station

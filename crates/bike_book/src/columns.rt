@@ -400,7 +400,7 @@ pub mod more_names {
     pub const COLUMNS: usize = crate::table!(count more_names);
 }
 
-/// The columns of `books`, whose row tells how much was archived.
+/// The columns of `books`, whose one row tells how much was archived; it has none where nothing was.
 pub mod books {
     /// 1, the key of the one row.
     pub const ONE: usize = 0;
