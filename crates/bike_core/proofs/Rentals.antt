@@ -1,5 +1,5 @@
 -- Rentals that start, end and are recovered, refunds and top-ups: their decisions, and what was found for them.
-use Rattle.std.proofs.Common.{◌≡◌, ℕ, ℤ, pos, ◌+◌, ◌≤◌, ◌+ℤ◌, List, [], ◌∷◌, ◌++◌, Bool, true, false, not, cond, Option, Some, None, is_none, Ok, refl, sym, ap, ◌∙◌, subst}
+use Rattle.std.proofs.Common.{◌≡◌, ℕ, ℤ, pos, ◌+◌, ◌≤◌, ◌+ℤ◌, List, Bool, true, false, not, cond, Option, Some, None, is_none, Ok, refl, sym, ap, ◌∙◌, subst}
 use Rattle.std.specs.Prelude.{IfSome}
 use Rattle.std.specs.Ordering.{nat_cmp, eq_by_cmp}
 use Rattle.std.specs.Cmp.{nat_cmp_total}
@@ -9,7 +9,7 @@ use Rattle.std.specs.FinMap as map
 use Rattle.std.specs.FinMap.{FinMap}
 use Rattle.bike_ledger.specs.Entries.{Entry}
 use Rattle.bike_ledger.specs.declared.entry.EntryKind.TheVariants as kind
-use Rattle.bike_ledger.specs.Ledger.{balance_of, credit}
+use Rattle.bike_ledger.specs.Ledger.{credit}
 use Rattle.bike_commands.specs.declared.command.Command.{Command}
 use Rattle.bike_commands.specs.declared.command.Command.TheVariants as command
 use Rattle.bike_commands.specs.declared.reply.Reply.TheVariants.{Balance, Started, Ended}
@@ -25,9 +25,9 @@ use Rattle.bike_operator.specs.declared.view.RiderView.{RiderView}
 use Rattle.bike_operator.specs.declared.view.View.{View}
 use Rattle.bike_operator.specs.Operator.{Operator, item_numbered, last_number}
 use Rattle.bike_operator.specs.Counts.{is_open, docked_at}
-use Rattle.bike_operator.specs.View.{view_of, docked_view, rental_of, rental_view, bike_of, rider_view, before_of}
+use Rattle.bike_operator.specs.View.{view_of, docked_view, rental_of, rental_view, bike_of, rider_view, rider_balance}
 use Rattle.bike_operator.specs.Steps.{first, tests, fare_now, effect, reply_of, found_changed, key_changed, with_fare, plan_for}
-use Rattle.bike_operator.specs.Changes.{place_of}
+use Rattle.bike_operator.specs.Changes.{place_of, entry_added}
 use Rattle.bike_operator.specs.Sound.{IsSound, IsOut, IsOpenOrClosed}
 use Rattle.bike_laws.specs.SingleSteps.Laws.{IsAway}
 use Rattle.bike_laws.proofs.SingleSteps.FoundLemmas.{ridden_in, IsRentalRow, rental_row}
@@ -116,7 +116,7 @@ module _ (v : View) (now bike dock : ℕ) (station : Bor (List ℕ)) where
 
       pub end_decided : Decides s now end (Ok ended)
       end_decided =
-          let balance = balance_after_entry s.entries.items (fare_entry (last_number s.entries + 1) r now) (before_of (map.get s.riders r.rental.rider)) r.balance (bike_balance s (map.get s.bikes bike) r rental) in
+          let balance = balance_after_entry s (fare_entry (last_number s.entries + 1) r now) r.balance (bike_balance s (map.get s.bikes bike) r rental) in
           let entry = fare.entry_is in
           let after = fare.balance_is in
           let type_is = shown.type_is in
@@ -251,7 +251,7 @@ module _ (v : View) (now rental : ℕ) (r : RentalView) (booked : BookedEntry) (
 
     pub recover_decided : Decides s now recovery (Ok closed)
     recover_decided =
-        let balance = balance_after_entry s.entries.items (fare_entry (last_number s.entries + 1) r now) (before_of (map.get s.riders r.rental.rider)) r.balance (rental_balance s rental (item_numbered rental s.rentals) r shown) in
+        let balance = balance_after_entry s (fare_entry (last_number s.entries + 1) r now) r.balance (rental_balance s rental (item_numbered rental s.rentals) r shown) in
         let entry = fare.entry_is in
         let balance_is = fare.balance_is in
         (refused_as s v recovery None e passes, rw (entry, balance_is, shown) (ap (Ended (fare_now r now)) (sym balance)), after (map.get s.bikes r.rental.bike) refl made)
@@ -305,7 +305,7 @@ module _ (v : View) (now rental amount : ℕ) (r : RentalView) (booked : BookedE
 
     pub refund_decided : Decides s now refund (Ok given)
     refund_decided =
-        let balance = balance_after_entry s.entries.items (refund_entry (last_number s.entries + 1) r amount now) (before_of (map.get s.riders r.rental.rider)) r.balance (rental_balance s rental (item_numbered rental s.rentals) r of) in
+        let balance = balance_after_entry s (refund_entry (last_number s.entries + 1) r amount now) r.balance (rental_balance s rental (item_numbered rental s.rentals) r of) in
         (refused_as s v refund None e passes, rw (balance_is, of) (ap Balance (sym balance)), rw (entry_is, of, so_many) refl)
 
     pub refund_found : AreFound now s given
@@ -342,10 +342,11 @@ module _ (v : View) (now rider amount : ℕ) (row : RiderView) (booked : BookedE
     pub top_up_decided : Decides s now top_up (Ok paid)
     top_up_decided =
         let none : None ≡ first (tests v top_up) = rw (rider_is, room) refl in
-        let balance = balance_after_entry s.entries.items (top_up_entry (last_number s.entries + 1) rider amount now) (before_of (map.get s.riders rider)) row.balance (row_balance s rider (map.get s.riders rider) row known) in
+        let balance = balance_after_entry s (top_up_entry (last_number s.entries + 1) rider amount now) row.balance (row_balance s rider (map.get s.riders rider) row known) in
         (refused_as s v top_up None e none, balance_is_reply balance, rw (entry_is, numbered) refl)
       where
-        balance_is_reply : before_of (map.get s.riders rider) +ℤ balance_of rider (s.entries.items ++ top_up_entry (last_number s.entries + 1) rider amount now ∷ []) ≡ row.balance +ℤ pos amount → Balance booked.balance ≡ reply_of s now top_up
+        balance_is_reply : rider_balance (entry_added (Some (top_up_entry (last_number s.entries + 1) rider amount now)) s) rider ≡ row.balance +ℤ pos amount
+            → Balance booked.balance ≡ reply_of s now top_up
         balance_is_reply b = ap Balance (balance_is ∙ sym b)
 
     pub top_up_found : AreFound now s paid

@@ -1,5 +1,5 @@
 -- What a view shows of a dock, of a bicycle and of a balance.
-use Rattle.std.proofs.Common.{◌≡◌, ℕ, ℤ, pos, ◌+ℤ◌, List, [], ◌∷◌, ◌++◌, true, cond, eqb, Option, Some, None, is_some, refl, sym, ap, ◌∙◌, arith, inl, inr}
+use Rattle.std.proofs.Common.{◌≡◌, ℕ, ℤ, pos, ◌+ℤ◌, List, true, cond, eqb, Option, Some, None, is_some, refl, sym, ap, ◌∙◌, arith, inl, inr}
 use Rattle.std.specs.Prelude.{Result, Ok, Err, IfOk}
 use Rattle.std.specs.Option.{option_copied}
 use Rattle.std.specs.Borrow.{Bor}
@@ -24,7 +24,7 @@ use Rattle.bike_operator.specs.Operator.{Operator, Rider, item_numbered}
 use Rattle.bike_operator.specs.Counts.{is_dock, docked_at}
 use Rattle.bike_operator.specs.View.{view_of, before_of, rider_balance, rider_view, typed_bike, docked_view, rental_view, rental_of, rental_in, planned_rental}
 use Rattle.bike_operator.specs.Steps.{first, tests, refusal_of, own_plan}
-use Rattle.bike_operator.specs.Changes.{text_in}
+use Rattle.bike_operator.specs.Changes.{text_in, entry_added}
 use Rattle.bike_operator.specs.Sound.{AreBikesSound}
 use Rattle.bike_laws.proofs.SingleSteps.MapLemmas.{number_order}
 use Rattle.bike_laws.proofs.SingleSteps.CountLemmas.{found_by}
@@ -62,10 +62,9 @@ equal_to_itself : (n : ℕ) → eqb n n ≡ true
 equal_to_itself n = elim (eqb_tells n n) [ inl w ↦ w.0 | inr w ↦ absurd (w.1 refl) ]
 
 -- one more entry adds its credit to its rider's balance
-pub balance_after_entry : (es : List Entry) (e : Entry) (before balance : ℤ) → before +ℤ balance_of e.rider es ≡ balance
-    → before +ℤ balance_of e.rider (es ++ e ∷ []) ≡ balance +ℤ credit e.kind e.amount
-balance_after_entry es e before balance is =
-    let more = total-append (share e.rider) es e in
+pub balance_after_entry : (s : Operator) (e : Entry) (balance : ℤ) → rider_balance s e.rider ≡ balance → rider_balance (entry_added (Some e) s) e.rider ≡ balance +ℤ credit e.kind e.amount
+balance_after_entry s e balance is =
+    let more = total-append (share e.rider) s.entries.items e in
     let own : share e.rider e ≡ credit e.kind e.amount = ap (λ b. cond b (credit e.kind e.amount) (pos 0)) (equal_to_itself e.rider) in
     omega (arith, ints, more, own, is)
 
