@@ -86,7 +86,7 @@ CHANGES = [
     ("UPDATE meta SET version = 2, cash = cash + 1", "older 2"),
     ("UPDATE meta SET version = 1, cash = cash + 1", "older 1"),
     ("UPDATE meta SET version = 1; DROP TABLE docks", "older 1"),
-    ("UPDATE meta SET version = 1; DROP TABLE regions; DELETE FROM riders", "older 1"),
+    ("UPDATE meta SET version = 1; DROP TABLE regions; DELETE FROM riders_4", "older 1"),
     ("UPDATE meta SET version = 3", "older 3"),
     ("UPDATE meta SET version = 3; DROP TABLE history", "older 3"),
     ("UPDATE meta SET version = 5", "newer 5"),
@@ -347,16 +347,21 @@ CHANGES = [
     ("DELETE FROM trucks; DELETE FROM bikes WHERE bike = 9", "unsound orders 1"),
     ("UPDATE trucks SET capacity = 0; DELETE FROM bikes WHERE bike = 9", "unsound trucks 3"),
     ("INSERT INTO trucks VALUES (4, 61)", "unsound trucks 4"),
-    ("UPDATE riders SET balance = balance + 1 WHERE rider = 17", "unsound riders 17"),
-    ("UPDATE riders SET balance = balance + 1", "unsound riders 17"),
-    ("UPDATE riders SET balance = balance + 1 WHERE rider = 18", "unsound riders 18"),
-    ("UPDATE riders SET blocked = 2 WHERE rider = 18", "unsound riders 18"),
-    ("UPDATE riders SET rider = 19 WHERE rider = 18", "unsound riders 19"),
-    ("INSERT INTO riders VALUES (19, 0, 1)", "unsound riders 19"),
-    ("INSERT INTO riders VALUES (19, 0, 0)", None),
-    ("INSERT INTO riders VALUES (1000000, 0, 0)", "unsound riders 1000000"),
-    ("DELETE FROM riders WHERE rider = 18", "unsound entries 4"),
-    ("DELETE FROM riders WHERE rider = 17", "unsound rentals 1"),
+    ("UPDATE riders_4 SET balance = balance + 1 WHERE rider = 17", "unsound riders_4 17"),
+    ("UPDATE riders_4 SET balance = balance + 1", "unsound riders_4 17"),
+    ("UPDATE riders_4 SET balance = balance + 1 WHERE rider = 18", "unsound riders_4 18"),
+    ("UPDATE riders_4 SET blocked = 2 WHERE rider = 18", "unsound riders_4 18"),
+    ("UPDATE riders_4 SET rider = 19 WHERE rider = 18", "unsound riders_4 19"),
+    ("INSERT INTO riders_4 VALUES (19, 0, 1, 0, NULL)", "unsound riders_4 19"),
+    ("INSERT INTO riders_4 VALUES (19, 0, 0, 0, NULL)", None),
+    ("INSERT INTO riders_4 VALUES (1000000, 0, 0, 0, NULL)", "unsound riders_4 1000000"),
+    ("UPDATE riders_4 SET plan_id = 'basic'", None),
+    ("UPDATE riders_4 SET plan_id = 'gold' WHERE rider = 18", "unsound riders_4 18"),
+    ("UPDATE riders_4 SET plan_id = 'Basic' WHERE rider = 17", "unsound riders_4 17"),
+    ("UPDATE riders_4 SET before = 1, balance = balance + 1 WHERE rider = 17", "unsound riders_4 17"),
+    ("UPDATE riders_4 SET before = 1 WHERE rider = 18", "unsound riders_4 18"),
+    ("DELETE FROM riders_4 WHERE rider = 18", "unsound entries 4"),
+    ("DELETE FROM riders_4 WHERE rider = 17", "unsound rentals 1"),
     ("UPDATE rentals SET refunded = 24 WHERE rental = 1", "unsound rentals 1"),
     ("UPDATE rentals SET fare = 126 WHERE rental = 1", "unsound entries 2"),
     ("UPDATE rentals SET fare = 20 WHERE rental = 1", "unsound rentals 1"),
@@ -375,7 +380,7 @@ CHANGES = [
     (
         "INSERT INTO rentals SELECT 3, 17, 10, plan_id, from_station, start, NULL, NULL, NULL, 0 FROM rentals "
         "WHERE rental = 2",
-        "unsound riders 17",
+        "unsound riders_4 17",
     ),
     ("UPDATE orders SET quantity = 0 WHERE ord = 3", "unsound bikes 9"),
     ("UPDATE orders SET delivered = 2 WHERE ord = 3", "unsound orders 3"),
@@ -387,17 +392,24 @@ CHANGES = [
     ("UPDATE orders SET ord = 5 WHERE ord = 3", "unsound bikes 9"),
     ("UPDATE orders SET is_open = 0 WHERE ord = 3", "unsound bikes 9"),
     ("DELETE FROM orders WHERE ord = 1", "unsound orders 2"),
-    ("UPDATE entries SET amount = 2501 WHERE entry = 1", "unsound riders 17"),
-    ("UPDATE entries SET kind = 4 WHERE entry = 4", "unsound riders 18"),
-    ("UPDATE entries SET rider = 18 WHERE entry = 1", "unsound riders 17"),
+    ("UPDATE entries SET amount = 2501 WHERE entry = 1", "unsound riders_4 17"),
+    ("UPDATE entries SET kind = 4 WHERE entry = 4", "unsound riders_4 18"),
+    ("UPDATE entries SET rider = 18 WHERE entry = 1", "unsound riders_4 17"),
     ("UPDATE entries SET at = 1800000000 WHERE entry = 1", "unsound entries 1"),
     ("UPDATE entries SET entry = 5 WHERE entry = 4", "unsound entries 5"),
     ("UPDATE entries SET rental = 2 WHERE entry = 2", "unsound rentals 1"),
     (
         "INSERT INTO entries VALUES (5, 2, 17, 1, 125, 1700003000);"
-        " UPDATE riders SET balance = balance - 125 WHERE rider = 17",
+        " UPDATE riders_4 SET balance = balance - 125 WHERE rider = 17",
         "unsound entries 5",
     ),
+    # Nothing was archived, whatever books says: the first number that doesn't go on from there is bad.
+    ("INSERT INTO books VALUES (1, 0, 0, 0)", "unsound books 1"),
+    ("INSERT INTO books VALUES (2, 1, 1, 1)", "unsound books 2"),
+    ("INSERT INTO books VALUES (1, -1, 0, 1)", "unsound books 1"),
+    ("INSERT INTO books VALUES (1, 0, 0, 1)", "unsound rentals 1"),
+    ("INSERT INTO books VALUES (1, 0, 1, 0)", "unsound entries 1"),
+    ("INSERT INTO books VALUES (1, 1, 0, 0)", "unsound history 1"),
     ("UPDATE history SET reply = 'refused\t4\tunknown_rider' WHERE req_key = 'k2'", "unsound history 3"),
     ("UPDATE history SET command = 'add-rider\t017' WHERE req_key = 'k2'", "unsound history 3"),
     ("UPDATE history SET caller = 'rider:0' WHERE req_key = 'k2'", "unsound history 3"),
@@ -531,8 +543,14 @@ CHANGES = [
     ("ALTER TABLE stations_4 RENAME COLUMN by_type TO types", "foreign"),
     ("ALTER TABLE regions ADD COLUMN colour TEXT", "foreign"),
     ("ALTER TABLE bikes DROP COLUMN ord", "foreign"),
-    ("ALTER TABLE riders ADD COLUMN nickname TEXT", "foreign"),
+    ("ALTER TABLE riders_4 ADD COLUMN nickname TEXT", "foreign"),
+    ("ALTER TABLE riders_4 DROP COLUMN plan_id", "foreign"),
+    ("ALTER TABLE riders_4 RENAME TO riders", "foreign"),
+    ("DROP TABLE books", "foreign"),
+    ("ALTER TABLE books ADD COLUMN orders INTEGER", "foreign"),
     ("CREATE TABLE helmets (rider INTEGER REFERENCES riders)", "foreign"),
+    ("CREATE TABLE riders (name TEXT UNIQUE); INSERT INTO riders VALUES ('x')", None),
+    ("CREATE TABLE helmets (rider INTEGER REFERENCES riders_4)", "foreign"),
     ("CREATE TABLE offices (region TEXT REFERENCES regions)", "foreign"),
     ("CREATE TABLE stations (station TEXT); CREATE TABLE stations_2 (station TEXT)", None),
     ("CREATE TABLE stations_3 (name TEXT UNIQUE); CREATE TABLE counts (a); INSERT INTO counts VALUES (1), (1)", None),
@@ -553,9 +571,9 @@ CHANGES = [
     ),
     ("CREATE TABLE notes (note TEXT); INSERT INTO notes VALUES ('x')", None),
     # Of a partial index, or one over an expression, it isn't known what it refuses.
-    ("CREATE UNIQUE INDEX one_balance ON riders (balance) WHERE balance > 0", "foreign"),
-    ("CREATE INDEX by_balance ON riders (balance) WHERE balance > 0", "foreign"),
-    ("CREATE INDEX by_half ON riders (balance / 2)", "foreign"),
+    ("CREATE UNIQUE INDEX one_balance ON riders_4 (balance) WHERE balance > 0", "foreign"),
+    ("CREATE INDEX by_balance ON riders_4 (balance) WHERE balance > 0", "foreign"),
+    ("CREATE INDEX by_half ON riders_4 (balance / 2)", "foreign"),
     # What a key refuses already.
     ("CREATE UNIQUE INDEX again ON plans (plan_id ASC)", None),
     ("CREATE UNIQUE INDEX again ON history (number)", "foreign"),
@@ -564,14 +582,14 @@ CHANGES = [
     ("CREATE UNIQUE INDEX again ON docks (dock, station_id)", "foreign"),
     ("CREATE UNIQUE INDEX again ON docks (station_id COLLATE NOCASE, dock)", "foreign"),
     ("CREATE UNIQUE INDEX again ON docks (station_id, dock DESC)", "foreign"),
-    ("CREATE INDEX by_balance ON riders (balance); CREATE INDEX by_name ON stations_4 (name COLLATE NOCASE)", None),
+    ("CREATE INDEX by_balance ON riders_4 (balance); CREATE INDEX by_name ON stations_4 (name COLLATE NOCASE)", None),
     ("CREATE TABLE notes (note TEXT, size INTEGER UNIQUE); CREATE UNIQUE INDEX one_note ON notes (note)", None),
     ("CREATE TABLE stations (name TEXT); CREATE UNIQUE INDEX one_name ON stations (name)", None),
     # It is told before the version and the rows are looked at.
-    ("UPDATE meta SET version = 1; CREATE UNIQUE INDEX one_balance ON riders (balance)", "foreign"),
-    ("UPDATE meta SET version = 5; CREATE UNIQUE INDEX one_balance ON riders (balance)", "foreign"),
-    ("UPDATE riders SET balance = balance + 1; CREATE UNIQUE INDEX one_balance ON riders (balance)", "foreign"),
-    ("CREATE UNIQUE INDEX one_balance ON riders (balance); DROP INDEX one_balance", None),
+    ("UPDATE meta SET version = 1; CREATE UNIQUE INDEX one_balance ON riders_4 (balance)", "foreign"),
+    ("UPDATE meta SET version = 5; CREATE UNIQUE INDEX one_balance ON riders_4 (balance)", "foreign"),
+    ("UPDATE riders_4 SET balance = balance + 1; CREATE UNIQUE INDEX one_balance ON riders_4 (balance)", "foreign"),
+    ("CREATE UNIQUE INDEX one_balance ON riders_4 (balance); DROP INDEX one_balance", None),
 ]
 
 # The 37 requests are numbered as they are asked: k2 is number 3. The first 13 have one moment, and number 37 has `now`.
@@ -634,7 +652,7 @@ HISTORY_CHANGES = [
         "unsound history 38",
     ),
     # Of two bad rows the first is told, whichever rule it breaks.
-    (f"{AGAIN}; UPDATE riders SET balance = balance + 1", "unsound riders 17"),
+    (f"{AGAIN}; UPDATE riders_4 SET balance = balance + 1", "unsound riders_4 17"),
     (f"{AGAIN}; UPDATE history SET reply = 'no' WHERE number = 37", "unsound history 37"),
     ("UPDATE history SET req_key = 'k2' WHERE number = 9; UPDATE history SET reply = 'no' WHERE number = 10",
      "unsound history 9"),
@@ -646,7 +664,7 @@ HISTORY_CHANGES = [
     # Before the rows it is told that the file is another program's, or another version's.
     (f"{AGAIN}; UPDATE meta SET app = 'other'", "foreign"),
     (f"{AGAIN}; DROP TABLE docks", "foreign"),
-    (f"{AGAIN}; CREATE UNIQUE INDEX one_balance ON riders (balance)", "foreign"),
+    (f"{AGAIN}; CREATE UNIQUE INDEX one_balance ON riders_4 (balance)", "foreign"),
     (f"{AGAIN}; CREATE TABLE helmets (key TEXT REFERENCES history)", "foreign"),
     (f"{AGAIN}; ALTER TABLE history ADD COLUMN more TEXT", "foreign"),
     (f"{AGAIN}; UPDATE meta SET version = 2", "older 2"),
@@ -678,8 +696,8 @@ OTHERS = [
 ADDED = [
     "meta (app)", "system (system_id)", "plans (price)", "segments (rate)", "types (name)", "regions (name)",
     "stations_4 (name)", "docks (station_id)", "bikes (station_id, dock)", "bikes (rental)", "bikes (bike)",
-    "trucks (capacity)", "riders (balance)", "riders (rider)", "rentals (start)", "orders (to_end, quantity)",
-    "entries (amount)", "history (req_key)", "stations_4 (by_type)", "more_names (name)",
+    "trucks (capacity)", "riders_4 (balance)", "riders_4 (rider)", "rentals (start)", "orders (to_end, quantity)",
+    "entries (amount)", "history (req_key)", "stations_4 (by_type)", "more_names (name)", "books (entries)",
 ]
 # The indexes of a new file beside those of the keys: the table of each, and its columns.
 INDEXES = {
@@ -799,7 +817,7 @@ def test_no_word_takes_a_file_with_such_an_index(program):
     file = Path(program.folder, "city.db")
     ended = program.run("lines", file.name, given=b"1700000000\toffice\tk1\tadd-rider\t17\n")
     assert ended == (0, b"ok\n", b""), ended
-    changed(file, "CREATE UNIQUE INDEX one_blocked ON riders (blocked)")
+    changed(file, "CREATE UNIQUE INDEX one_blocked ON riders_4 (blocked)")
     before, rows = file.read_bytes(), held(file)
     for word, *more in EACH_WORD:
         ended = program.run(word, file.name, *more, given=b"1700000001\toffice\tk2\tadd-rider\t18\n")
@@ -877,8 +895,8 @@ def test_a_balance_that_is_off_by_one(program):
     ended = program.run("lines", "city.db", given=lines)
     assert ended == (0, b"ok\nbalance\t2500\n", b""), ended
     file = Path(program.folder, "city.db")
-    changed(file, "UPDATE riders SET balance = 2501")
-    checked(program, file, "unsound riders 17")
+    changed(file, "UPDATE riders_4 SET balance = 2501")
+    checked(program, file, "unsound riders_4 17")
 
 
 def test_what_others_have_stays_beside_new_tables(program):

@@ -105,6 +105,21 @@ class Audit:
             and agree(table, row)
         )
 
+    def archived(self):
+        """How many requests, entries and rentals were archived: by the first good row of books."""
+        return min(self.good["books"], key=lambda it: it["one"], default={"requests": 0, "entries": 0, "rentals": 0})
+
+    def is_of_archived(self, amount):
+        """Whether so many archived entries can come to an amount."""
+        return abs(amount) <= formats.GREATEST_FARE * self.archived()["entries"]
+
+    def last(self, table):
+        """The greatest number of a table's rows, or how many were archived where it has none."""
+        return self.archived()[table] + len(self.good[table])
+
+    def open_rentals(self):
+        return sum(it["finish"] is None for it in self.good["rentals"])
+
     def sum(self, kind, **of):
         return sum(
             entry["amount"]
@@ -160,7 +175,7 @@ class Audit:
         return sum(it[0] == "truck" and it[1] == truck and order in (None, it[2]) for it in places)
 
     def meta(self, row, at):
-        return row["cash"] == row["revenue"] == 0
+        return self.is_of_archived(row["cash"]) and self.is_of_archived(row["revenue"])
 
     def system(self, row, at):
         return True
@@ -219,20 +234,22 @@ class Audit:
     def trucks(self, row, at):
         return self.on_truck(row["truck"]) <= row["capacity"]
 
-    def riders(self, row, at):
+    def riders_4(self, row, at):
         riding = sum(it["rider"] == row["rider"] and it["finish"] is None for it in self.good["rentals"])
         signs = {1: 1, 2: -1, 3: 1, 4: -1, 5: -1, 6: 1}
-        balance = sum(sign * self.sum(kind, rider=row["rider"]) for kind, sign in signs.items())
-        return row["balance"] == balance and riding <= 1
+        balance = row["before"] + sum(sign * self.sum(kind, rider=row["rider"]) for kind, sign in signs.items())
+        plan = row["plan_id"] is None or row["plan_id"] in self.by["plans"]
+        return row["balance"] == balance and riding <= 1 and plan and self.is_of_archived(row["before"])
 
     def rentals(self, row, at):
         number = row["rental"]
         named = (
-            row["rider"] in self.by["riders"]
+            row["rider"] in self.by["riders_4"]
             and row["plan_id"] in self.by["plans"]
             and row["from_station"] in self.by["stations_4"]
         )
-        if number != at + 1 or not named or row["bike"] not in self.by["bikes"] or row["start"] > self.now():
+        is_next = number == self.archived()["rentals"] + at + 1
+        if not is_next or not named or row["bike"] not in self.by["bikes"] or row["start"] > self.now():
             return False
         if row["refunded"] != self.sum(3, rental=number):
             return False
@@ -260,9 +277,13 @@ class Audit:
         return row["delivered"] + held <= row["quantity"] and (row["is_open"] == 1 or held == 0)
 
     def entries(self, row, at):
-        if row["entry"] != at + 1 or row["rider"] not in self.by["riders"] or row["at"] > self.now():
+        archived = self.archived()
+        is_next = row["entry"] == archived["entries"] + at + 1
+        if not is_next or row["rider"] not in self.by["riders_4"] or row["at"] > self.now():
             return False
-        if row["rental"] == 0:
+        if archived["entries"] + at + self.open_rentals() >= formats.MOST_ENTRIES:
+            return False
+        if row["rental"] <= archived["rentals"]:
             return True
         rental = self.by["rentals"].get(row["rental"])
         if rental is None or rental["finish"] is None or rental["rider"] != row["rider"]:
@@ -277,7 +298,8 @@ class Audit:
         before = [it for it in self.good["history"] if it["number"] < row["number"]]
         again = any((it["caller"], it["req_key"]) == (row["caller"], row["req_key"]) for it in before)
         moments = [it["moment"] for it in before[-1:]] + [row["moment"], self.now()]
-        return row["number"] == at + 1 and moments == sorted(moments) and not again
+        is_next = row["number"] == self.archived()["requests"] + at + 1
+        return is_next and moments == sorted(moments) and not again
 
     def more_names(self, row, at):
         system = self.by["system"].get(1)
@@ -293,6 +315,13 @@ class Audit:
             for it in self.good["more_names"]
         )
         return row["id"] in there and row["language"] != system["language"] and before < 3
+
+    def books(self, row, at):
+        ends = self.last("entries") + self.open_rentals()
+        before = sum(it["before"] for it in self.good["riders_4"])
+        is_conserved = before + self.by["meta"][1]["revenue"] == self.by["meta"][1]["cash"]
+        is_some = row["requests"] + row["entries"] + row["rentals"] > 0
+        return is_some and self.last("rentals") <= ends <= formats.MOST_ENTRIES and is_conserved
 
 
 def rank(value):

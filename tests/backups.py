@@ -62,9 +62,9 @@ def rolled_back(city, count):
     """The tables of a city as they were after so many top-ups of 1 hundredth each. Rider 17 had 25.00 before."""
     # The first entry is that of the 25.00.
     entries = [it for it in city["entries"] if it[0] <= count + 1]
-    riders = [(rider, blocked, 2500 + count) for rider, blocked, _ in city["riders"]]
+    riders = [(rider, blocked, 2500 + count, *more) for rider, blocked, _, *more in city["riders_4"]]
     requests = [it for it in city["history"] if number_of(it[3]) <= count]
-    return city | {"entries": entries, "riders": riders, "history": requests}
+    return city | {"entries": entries, "riders_4": riders, "history": requests}
 
 
 def finished(words, **how):

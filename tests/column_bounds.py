@@ -49,16 +49,18 @@ BY_HAND = [
     ("rentals", "refunded", 4, {1: "rentals 4", LEAST: "rentals 4", MOST: "rentals 4"}),
     ("rentals", "start", 4, {0: None, 253402300799: "rentals 4", 253402300800: "bikes 7", -1: "bikes 7"}),
     ("rentals", "fare", 4, {100: "bikes 7"}),
-    ("entries", "rental", 1, {1: "riders 17"}),
-    ("entries", "rental", 3, {0: "riders 17", 2: "rentals 1", 4: "rentals 1", 10**8: "rentals 1"}),
-    ("entries", "rental", 3, {10**8 + 1: "riders 17"}),
-    ("entries", "at", 1, {0: None, 253402300799: "entries 1", 253402300800: "riders 17"}),
+    ("entries", "rental", 1, {1: "riders_4 17"}),
+    ("entries", "rental", 3, {0: "riders_4 17", 2: "rentals 1", 4: "rentals 1", 10**8: "rentals 1"}),
+    ("entries", "rental", 3, {10**8 + 1: "riders_4 17"}),
+    ("entries", "at", 1, {0: None, 253402300799: "entries 1", 253402300800: "riders_4 17"}),
     ("docks", "broken", ("a1", 3), {0: "stations_4 a1", 2: "stations_4 a1"}),
     ("stations_4", "broken", "a1", {2**32 - 1: "stations_4 a1", 2**32: "stations_4 a1", -1: "stations_4 a1"}),
     ("stations_4", "by_type", "a1", {"cargo:0:1": None, "-": "stations_4 a1", "cargo:0:1;city:0:0": "stations_4 a1"}),
     ("stations_4", "by_type", "b2", {"-": None, "": "stations_4 b2", "cargo:0:1": "stations_4 b2"}),
     ("stations_4", "free", "a1", {LEAST: "stations_4 a1", MOST: "stations_4 a1"}),
-    ("riders", "balance", 17, {LEAST: "riders 17", MOST: "riders 17"}),
+    ("riders_4", "balance", 17, {LEAST: "riders_4 17", MOST: "riders_4 17"}),
+    ("riders_4", "before", 17, {0: None, LEAST: "riders_4 17", MOST: "riders_4 17"}),
+    ("riders_4", "plan_id", 17, {"day": "riders_4 17", "Day": "riders_4 17", "-": "riders_4 17"}),
 ]
 
 

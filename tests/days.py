@@ -96,7 +96,7 @@ def test_entries_of_kinds_that_no_command_makes(program):
     ask(program, CITY)
     added = [(2, 4, "withdrawal", 100, "1.00"), (3, 5, "charge", 1, "0.01"), (4, 6, "credit", 1000000, "10000.00")]
     rows = ", ".join(f"({number}, {kind}, 17, 0, {amount}, 1699999200)" for number, kind, _, amount, _ in added)
-    change = f"INSERT INTO entries VALUES {rows}; UPDATE riders SET balance = 1002399 WHERE rider = 17"
+    change = f"INSERT INTO entries VALUES {rows}; UPDATE riders_4 SET balance = 1002399 WHERE rider = 17"
     changed(Path(program.folder, "city.db"), change)
     is_sound(program)
     lines = [f"{number},{name},17,0,{amount}" for number, _, name, _, amount in added]

@@ -165,14 +165,15 @@ TRUCKS = "DROP TABLE trucks; CREATE TABLE trucks "
 REGIONS = "DROP TABLE regions; CREATE TABLE regions (region_id TEXT PRIMARY KEY NOT NULL, "
 # What somebody adds to the city's file by SQL, how it is told, and what takes it away.
 ADDED = (
-    ("CREATE INDEX some ON riders (blocked) WHERE blocked = 1", "the index some, which is partial", "DROP INDEX some"),
-    ("CREATE INDEX [a b] ON riders (blocked + 1)", "the index a b, which is partial or of", 'DROP INDEX "a b"'),
+    ("CREATE INDEX some ON riders_4 (blocked) WHERE blocked = 1", "the index some, which is partial",
+     "DROP INDEX some"),
+    ("CREATE INDEX [a b] ON riders_4 (blocked + 1)", "the index a b, which is partial or of", 'DROP INDEX "a b"'),
     ("CREATE INDEX some ON meta (app) WHERE app = 'x'", "the table meta has the index some", "DROP INDEX some"),
-    ("CREATE TRIGGER mail AFTER INSERT ON riders BEGIN SELECT 1; END", "the trigger mail stands on the table riders",
+    ("CREATE TRIGGER mail AFTER INSERT ON riders_4 BEGIN SELECT 1; END", "trigger mail stands on the table riders_4",
      "DROP TRIGGER mail"),
-    ("CREATE TABLE cards (rider REFERENCES Riders (rider))", "a foreign key of the table cards names the table Riders",
+    ("CREATE TABLE cards (rider REFERENCES Riders_4 (rider))", "a foreign key of the table cards names the table Ri",
      "DROP TABLE cards"),
-    ("CREATE UNIQUE INDEX once ON riders (blocked)", "the table riders has the UNIQUE index once beside its key",
+    ("CREATE UNIQUE INDEX once ON riders_4 (blocked)", "the table riders_4 has the UNIQUE index once beside its key",
      "DROP INDEX once"),
     ("CREATE UNIQUE INDEX once ON history (caller, req_key)", "the table history has the UNIQUE index once beside its",
      "DROP INDEX once"),
@@ -182,6 +183,8 @@ ANEW = (
     f"CREATE TEMP TABLE requests AS SELECT * FROM history; DROP TABLE history; {HISTORY}; "
     "INSERT INTO history SELECT * FROM temp.requests"
 )
+# The tables that are of schema 4 alone.
+LATER = "history", "stations_4", "riders_4", "books"
 # A change to the city's file by SQL, what `check` says of it, and a word of the hint.
 CHANGES = (
     ("", None, ""),
@@ -192,11 +195,12 @@ CHANGES = (
      None, ""),
     (ANEW, None, ""),
     (f"{ANEW}; CREATE TABLE kept (a UNIQUE); CREATE VIEW stations AS SELECT 1", None, ""),
-    ("CREATE TABLE counts (a UNIQUE); CREATE TABLE stations_3 (a)", None, ""),
+    ("CREATE TABLE counts (a UNIQUE); CREATE TABLE stations_3 (a); CREATE TABLE riders (a UNIQUE)", None, ""),
     (f"DROP TABLE history; {KEYED}", "foreign", "there is no table history"),
     (f"{KEYED}; UPDATE meta SET version = 3", "older 3", "the table stations_4 has a name of a later schema"),
-    ("DROP TABLE stations_4; UPDATE meta SET version = 3", "older 3", "the table history has a name of a later"),
-    *((f"{it}; DROP TABLE history; DROP TABLE stations_4; UPDATE meta SET version = 3", "older 3",
+    ("DROP TABLE stations_4; UPDATE meta SET version = 3", "older 3", "the table riders_4 has a name of a later"),
+    ("DROP TABLE books", "foreign", "there is no table books"),
+    *((f"{it}; {' '.join(f'DROP TABLE {table};' for table in LATER)} UPDATE meta SET version = 3", "older 3",
        "bikeshare raise FILE") for it in (KEYED, f"{UNKEYED}; {KEPT_BY_KEY}")),
     (f"{UNKEYED}; {KEPT_BY_KEY}; INSERT INTO kept SELECT caller, req_key, command, reply FROM history; "
      f"INSERT INTO kept SELECT * FROM kept LIMIT 1; {KEY_DECLARED}", "store failed", "non-unique entry in index"),
@@ -206,10 +210,10 @@ CHANGES = (
      "foreign", "sqlite_autoindex_history_1 beside its key"),
     (f"DROP TABLE history; {HISTORY.replace('moment INTEGER', 'moment TEXT')}", "foreign", "column moment is"),
     ("PRAGMA journal_mode = DELETE; PRAGMA page_size = 512; VACUUM", None, ""),
-    ("DROP TABLE riders", "foreign", "there is no table riders"),
-    ("ALTER TABLE riders RENAME TO r; ALTER TABLE r RENAME TO RIDERS", "foreign", "called RIDERS"),
-    ("ALTER TABLE riders ADD COLUMN card TEXT", "foreign", "the column card more"),
-    ("ALTER TABLE riders RENAME COLUMN balance TO money", "foreign", "no column balance"),
+    ("DROP TABLE riders_4", "foreign", "there is no table riders_4"),
+    ("ALTER TABLE riders_4 RENAME TO r; ALTER TABLE r RENAME TO RIDERS_4", "foreign", "called RIDERS_4"),
+    ("ALTER TABLE riders_4 ADD COLUMN card TEXT", "foreign", "the column card more"),
+    ("ALTER TABLE riders_4 RENAME COLUMN balance TO money", "foreign", "no column balance"),
     ("DROP TABLE docks; CREATE TABLE docks AS SELECT 1 AS station_id", "foreign", "column station_id"),
     (TRUCKS + "(truck INTEGER PRIMARY KEY, capacity INTEGER NOT NULL)", "foreign", "isn't STRICT"),
     (TRUCKS + "(truck INTEGER PRIMARY KEY, capacity INTEGER) STRICT", "foreign", "column capacity"),
@@ -245,14 +249,14 @@ CHANGES = (
           ("rootpage = CAST(rootpage AS BLOB) WHERE name", "store failed", "has no number of a page"),
       )),
     *((f"PRAGMA writable_schema = ON; UPDATE sqlite_master SET {change}", *wanted) for change, *wanted in (
-        ("type = 'Table' WHERE name = 'riders'", "store failed", "has the type 'Table'"),
-        ("name = 'Riders' WHERE name = 'riders'", "store failed", "has the names Riders and riders"),
-        ("tbl_name = x'726964657273' WHERE name = 'riders'", "store failed", "has no text as its type or name"),
-        ("sql = CAST(sql AS BLOB) WHERE name = 'riders'", "store failed", "has no text that declares riders"),
-        ("sql = replace(sql, 'riders', 'Riders') WHERE name = 'riders'", "foreign", "declared with other capitals"),
+        ("type = 'Table' WHERE name = 'riders_4'", "store failed", "has the type 'Table'"),
+        ("name = 'Riders_4' WHERE name = 'riders_4'", "store failed", "has the names Riders_4 and riders_4"),
+        ("tbl_name = x'7269646572735f34' WHERE name = 'riders_4'", "store failed", "has no text as its type or name"),
+        ("sql = CAST(sql AS BLOB) WHERE name = 'riders_4'", "store failed", "has no text that declares riders_4"),
+        ("sql = replace(sql, 'riders', 'Riders') WHERE name = 'riders_4'", "foreign", "declared with other capitals"),
         ("sql = replace(sql, 'docks', 'Docks') WHERE name = 'docks'", "foreign", "declared with other capitals"),
         ("sql = replace(sql, 'CREATE', 'create') WHERE sql LIKE '%riders%'", None, ""),
-        ("sql = replace(sql, 'NOT NULL', 'not null') WHERE name = 'riders'", None, ""),
+        ("sql = replace(sql, 'NOT NULL', 'not null') WHERE name = 'riders_4'", None, ""),
         ("sql = replace(sql, 'bikes_by', 'Bikes_by') WHERE name = 'bikes_by_dock'", "store failed", "otherwise"),
         ("sql = replace(sql, 'ON bikes', 'ON Bikes') WHERE name = 'bikes_by_dock'", None, ""),
         ("sql = replace(sql, ', dock', ', DOCK') WHERE name = 'bikes_by_dock'", None, ""),
@@ -340,7 +344,7 @@ def test_an_index_that_is_unique(program):
     file = city_file(program)
     changed(file, "CREATE UNIQUE INDEX twice ON docks (station_id, dock)")
     is_alike(program, file, None)
-    changed(file, "CREATE UNIQUE INDEX once ON riders (blocked); UPDATE meta SET version = 2")
+    changed(file, "CREATE UNIQUE INDEX once ON riders_4 (blocked); UPDATE meta SET version = 2")
     is_alike(program, file, "foreign", "the UNIQUE index once")
 
 
@@ -386,13 +390,13 @@ def test_a_declaration_that_is_not_utf8(program):
     made = taken(city)[""]
     file = Path(program.folder, "declared.db")
     for was, byte, wanted in (
-        (b"(station_id TEXT PRIMARY KEY NOT NULL, name", 30, "foreign"), (b"CREATE TABLE riders", 4, "store failed"),
+        (b"(station_id TEXT PRIMARY KEY NOT NULL, name", 30, "foreign"), (b"CREATE TABLE riders_4", 4, "store failed"),
     ):
         assert made.count(was) == 1, was
         at = made.index(was) + byte
         put({"": made[:at] + b"\xcc" + made[at + 1 :]}, file)
         is_alike(program, file, wanted, "declaration", "restore the last copy")
-        status, lines = told(file, "unsound", "riders", "17")
+        status, lines = told(file, "unsound", "riders_4", "17")
         assert status == 1 and len(lines) == 2, lines
 
 
@@ -637,7 +641,7 @@ def test_a_change_that_sqlite3_left_unfinished(program):
     before = held(file)
     changing = (
         "import os, sqlite3, sys; base = sqlite3.connect(sys.argv[1]); base.execute('PRAGMA cache_size = 1')",
-        "base.execute('BEGIN'); base.execute('UPDATE riders SET balance = 1')",
+        "base.execute('BEGIN'); base.execute('UPDATE riders_4 SET balance = 1')",
         "base.execute('CREATE TABLE notes (a)')",
         "base.executemany('INSERT INTO notes VALUES (?)', [('x' * 2000,)] * 500)",
         "os.kill(os.getpid(), 9)",

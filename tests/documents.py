@@ -677,7 +677,7 @@ def test_tables_of_the_formats(program):
                     table == "system" and name not in ("one", "ttl")
                 )
                 assert kind == ("TEXT" if is_text else "INTEGER"), (table, name, kind)
-    assert len(found) == 16 and found == wanted, [
+    assert len(found) == 17 and found == wanted, [
         (it, found.get(it), wanted[it]) for it in wanted if found.get(it) != wanted[it]
     ]
 

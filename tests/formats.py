@@ -5,6 +5,7 @@ import re
 
 LAST_MOMENT = 253_402_300_799
 GREATEST_FARE = 34_561_800_000
+MOST_ENTRIES = 100_000_000
 NUMBERED, SERIAL = (1, 999_999), (1, 100_000_000)
 MOST_DOCKS = 500
 NAMED = ("system", "station", "type", "plan", "description", "region")

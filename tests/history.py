@@ -1,5 +1,6 @@
-"""What reads the history: `history FILE [AFTER]` prints it as the request lines that make the city again, GET
-/history/AFTER shows it in pages, and `day FILE requests` has a day of it as a table. All only look.
+"""What reads the history: `history FILE [AFTER]` prints it as the request lines that make the city again, from where it
+begins in a file that was upgraded or of which requests were archived; GET /history/AFTER shows it in pages, and `day
+FILE requests` has a day of it as a table. All only look.
 """
 
 import csv
@@ -9,7 +10,10 @@ import random
 from datetime import datetime, timezone
 from pathlib import Path
 
+import adoption
+import archived
 import histories
+import kept_files
 import raising
 import tampered
 import traffic
@@ -22,12 +26,18 @@ from shared import (
 LAST = 2**63 - 1
 
 
-def printed(program, *after, file="city.db"):
-    """The lines that `history` prints, alone on standard output, and that the file stays as it is."""
+def ended(program, *after, file="city.db"):
+    """How `history` ends, and that the file stays as it is."""
     before = {it.name: it.read_bytes() for it in Path(program.folder).glob(f"{file}*")}
-    status, out, said = program.run("history", file, *map(str, after))
-    assert (status, said) == (0, b""), (after, status, said)
+    found = program.run("history", file, *map(str, after))
     assert {it.name: it.read_bytes() for it in Path(program.folder).glob(f"{file}*")} == before, "the file was changed"
+    return found
+
+
+def printed(program, *after, file="city.db"):
+    """The lines that `history` prints, alone on standard output."""
+    status, out, said = ended(program, *after, file=file)
+    assert (status, said) == (0, b""), (after, status, said)
     return out
 
 
@@ -65,7 +75,7 @@ def test_the_lines_make_the_city_again(program):
     for turn in range(3):
         rows = histories.history(program)
         given = printed(program)
-        assert given == lines_of(rows), turn
+        assert given == printed(program, 0) == lines_of(rows), turn
         assert program.run("lines", "again.db", given=given) == (0, traffic.joined(it[5] for it in rows), b"")
         one, other = (raising.held(Path(program.folder, it)) for it in ("city.db", "again.db"))
         assert one.rows == other.rows, [it for it in one.rows if one.rows[it] != other.rows[it]]
@@ -107,11 +117,108 @@ def test_where_nothing_is_behind(program):
     assert program.run("init", "city.db")[0] == 0
     assert printed(program) == printed(program, 0) == printed(program, LAST) == b""
     changed(Path(program.folder, "notes.db"), "CREATE TABLE notes (note TEXT)")
-    assert printed(program, file="notes.db") == b""
+    assert printed(program, file="notes.db") == printed(program, 7, file="notes.db") == b""
+    assert program.run("history", ":memory:") == program.run("history", ":memory:", "7") == (0, b"", b"")
     city(program)
     assert printed(program, 12) == requests_of([CITY[12]], first=13, key="f")
     assert printed(program, 13) == printed(program, 14) == printed(program, LAST) == b""
     assert printed(program) == requests_of(CITY, key="f")
+
+
+def begins(program, file, number):
+    """Holds that a file's history begins behind this number: its lines are those behind it, and an AFTER below has the
+    number as its answer, and nothing is printed."""
+    rows = histories.history(program, file)
+    behind = [it for it in rows if it[0] > number]
+    last = max([number, *(it[0] for it in rows)])
+    assert printed(program, file=file) == lines_of(behind), number
+    for after in {number, number + 1, last, last + 1, LAST}:
+        assert printed(program, after, file=file) == lines_of(it for it in behind if it[0] > after), after
+    for after in {0, 1, number // 2, number - 2, number - 1} & set(range(number)):
+        assert ended(program, after, file=file) == (5, b"", b"begins %d\n" % number), after
+    return behind
+
+
+# The commands that follow on an upgrade of the city of docs/FORMATS.md.
+LATER = ["top-up\t17\t5", "add-region\tnorth\tNorth", "set-rider\t17\tblocked", "set-rider\t17\topen"]
+
+
+def later(program, file, at=raising.AT, key="n"):
+    """Sends those commands, which are the 14th to 17th requests."""
+    return ask(program, LATER, at, file=file, key=key)
+
+
+@quickly
+def test_an_upgraded_file(program):
+    """Of each earlier schema: what was accepted after the upgrade is printed, also at the moment of the last request
+    before, and makes the city from a copy of just after the upgrade."""
+    for version in raising.OLD:
+        file = raising.of_sql(program.folder, version)
+        raising.is_raised(program, file, version)
+        assert begins(program, file.name, 13) == [], version
+        upgraded = file.read_bytes()
+        told = later(program, file.name, raising.AT - 7)
+        told += ask(program, ["top-up\t17\t6"], raising.AT + 9, file=file.name, key="p")
+        behind = begins(program, file.name, 13)
+        assert [it[:2] for it in behind] == [(14 + it, raising.AT) for it in range(4)] + [(18, raising.AT + 9)], version
+        Path(program.folder, "copy.db").write_bytes(upgraded)
+        given = printed(program, file=file.name)
+        assert program.run("lines", "copy.db", given=given) == (0, "".join(f"{it}\n" for it in told).encode(), b"")
+        assert raising.held(Path(program.folder, "copy.db")).rows == raising.held(file).rows, version
+        removed(program.folder, "copy.db")
+
+
+@quickly
+def test_files_that_earlier_programs_wrote(program):
+    for name, version in raising.KEPT:
+        file = kept_files.unpacked(program, name)
+        before = raising.is_raised(program, file, version)
+        count = len(before.rows["kept"])
+        assert begins(program, file.name, count) == [], name
+        assert ask(program, ["add-region\tlate\tLate"], 1900000000, file=file.name, key="late") == ["ok"], name
+        assert len(begins(program, file.name, count)) == 1, name
+
+
+@quickly
+def test_moments_of_0(program):
+    """A city of this version all of whose requests came at moment 0 begins with the first one. So does one that was at
+    moment 0 when it was upgraded: of such requests the moment is known."""
+    ask(program, CITY, 0)
+    assert len(begins(program, "city.db", 0)) == 13
+    file = raising.of_sql(program.folder, 3)
+    changed(file, "UPDATE meta SET now = 0; UPDATE stations_3 SET reported = 0; UPDATE entries SET at = 0")
+    raising.is_raised(program, file, 3)
+    later(program, file.name)
+    assert [it[1] for it in begins(program, file.name, 0)] == [0] * 13 + [raising.AT] * 4
+
+
+@quickly
+def test_archived_requests(program):
+    """The history begins behind those that were archived, of each number of them; entries and rentals alone leave it
+    whole."""
+    whole = adoption.made(program, "city.db").read_bytes()
+    file = Path(program.folder, "city.db")
+    for counts in (0, 3, 1), (1, 0, 0), (2, 1, 0), (20, 3, 1), (archived.REQUESTS - 1, 4, 1), (archived.REQUESTS, 4, 1):
+        file.write_bytes(whole)
+        archived.archive(file, *counts)
+        is_sound(program)
+        assert len(begins(program, "city.db", counts[0])) == archived.REQUESTS - counts[0], counts
+        accepted(program, ["top-up\t18\t7"], at=adoption.NOW + 3, key="late")
+        assert len(begins(program, "city.db", counts[0])) == archived.REQUESTS + 1 - counts[0], counts
+
+
+@quickly
+def test_archived_requests_of_an_upgraded_file(program):
+    """It begins behind the upgrade as long as a request from before is there, or the last one was archived; and behind
+    the archived ones once they are more."""
+    for count, wanted in (1, 13), (12, 13), (13, 13), (14, 14), (17, 17):
+        file = raising.of_sql(program.folder, 2)
+        raising.is_raised(program, file, 2)
+        later(program, file.name)
+        archived.archive(file, count, 0, 0)
+        is_sound(program, file.name)
+        assert len(begins(program, file.name, wanted)) == 17 - wanted, count
+        removed(program.folder, file.name)
 
 
 def test_words_that_are_no_number(program):

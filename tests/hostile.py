@@ -394,7 +394,7 @@ VOCABULARY = [
 ENDS = re.compile(
     (
         rb"system missing|bad header|bad date|bad zone|day out of range|row [0-9]+ [a-z_]+|store failed|out of memory|"
-        rb"foreign|unsound [a-z0-9_]+ .*|older [0-9]+|newer [0-9]+|read failed|write failed"
+        rb"foreign|unsound [a-z0-9_]+ .*|older [0-9]+|newer [0-9]+|begins [0-9]+|read failed|write failed"
     ),
     re.S,
 )
@@ -404,7 +404,7 @@ OUTPUT = re.compile(
 )
 STATUS_OF = {
     b"system": 1, b"bad": 1, b"day": 1, b"row": 1, b"store": 3, b"out": 4, b"foreign": 5, b"unsound": 5, b"older": 5,
-    b"newer": 5, b"read": 6, b"write": 6,
+    b"newer": 5, b"begins": 5, b"read": 6, b"write": 6,
 }
 
 

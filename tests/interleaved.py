@@ -153,7 +153,7 @@ def test_exchanges_byte_by_byte(program):
     for file in files:
         is_sound(program, file)
     for query in (
-        "SELECT rider, balance FROM riders ORDER BY rider", "SELECT caller, req_key FROM history ORDER BY 1, 2",
+        "SELECT rider, balance FROM riders_4 ORDER BY rider", "SELECT caller, req_key FROM history ORDER BY 1, 2",
         "SELECT name FROM stations_4", "SELECT * FROM more_names",
     ):
         one, other = (rows_of(query, program.folder, file) for file in files)

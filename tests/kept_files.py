@@ -9,7 +9,7 @@ import json
 from pathlib import Path
 
 from adoption import checked
-from shared import BY_KEY, HERE, HISTORY, STATIONS_4, TOP, changed, held, is_keyed, is_sound
+from shared import BOOKS, BY_KEY, HERE, HISTORY, RIDERS_4, STATIONS_4, TOP, changed, held, is_keyed, is_sound
 
 FILES, TOUR = HERE / "files", TOP / "docs/tour.txt"
 
@@ -145,7 +145,8 @@ def test_an_older_file_that_calls_itself_newer(program):
 
 
 # What schema 4 has more than schema 3, 3 than 2, and 2 than 1: bicycles by type in a station's row, numbers and moments
-# of the requests, and no sums in meta; further names; a station's region and a table of regions.
+# of the requests, a rider's plan, what was archived, and no sums in meta; further names; a station's region and a table
+# of regions.
 MORE_NAMES = (
     "CREATE TABLE more_names (kind TEXT NOT NULL, id TEXT NOT NULL, language TEXT NOT NULL, name TEXT NOT NULL, "
     "PRIMARY KEY (kind, id, language)) STRICT;CREATE INDEX more_names_by_language ON more_names (language); "
@@ -154,7 +155,8 @@ MORE_NAMES = (
 REGIONS = "CREATE TABLE regions (region_id TEXT PRIMARY KEY NOT NULL, name TEXT NOT NULL) STRICT;"
 REQUESTS = (
     f"{HISTORY}; {BY_KEY}; INSERT INTO history SELECT row_number() OVER (ORDER BY rowid), 0, * FROM kept; "
-    "DROP TABLE kept; UPDATE meta SET version = 4, cash = 0, revenue = 0"
+    "DROP TABLE kept; UPDATE meta SET version = 4, cash = 0, revenue = 0; "
+    f"{RIDERS_4}; INSERT INTO riders_4 SELECT *, 0, NULL FROM riders; DROP TABLE riders; {BOOKS}"
 )
 BY_TYPE = (
     "coalesce((SELECT group_concat(type_id || ':' || available || ':' || disabled, ';') FROM (SELECT * FROM counts "

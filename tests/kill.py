@@ -418,7 +418,7 @@ def asked_at_once(server, *more):
 
 def riders(program, file):
     """The riders of a file."""
-    return {rider for (rider,) in rows_of("SELECT rider FROM riders", program.folder, file)}
+    return {rider for (rider,) in rows_of("SELECT rider FROM riders_4", program.folder, file)}
 
 
 def stands_amid_many(program, file, told):

@@ -248,7 +248,7 @@ def foreign(program):
     """Another program's file by a table's columns, and one by an index that somebody added."""
     files = {
         "other.db": "CREATE TABLE meta (one INTEGER PRIMARY KEY, app TEXT)",
-        "index.db": "CREATE TABLE riders (rider INTEGER); CREATE UNIQUE INDEX one ON riders (rider)",
+        "index.db": "CREATE TABLE riders_4 (rider INTEGER); CREATE UNIQUE INDEX one ON riders_4 (rider)",
     }
     for file, sql in files.items():
         changed(Path(program.folder, file), sql)
@@ -378,7 +378,7 @@ def test_looks_while_another_program_begins(program):
             assert again == (0, b"ok\n" * 3, b""), again
         else:
             assert taken(program.folder, name) == parts, "something was changed"
-        ((riders,),) = rows_of("SELECT count(*) FROM riders WHERE rider >= 500", program.folder, name)
+        ((riders,),) = rows_of("SELECT count(*) FROM riders_4 WHERE rider >= 500", program.folder, name)
         assert riders == answers.count(b"ok\n"), riders
         return status != 3, bool(answers)
 

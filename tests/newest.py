@@ -39,7 +39,7 @@ dock:a1 end 8 a1 2
 # Rental 2 becomes one of rider 17, who still rides by rental 1.
 OLDER_IS_OPEN = (
     "UPDATE rentals SET rider = 17 WHERE rental = 2; UPDATE entries SET rider = 17 WHERE rental = 2; "
-    "UPDATE riders SET balance = 2400 WHERE rider = 17; UPDATE riders SET balance = 2500 WHERE rider = 18"
+    "UPDATE riders_4 SET balance = 2400 WHERE rider = 17; UPDATE riders_4 SET balance = 2500 WHERE rider = 18"
 )
 
 
@@ -146,7 +146,7 @@ INSERT INTO rentals (rental, rider, bike, plan_id, from_station, start, to_stati
 SELECT n, 17, 7, 'basic', 'a1', 1699999200, 'a1', 1699999200, 1, 0 FROM counted;
 INSERT INTO entries (entry, kind, rider, rental, amount, at)
 SELECT rental + (SELECT max(entry) FROM entries), 2, 17, rental, 1, 1699999200 FROM rentals;
-UPDATE riders SET balance = balance - {0} WHERE rider = 17
+UPDATE riders_4 SET balance = balance - {0} WHERE rider = 17
 """
 
 

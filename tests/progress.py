@@ -10,8 +10,8 @@ from shared import CITY, HEADER, SOUND, ask, changed, is_sound
 
 ANEW, BACK, ERASED = b"\r\r\n\x1b[K", b"\x1b[A\r", b"\r\x1b[J"
 TABLES = (
-    "meta system plans segments types regions stations_4 docks bikes trucks riders rentals orders entries history "
-    "more_names"
+    "meta system plans segments types regions stations_4 docks bikes trucks riders_4 rentals orders entries history "
+    "more_names books"
 ).split()
 
 
@@ -56,10 +56,10 @@ def test_a_check_tells_its_tables(program):
 
 def test_a_check_that_fails_tells_up_to_the_table(program):
     made(program)
-    changed(Path(program.folder, "city.db"), "INSERT INTO riders VALUES (17, 0, 5)")
+    changed(Path(program.folder, "city.db"), "INSERT INTO riders_4 VALUES (17, 0, 5, 0, NULL)")
     status, out, told = looked_on(program, "check", "city.db")
     assert (status, out) == (5, b"")
-    assert told.endswith(b"checking riders, table 11 of 16" + BACK + ERASED + b"unsound riders 17\r\n"), told
+    assert told.endswith(b"checking riders_4, table 11 of 17" + BACK + ERASED + b"unsound riders_4 17\r\n"), told
 
 
 def test_an_import_tells_its_lines(program):

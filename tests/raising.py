@@ -56,11 +56,9 @@ MOST_DOCKS_BEFORE, MOST_DOCKS = 200, 500
 
 # The table of stations of each earlier schema, the tables that it has and the newest hasn't, and the other way round.
 OLD = {1: "stations", 2: "stations_2", 3: "stations_3"}
-GONE = {version: [table, "counts", "kept"] for version, table in OLD.items()}
-NEW = {
-    1: ["regions", "stations_4", "more_names", "history"], 2: ["stations_4", "more_names", "history"],
-    3: ["stations_4", "history"],
-}
+GONE = {version: [table, "counts", "kept", "riders"] for version, table in OLD.items()}
+OF_SCHEMA_4 = ["stations_4", "history", "riders_4", "books"]
+NEW = {1: ["regions", "more_names", *OF_SCHEMA_4], 2: ["more_names", *OF_SCHEMA_4], 3: OF_SCHEMA_4}
 KEPT = [("tour", 1), ("city", 1), ("every", 1), ("regions", 2), ("names", 3)]
 
 
@@ -117,8 +115,8 @@ def by_type_of(types):
 
 def raised(program, before, version):
     """What a file holds once it is raised: the stations by another name, in no region where there were none, with their
-    bicycles by type, no further names where there were none, and what was kept as a history, in its order and at moment
-    0."""
+    bicycles by type, no further names where there were none, the riders without a plan, and what was kept as a history,
+    in its order and at moment 0. Nothing was archived."""
     rows = {name: it for name, it in before.rows.items() if name not in GONE[version]}
     rows |= {name: [] for name in NEW[version]}
     types = {it[0]: [row[1:] for row in before.rows["counts"] if row[0] == it[0]] for it in before.rows[OLD[version]]}
@@ -126,6 +124,7 @@ def raised(program, before, version):
     stations = [(*it, *no_region, by_type_of(types[it[0]])) for it in before.rows[OLD[version]]]
     rows["stations_4"] = sorted(stations, key=repr)
     rows["history"] = requests(before.rows["kept"])
+    rows["riders_4"] = sorted(((*it, 0, None) for it in before.rows["riders"]), key=repr)
     rows["meta"] = [(*it[:2], NEWEST, it[3], 0, 0) for it in before.rows["meta"]]
     schema = [it for it in before.schema if it[2] not in GONE[version]] + [
         it for it in newest_schema(program.file) if it[2] in NEW[version]
@@ -163,6 +162,7 @@ STATIONS[1] = STATIONS[2].replace("stations_2", "stations").replace(", region_id
 LOWERED = {1: f"{STATIONS[1]}; DROP TABLE regions", 2: STATIONS[2]}
 COLUMNS = {version: list(audit.BOUNDS["stations_4"])[: -2 if version == 1 else -1] for version in OLD}
 KEPT_COLUMNS = list(audit.BOUNDS["history"])[2:]
+RIDERS_COLUMNS = list(audit.BOUNDS["riders_4"])[:3]
 COUNTS_COLUMNS = ["station_id", "type_id", "available", "disabled"]
 
 
@@ -179,7 +179,7 @@ def lowered(file, version, layout="unkeyed"):
 def declared(name, columns):
     """The statement that makes a table of section 10 of docs/FORMATS.md with these columns, of which the first are its
     key."""
-    table = "stations_4" if name in OLD.values() else name
+    table = {**dict.fromkeys(OLD.values(), "stations_4"), "riders": "riders_4"}.get(name, name)
     keys = audit.TABLES[table]
     optional = audit.MAY_BE_NULL.get(table, ())
 
@@ -244,7 +244,10 @@ def of_sql(folder, version, has_region=False, layout="keyed"):
         rows["regions"] = [("north", "North")] if has_region else []
     if version > 2:
         rows["more_names"] = []
-    columns = {**audit.BOUNDS, OLD[version]: COLUMNS[version], "kept": KEPT_COLUMNS, "counts": COUNTS_COLUMNS}
+    columns = {
+        **audit.BOUNDS, OLD[version]: COLUMNS[version], "kept": KEPT_COLUMNS, "counts": COUNTS_COLUMNS,
+        "riders": RIDERS_COLUMNS,
+    }
     file = Path(folder, f"sql{version}{'_region' * has_region}.db")
     with contextlib.closing(sqlite3.connect(file, isolation_level=None)) as base:
         base.execute("PRAGMA synchronous = OFF")
@@ -524,9 +527,9 @@ def test_files_of_the_newest_schema(program):
     assert program.run("lines", "city.db", given=adoption.asked()) == (0, adoption.told(), b"")
     file = Path(program.folder, "city.db")
     for change, wanted in (
-        ("", DONE), ("UPDATE riders SET balance = balance + 1 WHERE rider = 18", unsound("riders", b"18")),
+        ("", DONE), ("UPDATE riders_4 SET balance = balance + 1 WHERE rider = 18", unsound("riders_4", b"18")),
         (
-            "UPDATE riders SET balance = balance - 1 WHERE rider = 18; "
+            "UPDATE riders_4 SET balance = balance - 1 WHERE rider = 18; "
             "UPDATE stations_4 SET region_id = 'no' WHERE station_id = 'a1'",
             unsound("stations_4", b"a1"),
         ),
@@ -655,7 +658,10 @@ def test_what_others_have_of_the_old_tables(program):
     """An index of such a table goes with it, and a view of it stays as a text."""
     for version, layout in itertools.product(OLD, LAYOUTS):
         for table in GONE[version]:
-            columns = {"kept": ["command", "caller, req_key"], "counts": ["type_id", "station_id, type_id"]}
+            columns = {
+                "kept": ["command", "caller, req_key"], "counts": ["type_id", "station_id, type_id"],
+                "riders": ["balance"],
+            }
             for column in columns.get(table, ["name"]):
                 file = of_sql(program.folder, version, layout=layout)
                 indexes = f"CREATE INDEX more ON {table} ({column}); CREATE UNIQUE INDEX one ON {table} ({column})"
@@ -669,7 +675,7 @@ def test_what_others_have_of_the_old_tables(program):
 def test_a_unique_index_that_somebody_added(program):
     """On a table that stays: a good request could fail on it afterwards."""
     for version in OLD:
-        for where in "riders (balance)", "bikes (station_id, dock)", "docks (dock)", "meta (app)":
+        for where in "trucks (capacity)", "bikes (station_id, dock)", "docks (dock)", "meta (app)":
             file = of_sql(program.folder, version)
             changed(file, f"CREATE UNIQUE INDEX one ON {where}")
             with told_with(f"version {version}, {where}"):

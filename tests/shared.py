@@ -557,6 +557,16 @@ COUNTS = (
     "CREATE TABLE counts (station_id TEXT NOT NULL, type_id TEXT NOT NULL, available INTEGER NOT NULL, "
     "disabled INTEGER NOT NULL, PRIMARY KEY (station_id, type_id)) STRICT"
 )
+# .. the riders, who have no plan and nothing before.
+RIDERS_3 = (
+    "CREATE TABLE riders (rider INTEGER PRIMARY KEY, blocked INTEGER NOT NULL, balance INTEGER NOT NULL) STRICT"
+)
+# How the program makes the tables that it has in place of these, and of what was archived.
+RIDERS_4 = RIDERS_3.replace("riders", "riders_4").replace(") STRICT", ", before INTEGER NOT NULL, plan_id TEXT) STRICT")
+BOOKS = (
+    "CREATE TABLE books (one INTEGER PRIMARY KEY, requests INTEGER NOT NULL, entries INTEGER NOT NULL, "
+    "rentals INTEGER NOT NULL) STRICT"
+)
 # .. and `kept`, which it has in place of `history`: first with a key.
 KEYED = (
     "CREATE TABLE kept (caller TEXT NOT NULL, req_key TEXT NOT NULL, command TEXT NOT NULL, reply TEXT NOT NULL, "
@@ -587,16 +597,17 @@ def by_type(types):
 def to_schema_3(file, layout="unkeyed"):
     """Makes a file of the newest schema one of schema 3: `counts` has the types of each station, and of every second
     station those of 0 and 0 too; `kept` in this layout has the requests of `history`, in their order, and neither their
-    numbers nor their moments; and meta has the last moment, cash and revenue."""
+    numbers nor their moments; the riders have no plan; and meta has the last moment, cash and revenue."""
     moment = "max(now, coalesce((SELECT max(moment) FROM history), 0))"
     cash, revenue = (
         f"coalesce((SELECT sum(amount * {of}) FROM entries), 0)" for of in ("(kind = 1)", "((kind = 2) - (kind = 3))")
     )
     changed(
         file,
-        f"{STATIONS_3}; {COUNTS}; {LAYOUTS[layout]}; "
+        f"{STATIONS_3}; {COUNTS}; {LAYOUTS[layout]}; {RIDERS_3}; DROP TABLE books; "
         f"UPDATE meta SET version = 3, now = {moment}, cash = {cash}, revenue = {revenue}; "
-        "INSERT INTO kept SELECT caller, req_key, command, reply FROM history ORDER BY number; DROP TABLE history",
+        "INSERT INTO kept SELECT caller, req_key, command, reply FROM history ORDER BY number; DROP TABLE history; "
+        "INSERT INTO riders SELECT rider, blocked, balance FROM riders_4; DROP TABLE riders_4",
     )
     with contextlib.closing(sqlite3.connect(file)) as base, base:
         rows = base.execute("SELECT * FROM stations_4").fetchall()

@@ -123,7 +123,7 @@ def until(holds, seconds, what):
 
 def riders(program, file="city.db"):
     """How many the city has."""
-    return rows_of("SELECT count(*) FROM riders", program.folder, file)[0][0]
+    return rows_of("SELECT count(*) FROM riders_4", program.folder, file)[0][0]
 
 
 def clock():

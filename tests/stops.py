@@ -601,7 +601,7 @@ def test_stops_in_an_end(program):
     )
     parts, end = taken(program.folder, "city.db"), b"1700000000\tdock:a1\te1\tend\t7\ta1\t1\n"
     fares = "(SELECT count(*) FROM entries WHERE kind = 2)"
-    query = f"SELECT balance, rental, station_id, dock, {fares} FROM riders, bikes WHERE rider = 17 AND bike = 7"
+    query = f"SELECT balance, rental, station_id, dock, {fares} FROM riders_4, bikes WHERE rider = 17 AND bike = 7"
     before, after, seen, calls = (2500, 1, None, None, 0), (2400, None, "a1", 1, 1), set(), 0
     while calls < 200:
         put(parts, program.folder, "city.db")

@@ -51,11 +51,11 @@ DEBT = [
 
 # No request writes the table.
 META = "SELECT cash + revenue, now FROM meta"
-RIDER = "SELECT balance, blocked FROM riders WHERE rider = 17"
+RIDER = "SELECT balance, blocked FROM riders_4 WHERE rider = 17"
 STATION = "SELECT free, broken FROM stations_4 WHERE station_id = 'a1'"
 BY_TYPE = "SELECT by_type, docks FROM stations_4 WHERE station_id = 'a1'"
 RENTAL = "SELECT fare, refunded FROM rentals WHERE rental = 1"
-DEBTOR = "SELECT balance, blocked FROM riders WHERE rider = 18"
+DEBTOR = "SELECT balance, blocked FROM riders_4 WHERE rider = 18"
 
 # What is served after the city stands, and the two values that each query answers then.
 NUMBERS = [

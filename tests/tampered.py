@@ -363,7 +363,7 @@ def with_entry(number, kind, rental, amount, more):
     """One more entry of rider 17, and so much more on the rider's balance."""
     return by_script(
         f"INSERT INTO entries VALUES ({number}, {kind}, 17, {rental}, {amount}, 1700000000); "
-        f"UPDATE riders SET balance = balance + {more} WHERE rider = 17"
+        f"UPDATE riders_4 SET balance = balance + {more} WHERE rider = 17"
     )
 
 
@@ -374,7 +374,7 @@ def test_entries_of_each_kind(program):
     number = len(tables_of(city, program)["entries"]) + 1
     for salt, right, rows in (
         ("sound kinds", SOUND, [(4, 0, 30, -30), (5, 0, 30, -30), (6, 0, 30, 30), (4, 0, 1_000_000, -1_000_000)]),
-        ("balances", (5, b"", b"unsound riders 17\n"), [(4, 0, 30, 30), (5, 0, 30, 0), (6, 0, 30, -30)]),
+        ("balances", (5, b"", b"unsound riders_4 17\n"), [(4, 0, 30, 30), (5, 0, 30, 0), (6, 0, 30, -30)]),
         (
             "no kinds", (5, b"", f"unsound entries {number}\n".encode()),
             [

@@ -306,7 +306,7 @@ def test_no_word_serves_a_file_that_is_refused(program):
     city = adoption.made(program, "city.db").read_bytes()
     file = Path(program.folder, "city.db")
     for change, wanted in (
-        ("UPDATE riders SET balance = balance + 1 WHERE rider = 17", "unsound riders 17"),
+        ("UPDATE riders_4 SET balance = balance + 1 WHERE rider = 17", "unsound riders_4 17"),
         ("DELETE FROM meta", "unsound meta 1"),
         ("UPDATE history SET reply = 'no' WHERE req_key = 'k2'", "unsound history 3"),
         (adoption.AGAIN, "unsound history 38"),

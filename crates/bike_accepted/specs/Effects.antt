@@ -12,7 +12,8 @@ use Rattle.bike_operator.specs.declared.records.Bike.{Bike}
 use Rattle.bike_operator.specs.declared.view.View.{View}
 use Rattle.bike_operator.specs.Operator.{Operator, name_key}
 use Rattle.bike_operator.specs.View.{view_of}
-use Rattle.bike_operator.specs.Steps.{refusal_of, effect, reply_of, key_changed, with_report, new_station, own_name_set}
+use Rattle.bike_operator.specs.Steps.{refusal_of, effect, reply_of, key_changed, with_report, new_station, new_rider}
+use Rattle.bike_operator.specs.Steps.{own_name_set}
 use Rattle.bike_operator.specs.Steps.{further_name_set, further_name_removed, dock_marked, rental_added, rental_closed}
 use Rattle.bike_operator.specs.Steps.{order_added, order_changed}
 use Rattle.bike_operator.specs.Changes.{place_of, text_in, entry_added}
@@ -78,9 +79,9 @@ after_change (change.AddBike bike type_id) s =
     record s { bikes = map.insert s.bikes bike (record { type_id = type_id.now; state = Fit; place = place.Depot }) }
 after_change (change.AddTruck truck capacity) s =
     record s { trucks = map.insert s.trucks truck (record { capacity = capacity }) }
-after_change (change.AddRider rider) s = record s { riders = map.insert s.riders rider (record { is_blocked = false }) }
+after_change (change.AddRider rider) s = record s { riders = map.insert s.riders rider new_rider }
 after_change (change.SetRider rider blocked) s =
-    record s { riders = map.insert s.riders rider (record { is_blocked = blocked }) }
+    record s { riders = key_changed s.riders rider (λ r. record r { is_blocked = blocked }) }
 after_change (change.AddRental rental rider bike plan from_station start) s =
     rental_added (record {
       rider = rider;

@@ -1,18 +1,18 @@
 -- When what an accepted command makes is what was found: the records before are the operator's.
-use Rattle.std.specs.Prelude.{◌≡◌, ℕ, ℤ, ◌+◌, ◌+ℤ◌, List, length, pos, true, false, Option, Some, None, option_map}
+use Rattle.std.specs.Prelude.{◌≡◌, ℕ, ℤ, ◌+◌, ◌+ℤ◌, List, pos, true, false, Option, Some, None, option_map}
 use Rattle.std.specs.Prelude.{IfSome}
 use Rattle.std.specs.FinMap as map
 use Rattle.std.specs.Borrow.{Bor}
 use Rattle.bike_ledger.specs.Entries.{Entry}
-use Rattle.bike_ledger.specs.Ledger.{credit, given_back, balance_of, refunded_of}
+use Rattle.bike_ledger.specs.Ledger.{credit, given_back, refunded_of}
 use Rattle.bike_commands.specs.declared.command.Command.{Command}
 use Rattle.bike_operator.specs.declared.records.Place.{Place}
 use Rattle.bike_operator.specs.declared.records.Place.TheVariants as place
 use Rattle.bike_operator.specs.declared.records.Bike.{Bike}
 use Rattle.bike_operator.specs.declared.view.View.{View}
-use Rattle.bike_operator.specs.Operator.{Operator, Station, name_key}
+use Rattle.bike_operator.specs.Operator.{Operator, Station, name_key, last_number}
 use Rattle.bike_operator.specs.Counts.{is_broken, docked_at, docks_broken}
-use Rattle.bike_operator.specs.View.{view_of}
+use Rattle.bike_operator.specs.View.{view_of, rider_balance}
 use Rattle.bike_operator.specs.Changes.{place_of}
 use Rattle.bike_operator.specs.Sound.{HasDock, IsSound}
 use Rattle.bike_laws.specs.SingleSteps.Numbers.{occupied_docks}
@@ -96,8 +96,8 @@ IsFound s (change.SetFurtherName kind id language name) =
 IsFound s (change.AddBike bike type_id) = map.get s.bikes bike ≡ None
 IsFound s (change.AddRider rider) = map.get s.riders rider ≡ None
 IsFound s (change.SetRider rider blocked) = map.contains_key s.riders rider ≡ true
-IsFound s (change.AddRental rental rider bike plan from_station start) = rental ≡ length s.rentals + 1
-IsFound s (change.AddOrder order truck from_end to_end type_id count) = order ≡ length s.orders + 1
+IsFound s (change.AddRental rental rider bike plan from_station start) = rental ≡ last_number s.rentals + 1
+IsFound s (change.AddOrder order truck from_end to_end type_id count) = order ≡ last_number s.orders + 1
 IsFound s c = Unit {0}
 
 -- ---- an entry
@@ -105,12 +105,12 @@ IsFound s c = Unit {0}
 -- the refunds of its rental after it; none is told where it gives nothing back
 abbrev pub IsRefundFound : Operator → Entry → Option ℤ → Type 0
 IsRefundFound s e None = given_back e.kind e.amount ≡ pos 0
-IsRefundFound s e (Some refunded) = refunded ≡ refunded_of e.rental s.entries +ℤ given_back e.kind e.amount
+IsRefundFound s e (Some refunded) = refunded ≡ refunded_of e.rental s.entries.items +ℤ given_back e.kind e.amount
 
 -- it has the next number, and this is its rider's balance after it
 pub record IsBookedFound (s : Operator) (b : BookedEntry) : Type 0 where
-  pub number_is : b.entry.number ≡ length s.entries + 1
-  pub balance_is : b.balance ≡ balance_of b.entry.rider s.entries +ℤ credit b.entry.kind b.entry.amount
+  pub number_is : b.entry.number ≡ last_number s.entries + 1
+  pub balance_is : b.balance ≡ rider_balance s b.entry.rider +ℤ credit b.entry.kind b.entry.amount
   pub refunded_is : IsRefundFound s b.entry b.refunded
 
 -- ---- an acceptance

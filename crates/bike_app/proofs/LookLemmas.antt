@@ -1,12 +1,13 @@
 -- What is so of a database that was looked at, after a desk over it was asked.
-use Rattle.std.proofs.Common.{◌≡◌, ◌≤◌, IsTrue, Ok, sym, subst}
+use Rattle.std.proofs.Common.{◌≡◌, ◌≤◌, ◌∙◌, IsTrue, Ok, ap, sym, subst}
 use Rattle.sqlite.specs.Store.{Ghosts}
 use Rattle.sqlite.specs.State.{HasCleanDisk}
 use Rattle.sqlite.specs.Held.{Held, state}
 use Rattle.sqlite_trees.specs.View.{doubt}
 use Rattle.bike_operator.specs.Operator.{Operator}
-use Rattle.bike_schema.specs.Stands.{AllLeft, IsOf, TreesStandFor}
+use Rattle.bike_schema.specs.Stands.{AllLeft, IsOf, Stores, TreesStandFor}
 use Rattle.bike_desk.specs.Desk.{DeskValue, desk_over, desk_state, IsAt}
+use Rattle.bike_desk.proofs.KeepLemmas.{kept_stores}
 use Rattle.bike_audit.specs.declared.looking.Inspection.{Inspection}
 use Rattle.bike_audit.specs.declared.looking.Inspection.TheVariants.{Sound}
 use Rattle.bike_audit.specs.Adoption.{IsSeen, Looks}
@@ -27,8 +28,16 @@ module _ {S : Type 0} (g : Ghosts S) {first conn last : Held S} (looks : Looks g
   pub seen_at : (s : Operator) → TreesStandFor s (state g first).now.trees → IsAt g desk s
   seen_at s stands = subst (λ (d : DeskValue S). IsAt g d s) (sym over) (seen.2 s stands)
 
+  -- the database is as it was
+  pub seen_same : (desk_state g desk).now ≡ (state g first).now
+  seen_same = ap (λ (d : DeskValue S). (desk_state g d).now) over ∙ seen.0.0.now_is
+
   pub seen_operator : (s : Operator) × IsOf (state g first).now s × IsAt g desk s
   seen_operator = let it = seen.1 in (it.0, it.1, subst (λ (d : DeskValue S). IsAt g d it.0) (sym over) it.2)
+
+  -- and it has the operator's tables
+  pub seen_tables : (s : Operator) × Stores (state g first).now s
+  seen_tables = let it = seen_operator in (it.0, subst (λ db. Stores db it.0) seen_same (kept_stores (desk_state g desk) it.0 it.2.keeps))
 
   module _ (leaves : (s : Operator) → IsAt g desk s → AllLeft (desk_state g new) (desk_state g desk).may_leave) where
     -- a crash leaves no more than it could before the desk was asked

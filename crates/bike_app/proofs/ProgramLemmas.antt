@@ -110,7 +110,7 @@ unfolding doubt
 memory_is_clean h = refl
 
 -- it has none of the tables, and begins with nothing
-memory_has_none : (h : Held MemStore) → IsEmpty (state over_memory h) → HasNone (state over_memory h).now.schema
+pub memory_has_none : (h : Held MemStore) → IsEmpty (state over_memory h) → HasNone (state over_memory h).now.schema
 unfolding no_tables
 memory_has_none h empty = subst HasNone (sym empty.2) none_in
 

@@ -15,7 +15,7 @@ use Rattle.sqlite.specs.State.{HasCleanDisk, IsLive}
 use Rattle.sqlite.proofs.StateLemmas.{survives_weaker}
 use Rattle.bike_sql.specs.Calls.{ReadsWhere}
 use Rattle.bike_sql.proofs.ChainLaws.{reads_both}
-use Rattle.bike_book.specs.Tables.{TableName, Tables, table_place, Meta, System, Plans, Segments, Types, Regions, Stations, Docks, Bikes, Trucks, Riders, Rentals, Orders, Entries, History, MoreNames}
+use Rattle.bike_book.specs.Tables.{TableName, Tables, table_place, Meta, System, Plans, Segments, Types, Regions, Stations, Docks, Bikes, Trucks, Riders, Rentals, Orders, Entries, History, MoreNames, Books}
 use Rattle.bike_schema.specs.Layouts.{every_table}
 use Rattle.bike_schema.specs.Tables.{HasTables, IsOurs, tables_of}
 use Rattle.bike_schema.proofs.AnswerLemmas.{reads_weaker}
@@ -57,6 +57,7 @@ last_place Orders = omega arith
 last_place Entries = omega arith
 last_place History = omega arith
 last_place MoreNames = omega arith
+last_place Books = omega arith
 
 -- the tables from a place on, in their order
 abbrev AreFrom : ℕ → List TableName → Type 0
@@ -64,7 +65,7 @@ AreFrom place [] = place ≡ length every_table
 AreFrom place (name ∷ names) = (table_place name ≡ place) × AreFrom (suc place) names
 
 every_from : AreFrom 0 every_table
-every_from = (refl, (refl, (refl, (refl, (refl, (refl, (refl, (refl, (refl, (refl, (refl, (refl, (refl, (refl, (refl, (refl, refl))))))))))))))))
+every_from = (refl, (refl, (refl, (refl, (refl, (refl, (refl, (refl, (refl, (refl, (refl, (refl, (refl, (refl, (refl, (refl, (refl, refl)))))))))))))))))
 
 module _ (db : Database) where
   abbrev t : Tables

@@ -10,7 +10,7 @@ use bike_catalogue_rules::{
 };
 use bike_fleet_rules::{judge_bikes, judge_orders, judge_trucks};
 use bike_judges::BadKey;
-use bike_ledger_rules::{judge_entries, judge_history, judge_rentals, judge_riders};
+use bike_ledger_rules::{judge_books, judge_entries, judge_history, judge_rentals, judge_riders};
 use bike_recognition::TableName;
 use bike_schema::StatementFault;
 use bike_station_rules::{judge_docks, judge_stations};
@@ -42,5 +42,6 @@ pub(crate) fn judge_table<S: Alter>(
         TableName::Entries => judge_entries(alloc, conn),
         TableName::History => judge_history(alloc, conn),
         TableName::MoreNames => judge_names(alloc, conn),
+        TableName::Books => judge_books(conn),
     }
 }

@@ -1,13 +1,14 @@
 -- The lines of a history spell its requests.
-use Rattle.std.proofs.Common.{◌≡◌, ℕ, zero, suc, ◌≤◌, List, [], ◌∷◌, ◌++◌, drop, Some, refl, sym, ap, ◌∙◌, subst, arith, append_assoc, inl, inr}
+use Rattle.std.proofs.Common.{◌≡◌, ℕ, zero, suc, ◌+◌, ◌-◌, ◌≤◌, List, [], ◌∷◌, ◌++◌, drop, Some, refl, sym, ap, ◌∙◌, subst, arith, append_assoc, inl, inr}
 use Rattle.std.specs.Prelude.{map}
 use Rattle.std.proofs.lemmas.Bool.Decides.{eqb_tells}
 use Rattle.bike_fixed.specs.Whole.{last_moment}
 use Rattle.bike_requests.specs.Lines.{line_text, HasNoFeed}
 use Rattle.bike_requests.proofs.LineAgain.{line_again, line_fits}
-use Rattle.bike_operator.specs.Operator.{Operator, AcceptedRequest, item_numbered}
+use Rattle.bike_operator.specs.Operator.{Operator, AcceptedRequest, item_at}
 use Rattle.bike_operator.specs.Sound.{IsSound, IsAccepted}
 use Rattle.bike_laws.specs.History.{calls_of}
+use Rattle.bike_laws.proofs.SingleSteps.ItemLemmas.{number_of_place}
 use Rattle.bike_stream.specs.Lines.{lines_of, IsFree}
 use Rattle.bike_stream.proofs.LineLemmas.{lines_ended}
 use Rattle.bike_batch.specs.Again.{lines_again, history_text}
@@ -20,13 +21,10 @@ abbrev AllAccepted : ℕ → List AcceptedRequest → Type 0
 AllAccepted now [] = Unit {0}
 AllAccepted now (a ∷ history) = IsAccepted now a × AllAccepted now history
 
-all_accepted : (now : ℕ) (history : List AcceptedRequest) → ((number : ℕ) (a : AcceptedRequest) → item_numbered number history ≡ Some a → IsAccepted now a)
+all_accepted : (now : ℕ) (history : List AcceptedRequest) → ((place : ℕ) (a : AcceptedRequest) → item_at place history ≡ Some a → IsAccepted now a)
     → AllAccepted now history
 all_accepted now [] each = tt
-all_accepted now (a ∷ history) each = (each 1 a refl, all_accepted now history rest) where
-  rest : (number : ℕ) (b : AcceptedRequest) → item_numbered number history ≡ Some b → IsAccepted now b
-  rest zero b is = absurd cc
-  rest (suc n) b is = each (suc (suc n)) b is
+all_accepted now (a ∷ history) each = (each 0 a refl, all_accepted now history (λ place b is. each (suc place) b is))
 
 accepted_behind : (now n : ℕ) (history : List AcceptedRequest) → AllAccepted now history → AllAccepted now (drop n history)
 accepted_behind now zero history all = all
@@ -55,8 +53,12 @@ read_again now a (x ∷ history) past all =
     subst (λ (lines : List (List ℕ)). AreReadAs lines (map Some (calls_of (x ∷ history)))) (sym parted)
     ((line_again x.moment x.request by_last good, good, by_last), read_again now (suc a) history past all.1)
 
-pub history_lines : (s : Operator) (number : ℕ) → IsSound s → AreReadAs (lines_of (history_text s number)) (map Some (calls_of (drop number s.history)))
+pub history_lines : (s : Operator) (number : ℕ) → IsSound s
+    → AreReadAs (lines_of (history_text s number)) (map Some (calls_of (drop (number - s.history.archived) s.history.items)))
 history_lines s number sound =
-    let all = accepted_behind s.now number s.history (all_accepted s.now s.history sound.history.requests) in
-    subst (λ (text : List ℕ). AreReadAs (lines_of text) (map Some (calls_of (drop number s.history)))) (sym (text_behind s number))
-    (read_again s.now (suc number) (drop number s.history) sound.now all)
+    let passed = number - s.history.archived in
+    let each = all_accepted s.now s.history.items
+    (λ place a is. sound.history.requests (s.history.archived + suc place) a (number_of_place place s.history a is)) in
+    let all = accepted_behind s.now passed s.history.items each in
+    subst (λ (text : List ℕ). AreReadAs (lines_of text) (map Some (calls_of (drop passed s.history.items)))) (sym (text_behind s number))
+    (read_again s.now (suc (s.history.archived + passed)) (drop passed s.history.items) sound.now all)

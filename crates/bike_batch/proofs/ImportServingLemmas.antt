@@ -47,7 +47,7 @@ answered_stays s t name number station (Some k) r is = refl
 
 pub refused_stays : (s : Operator) (t : ℕ) (name : List ℕ) (number : ℕ) (station : StationRow) (r : Refusal)
     → (step s t (request_of name number station)).0 ≡ Refused r → (step s t (request_of name number station)).1 ≡ s
-refused_stays s t name number station r is = answered_stays s t name number station (kept_under (key_in (request_of name number station)) s.history) r is
+refused_stays s t name number station r is = answered_stays s t name number station (kept_under (key_in (request_of name number station)) s.history.items) r is
 
 -- ---- the desk
 

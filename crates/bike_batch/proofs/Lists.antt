@@ -42,9 +42,9 @@ module _ {X : Type 0} (number : X → ℕ) (p : X → Bool) where
       ap (λ (b : Bool). cond (b && p y) (Some y) (find (is_next (number x)) (front ++ x ∷ rest))) earlier
       ∙ next_behind (suc n) front x rest h.1
 
-  -- numbers begin at 1, so 0 asks for the first of all
-  pub next_first : (xs : List X) → IsNumbered number 1 xs → find (is_next 0) xs ≡ find p xs
-  next_first xs h = beyond 0 1 xs h (omega arith)
+  -- numbers begin at 1, or behind what was archived, so 0 asks for the first of all
+  pub next_first : (n : ℕ) (xs : List X) → IsNumbered number (suc n) xs → find (is_next 0) xs ≡ find p xs
+  next_first n xs h = beyond 0 (suc n) xs h (omega arith)
 
 module _ {X : Type 0} (p : X → Bool) where
   -- the first for which the test holds, with those before it and behind it

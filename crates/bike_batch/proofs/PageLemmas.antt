@@ -1,5 +1,5 @@
 -- The history behind a number, page by page.
-use Rattle.std.proofs.Common.{◌≡◌, ℕ, zero, suc, ◌+◌, ◌<◌, List, [], ◌∷◌, ◌++◌, length, take, drop, Bool, cond, ◌⊎◌, inl, inr, Option, Some, None, refl, sym, ap, ◌∙◌, subst, arith, append-nil, length-append}
+use Rattle.std.proofs.Common.{◌≡◌, ℕ, zero, suc, ◌+◌, ◌-◌, ◌<◌, List, [], ◌∷◌, ◌++◌, length, take, drop, Bool, cond, ◌⊎◌, inl, inr, Option, Some, None, refl, sym, ap, ◌∙◌, subst, arith, append-nil, length-append}
 use Rattle.std.specs.Prelude.{map, nat_lt}
 use Rattle.std.specs.List.{filter, flat_map}
 use Rattle.std.proofs.lemmas.Bool.{lt-ltb, le-ltb}
@@ -24,17 +24,18 @@ module _ {X : Type 0} where
       ap (λ (b : Bool). cond b ((a, x) ∷ rest) rest) (lt-ltb m a lt)
       ∙ ap (λ (es : List (ℕ × X)). (a, x) ∷ es) (all_behind m (suc a) xs (omega (arith, lt)))
 
-  -- what is behind a number: all but so many
-  behind_from : (m a n : ℕ) (xs : List X) → m ≡ a + n
-      → filter (λ (e : ℕ × X). nat_lt m e.0) (numbers_from (suc a) xs) ≡ numbers_from (suc m) (drop n xs)
+  -- what is behind a number: all but so many, as many as it is greater than that before the first
+  behind_from : (m a n : ℕ) (xs : List X) → m - a ≡ n
+      → filter (λ (e : ℕ × X). nat_lt m e.0) (numbers_from (suc a) xs) ≡ numbers_from (suc (a + n)) (drop n xs)
   behind_from m a zero xs is =
-      let same : a ≡ m = omega (arith, is) in
+      let same : a ≡ a + zero = omega arith in
       all_behind m (suc a) xs (omega (arith, is)) ∙ ap (λ (k : ℕ). numbers_from (suc k) xs) same
   behind_from m a (suc n) [] is = refl
   behind_from m a (suc n) (x ∷ xs) is =
       let rest = filter (λ (e : ℕ × X). nat_lt m e.0) (numbers_from (suc (suc a)) xs) in
+      let same : suc a + n ≡ a + suc n = omega arith in
       ap (λ (b : Bool). cond b ((suc a, x) ∷ rest) rest) (le-ltb m (suc a) (omega (arith, is)))
-      ∙ behind_from m (suc a) n xs (omega (arith, is))
+      ∙ (behind_from m (suc a) n xs (omega (arith, is)) ∙ ap (λ (k : ℕ). numbers_from (suc k) (drop n xs)) same)
 
   numbers_then : (a b : ℕ) (xs ys : List X) → b ≡ a + length xs → numbers_from a (xs ++ ys) ≡ numbers_from a xs ++ numbers_from b ys
   numbers_then a b [] ys is = let same : a ≡ b = omega (arith, is) in ap (λ (k : ℕ). numbers_from k ys) same
@@ -73,16 +74,28 @@ lines_then xs ys = flat_map-append (λ (y : RequestTexts). line_again y ++ 10 �
 abbrev pub texts_from : ℕ → List AcceptedRequest → List RequestTexts
 texts_from a xs = map request_texts (numbers_from a xs)
 
--- the history behind a number, as texts
-pub text_behind : (s : Operator) (n : ℕ) → history_text s n ≡ lines_again (texts_from (suc n) (drop n s.history))
-text_behind s n =
-    ap (flat_map (λ (e : ℕ × AcceptedRequest). line_again (request_texts e) ++ 10 ∷ [])) (behind_from n 0 n s.history (omega arith))
-    ∙ sym (flat_map-map (λ (x : RequestTexts). line_again x ++ 10 ∷ []) request_texts (numbers_from (suc n) (drop n s.history)))
+-- so many of the requests that are there have no later number
+abbrev pub passed : Operator → ℕ → ℕ
+passed s n = n - s.history.archived
 
-page_behind : (s : Operator) (n : ℕ) → request_page s n ≡ texts_from (suc n) (take REQUESTS_A_PAGE (drop n s.history))
+-- the number before the first that is later: this one, or that of the last that was archived
+abbrev pub number_before : Operator → ℕ → ℕ
+number_before s n = s.history.archived + passed s n
+
+-- the history behind a number, as texts
+pub text_behind : (s : Operator) (n : ℕ) → history_text s n ≡ lines_again (texts_from (suc (number_before s n)) (drop (passed s n) s.history.items))
+text_behind s n =
+    ap (flat_map (λ (e : ℕ × AcceptedRequest). line_again (request_texts e) ++ 10 ∷ []))
+    (behind_from n s.history.archived (passed s n) s.history.items refl)
+    ∙ sym (flat_map-map (λ (x : RequestTexts). line_again x ++ 10 ∷ []) request_texts
+    (numbers_from (suc (number_before s n)) (drop (passed s n) s.history.items)))
+
+page_behind : (s : Operator) (n : ℕ)
+    → request_page s n ≡ texts_from (suc (number_before s n)) (take REQUESTS_A_PAGE (drop (passed s n) s.history.items))
 page_behind s n =
-    ap (λ (es : List (ℕ × AcceptedRequest)). map request_texts (take REQUESTS_A_PAGE es)) (behind_from n 0 n s.history (omega arith))
-    ∙ ap (map request_texts) (take_numbers REQUESTS_A_PAGE (suc n) (drop n s.history))
+    ap (λ (es : List (ℕ × AcceptedRequest)). map request_texts (take REQUESTS_A_PAGE es))
+    (behind_from n s.history.archived (passed s n) s.history.items refl)
+    ∙ ap (map request_texts) (take_numbers REQUESTS_A_PAGE (suc (number_before s n)) (drop (passed s n) s.history.items))
 
 map_then : {X Y : Type 0} (f : X → Y) (xs ys : List X) → map f (xs ++ ys) ≡ map f xs ++ map f ys
 map_then f [] ys = refl
@@ -118,32 +131,38 @@ pub record HasPage (s : Operator) (n : ℕ) : Type 0 where
   pub text : history_text s n ≡ lines_again (request_page s n) ++ history_text s last
 
 pub page_of : (s : Operator) (n : ℕ) → IsLastPage s n ⊎ HasPage s n
-page_of s n = go (drop n s.history) refl where
-  go : (ys : List AcceptedRequest) → drop n s.history ≡ ys → IsLastPage s n ⊎ HasPage s n
+page_of s n = go (drop (passed s n) s.history.items) refl where
+  go : (ys : List AcceptedRequest) → drop (passed s n) s.history.items ≡ ys → IsLastPage s n ⊎ HasPage s n
   go [] is = inl (record {
-    page = page_behind s n ∙ ap (λ (ys : List AcceptedRequest). texts_from (suc n) (take REQUESTS_A_PAGE ys)) is;
-    text = text_behind s n ∙ ap (λ (ys : List AcceptedRequest). lines_again (texts_from (suc n) ys)) is;
+    page = page_behind s n ∙ ap (λ (ys : List AcceptedRequest). texts_from (suc (number_before s n)) (take REQUESTS_A_PAGE ys)) is;
+    text = text_behind s n ∙ ap (λ (ys : List AcceptedRequest). lines_again (texts_from (suc (number_before s n)) ys)) is;
   })
   go (y ∷ ys) is =
       let front = take REQUESTS_A_PAGE (y ∷ ys) in
       let rest = drop REQUESTS_A_PAGE (y ∷ ys) in
-      let last = n + length front in
-      let page : request_page s n ≡ texts_from (suc n) front =
-      page_behind s n ∙ ap (λ (zs : List AcceptedRequest). texts_from (suc n) (take REQUESTS_A_PAGE zs)) is in
-      let left : drop last s.history ≡ rest =
-      sym (drop_then n (length front) last s.history refl) ∙ (ap (drop (length front)) is ∙ drop_taken REQUESTS_A_PAGE (y ∷ ys)) in
-      let whole : texts_from (suc n) (drop n s.history) ≡ texts_from (suc n) front ++ texts_from (suc last) rest =
-      ap (texts_from (suc n)) (is ∙ sym (take-append-drop REQUESTS_A_PAGE (y ∷ ys)))
-      ∙ (ap (map request_texts) (numbers_then (suc n) (suc last) front rest (omega arith))
-      ∙ map_then request_texts (numbers_from (suc n) front) (numbers_from (suc last) rest)) in
+      let begin = number_before s n in
+      let last = begin + length front in
+      let page : request_page s n ≡ texts_from (suc begin) front =
+      page_behind s n ∙ ap (λ (zs : List AcceptedRequest). texts_from (suc begin) (take REQUESTS_A_PAGE zs)) is in
+      let more : passed s last ≡ passed s n + length front = omega arith in
+      let left : drop (passed s last) s.history.items ≡ rest =
+      ap (λ (k : ℕ). drop k s.history.items) more
+      ∙ (sym (drop_then (passed s n) (length front) (passed s n + length front) s.history.items refl)
+      ∙ (ap (drop (length front)) is ∙ drop_taken REQUESTS_A_PAGE (y ∷ ys))) in
+      let whole : texts_from (suc begin) (drop (passed s n) s.history.items) ≡ texts_from (suc begin) front ++ texts_from (suc last) rest =
+      ap (texts_from (suc begin)) (is ∙ sym (take-append-drop REQUESTS_A_PAGE (y ∷ ys)))
+      ∙ (ap (map request_texts) (numbers_then (suc begin) (suc last) front rest (omega arith))
+      ∙ map_then request_texts (numbers_from (suc begin) front) (numbers_from (suc last) rest)) in
+      let own : number_before s last ≡ last = omega arith in
       let behind : lines_again (texts_from (suc last) rest) ≡ history_text s last =
-      sym (text_behind s last ∙ ap (λ (zs : List AcceptedRequest). lines_again (texts_from (suc last) zs)) left) in
+      sym (text_behind s last ∙ (ap (λ (zs : List AcceptedRequest). lines_again (texts_from (suc (number_before s last)) zs)) left
+      ∙ ap (λ (k : ℕ). lines_again (texts_from (suc k) rest)) own)) in
       inr (record {
         last = last;
-        ends = subst (λ (xs : List RequestTexts). EndsAt xs last) (sym page) (ends_at n y (take 63 ys));
+        ends = subst (λ (xs : List RequestTexts). EndsAt xs last) (sym page) (ends_at begin y (take 63 ys));
         later = omega arith;
-        text = text_behind s n ∙ (ap lines_again whole ∙ (lines_then (texts_from (suc n) front) (texts_from (suc last) rest)
-            ∙ (ap (λ (bytes : List ℕ). lines_again (texts_from (suc n) front) ++ bytes) behind
+        text = text_behind s n ∙ (ap lines_again whole ∙ (lines_then (texts_from (suc begin) front) (texts_from (suc last) rest)
+            ∙ (ap (λ (bytes : List ℕ). lines_again (texts_from (suc begin) front) ++ bytes) behind
             ∙ ap (λ (xs : List RequestTexts). lines_again xs ++ history_text s last) (sym page))));
       })
 

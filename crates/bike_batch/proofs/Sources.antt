@@ -13,6 +13,7 @@ use Rattle.bike_operator.specs.declared.records.Closing.{Closing}
 use Rattle.bike_operator.specs.Operator.{Operator, AcceptedRequest, item_at}
 use Rattle.bike_operator.specs.Requests.{RequestTexts, request_texts}
 use Rattle.bike_operator.specs.Sound.{IsSound}
+use Rattle.bike_laws.proofs.SingleSteps.ItemLemmas.{number_of_place}
 use Rattle.bike_book.specs.Stored.{numbers_from, with_numbers}
 use Rattle.bike_operator.specs.declared.rental_info.ClosingInfo.{ClosingInfo}
 use Rattle.bike_operator.specs.declared.rental_info.RentalInfo.{RentalInfo}
@@ -49,11 +50,11 @@ numbered_by_place number n [] h = tt
 numbered_by_place number n (x ∷ xs) h =
     (omega (arith, h 0 x refl), numbered_by_place number (suc n) xs (λ k y is. omega (arith, h (suc k) y is)))
 
-pub numbered_entries : (s : Operator) → IsSound s → IsNumbered (λ e. e.number) 1 s.entries
-numbered_entries s sound = numbered_by_place (λ e. e.number) 1 s.entries
-    (λ k e is. omega (arith, (sound.ledger.entries (suc k) e is).number_is))
+pub numbered_entries : (s : Operator) → IsSound s → IsNumbered (λ e. e.number) (suc s.entries.archived) s.entries.items
+numbered_entries s sound = numbered_by_place (λ e. e.number) (suc s.entries.archived) s.entries.items
+    (λ k e is. omega (arith, (sound.ledger.entries (s.entries.archived + suc k) e (number_of_place k s.entries e is)).number_is))
 
-pub few_entries : (s : Operator) → IsSound s → length s.entries ≤ 100000000
+pub few_entries : (s : Operator) → IsSound s → length s.entries.items ≤ 100000000
 few_entries s sound = omega (arith, sound.ledger.few_entries)
 
 abbrev pub entries : ℕ → ℕ → Source Entry Entry
@@ -62,11 +63,12 @@ entries begin until = record {
   number = λ e. e.number;
   passes = λ e. lies_in begin until e.at;
   line = entry_line;
-  held = λ s. s.entries;
+  held = λ s. s.entries.items;
   shows = λ s e. e;
   answers = λ s found. found;
   answers_none = λ s. refl;
   answers_some = λ s e. refl;
+  archived = λ s. s.entries.archived;
   numbered = numbered_entries;
   headed = lines_end (columns_of Entries);
   lined = λ e passes. lines_end (entry_fields e);
@@ -88,7 +90,7 @@ length_from n [] = refl
 length_from n (x ∷ xs) = ap suc (length_from (suc n) xs)
 
 pub few_rentals : (s : Operator) → IsSound s → length (with_numbers s.rentals) ≤ 100000000
-few_rentals s sound = omega (arith, length_from 1 s.rentals, sound.rentals.few_rentals, sound.ledger.few_entries)
+few_rentals s sound = omega (arith, length_from (suc s.rentals.archived) s.rentals.items, sound.rentals.few_rentals, sound.ledger.few_entries)
 
 -- the line of a rental that was closed so
 abbrev pub closed_line : ℕ → Rental → Option Closing → List ℕ
@@ -106,11 +108,12 @@ rentals begin until = record {
   passes = λ e. ends_in begin until e.1.closing;
   line = λ e. closed_line e.0 e.1 e.1.closing;
   held = λ s. with_numbers s.rentals;
-  shows = λ s e. ended_info s.entries e;
-  answers = λ s found. option_map (ended_info s.entries) found;
+  shows = λ s e. ended_info s.entries.items e;
+  answers = λ s found. option_map (ended_info s.entries.items) found;
   answers_none = λ s. refl;
   answers_some = λ s e. refl;
-  numbered = λ s sound. numbered_from 1 s.rentals;
+  archived = λ s. s.rentals.archived;
+  numbered = λ s sound. numbered_from (suc s.rentals.archived) s.rentals.items;
   headed = lines_end (columns_of Rentals);
   lined = λ e passes. closed_lines begin until e.0 e.1 e.1.closing passes;
 }
@@ -120,18 +123,18 @@ pub rental_asks : (begin until : ℕ) (y : ℕ × RentalInfo) (b c : Option (Lis
     → ((closing : ClosingInfo) → y.1.closing ≡ Some closing → WritesLine b c (ended_line (info_row y.0 y.1 closing)) result)
     → AsksLine (rentals begin until) y b c result
 rental_asks begin until y b c result wrote s x passes same =
-    let shown : ℕ × RentalInfo = ended_info s.entries x in
+    let shown : ℕ × RentalInfo = ended_info s.entries.items x in
     go x.1.closing refl passes
     (subst (λ (z : ℕ × RentalInfo). (closing : ClosingInfo) → z.1.closing ≡ Some closing
     → WritesLine b c (ended_line (info_row z.0 z.1 closing)) result) same wrote) where
       go : (o : Option Closing) → x.1.closing ≡ o → ends_in begin until o ≡ true
-          → ((closing : ClosingInfo) → option_map (closing_info (refunded_of x.0 s.entries)) x.1.closing ≡ Some closing
-          → WritesLine b c (ended_line (info_row x.0 (rental_info (refunded_of x.0 s.entries) x.1) closing)) result)
+          → ((closing : ClosingInfo) → option_map (closing_info (refunded_of x.0 s.entries.items)) x.1.closing ≡ Some closing
+          → WritesLine b c (ended_line (info_row x.0 (rental_info (refunded_of x.0 s.entries.items) x.1) closing)) result)
           → WritesLine b c (closed_line x.0 x.1 x.1.closing) result
       go None is ends h = absurd cc
       go (Some closing) is ends h =
           subst (λ (o : Option Closing). WritesLine b c (closed_line x.0 x.1 o) result) (sym is)
-          (h (closing_info (refunded_of x.0 s.entries) closing) (ap (option_map (closing_info (refunded_of x.0 s.entries))) is))
+          (h (closing_info (refunded_of x.0 s.entries.items) closing) (ap (option_map (closing_info (refunded_of x.0 s.entries.items))) is))
 
 -- ---- the lines of the rentals that ended are those of their rows
 
@@ -183,7 +186,8 @@ requests begin until = record {
   answers = λ s found. option_map request_texts found;
   answers_none = λ s. refl;
   answers_some = λ s e. refl;
-  numbered = λ s sound. numbered_from 1 s.history;
+  archived = λ s. s.history.archived;
+  numbered = λ s sound. numbered_from (suc s.history.archived) s.history.items;
   headed = lines_end (columns_of Requests);
   lined = λ e passes. lines_end (request_fields (request_texts e));
 }

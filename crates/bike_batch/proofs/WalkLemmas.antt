@@ -1,5 +1,5 @@
 -- A table whose rows are read from the desk one after another, and written as they are read.
-use Rattle.std.proofs.Common.{◌≡◌, ℕ, ◌+◌, ◌<◌, ◌≤◌, List, [], ◌∷◌, ◌++◌, length, take, find, Bool, true, IsTrue, Option, Some, None, Result, Ok, Err, refl, sym, ap, ◌∙◌, subst, arith, append_assoc}
+use Rattle.std.proofs.Common.{◌≡◌, ℕ, suc, ◌+◌, ◌<◌, ◌≤◌, List, [], ◌∷◌, ◌++◌, length, take, find, Bool, true, IsTrue, Option, Some, None, Result, Ok, Err, refl, sym, ap, ◌∙◌, subst, arith, append_assoc}
 use Rattle.std.proofs.Common.{append-nil, length-append}
 use Rattle.std.specs.Result.{IsErrAnd}
 use Rattle.std.specs.Io.KnownBytes.{Keeps, Appends}
@@ -68,7 +68,8 @@ pub record Source (X Y : Type 0) : Type 0 where
   pub answers : Operator → Option X → Option Y
   pub answers_none : (s : Operator) → answers s None ≡ None
   pub answers_some : (s : Operator) (x : X) → answers s (Some x) ≡ Some (shows s x)
-  pub numbered : (s : Operator) → IsSound s → IsNumbered number 1 (held s)
+  pub archived : Operator → ℕ
+  pub numbered : (s : Operator) → IsSound s → IsNumbered number (suc (archived s)) (held s)
   -- no line is empty
   pub headed : 0 < length header
   pub lined : (x : X) → passes x ≡ true → 0 < length (line x)
@@ -143,7 +144,7 @@ module _ {S X Y : Type 0} (g : Ghosts S) (t : Source X Y) where
       front = [];
       rest = t.held s;
       split = refl;
-      first = (q.ok clean s at).0 ∙ ap (t.answers s) (next_first t.number t.passes (t.held s) (t.numbered s (sound_of _ s at)));
+      first = (q.ok clean s at).0 ∙ ap (t.answers s) (next_first t.number t.passes (t.archived s) (t.held s) (t.numbered s (sound_of _ s at)));
       many = omega arith;
       wrote = subst (Appends a b) (sym (append-nil t.header)) head;
     };
@@ -225,11 +226,11 @@ module _ {S X Y : Type 0} (g : Ghosts S) (t : Source X Y) where
     ahead = λ clean s at.
         let clean_before = earlier g e f q.clean clean in
         let it = w.behind clean_before s at in
-        let sorted : IsNumbered t.number 1 (it.front ++ it.last ∷ it.rest) = subst (IsNumbered t.number 1) it.split
+        let sorted : IsNumbered t.number (suc (t.archived s)) (it.front ++ it.last ∷ it.rest) = subst (IsNumbered t.number (suc (t.archived s))) it.split
         (t.numbered s (sound_of _ s at)) in
         let after = ap (λ (n : ℕ). find (is_next t.number t.passes n) (t.held s)) (for_it s it.last it.same)
         ∙ (ap (find (is_next t.number t.passes (t.number it.last))) it.split
-        ∙ next_behind t.number t.passes 1 it.front it.last it.rest sorted) in
+        ∙ next_behind t.number t.passes (suc (t.archived s)) it.front it.last it.rest sorted) in
         record {
           front = it.front ++ it.last ∷ [];
           rest = it.rest;

@@ -14,7 +14,7 @@ use Rattle.bike_day_texts.specs.Rows.{EndedRow, entry_line, ended_line, request_
 
 -- the entries whose moment lies in the span, by number
 abbrev pub span_entries : Operator → ℕ → ℕ → List Entry
-span_entries s begin end = filter (λ e. lies_in begin end e.at) s.entries
+span_entries s begin end = filter (λ e. lies_in begin end e.at) s.entries.items
 
 -- how a rental ended
 abbrev pub ended_row : ℕ → Rental → Closing → EndedRow

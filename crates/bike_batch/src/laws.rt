@@ -1,6 +1,6 @@
 //! What the lines of a history are read as.
 
-ghost use Rattle.std.specs.Prelude.{ℕ, Some, drop, map};
+ghost use Rattle.std.specs.Prelude.{◌-◌, ℕ, Some, drop, map};
 ghost use Rattle.bike_stream.specs.Lines.{lines_of};
 ghost use Rattle.bike_operator.specs.Operator.{Operator};
 ghost use Rattle.bike_operator.specs.Sound.{IsSound};
@@ -12,5 +12,6 @@ ghost use Rattle.bike_batch.specs.Answers.{AreReadAs};
 /// requests that were accepted behind it, each at the operator's moment after it.
 pub fn history_lines_law()
     ensures { (s : Operator) (number : ℕ) → IsSound s
-        → AreReadAs (lines_of (history_text s number)) (map Some (calls_of (drop number s.history))) }
+        → AreReadAs (lines_of (history_text s number))
+        (map Some (calls_of (drop (number - s.history.archived) s.history.items))) }
 {}

@@ -1,18 +1,21 @@
 -- The row changes that book a bicycle, truck or rider added, and a rider blocked or opened.
-use Rattle.std.proofs.Common.{◌≡◌, ℕ, ◌+◌, ℤ, pos, ◌-ℤ◌, List, Bool, true, false, ◌&&◌, None, refl, sym, ap, ap₂, ◌∙◌, arith}
+use Rattle.std.proofs.Common.{◌≡◌, ℕ, ◌+◌, ℤ, pos, ◌+ℤ◌, ◌-ℤ◌, List, Bool, true, false, ◌&&◌, None, refl, sym, ap, ap₂, ◌∙◌, arith}
 use Rattle.std.specs.Prelude.{map}
 use Rattle.std.specs.Str.{bytes_eq}
 use Rattle.std.specs.FinMap as fin
+use Rattle.std.proofs.lemmas.Int.{ints}
 use Rattle.bike_sql.specs.View.{put_row_by}
+use Rattle.bike_ledger.specs.Ledger.{balance_of}
 use Rattle.bike_operator.specs.declared.records.BikeState.TheVariants.{Fit}
 use Rattle.bike_operator.specs.declared.records.Place.TheVariants as place
 use Rattle.bike_operator.specs.declared.records.Bike.{Bike}
 use Rattle.bike_operator.specs.Operator.{Operator}
 use Rattle.bike_operator.specs.Counts.{count, is_available, is_working_dock, docks_broken}
 use Rattle.bike_laws.proofs.SingleSteps.CatalogueLemmas.{same_docks}
-use Rattle.bike_laws.proofs.SingleSteps.MapLemmas.{number_order, there_of}
+use Rattle.bike_laws.proofs.SingleSteps.MapLemmas.{number_order}
 use Rattle.bike_laws.proofs.SingleSteps.CountLemmas.{one, weight, count-added}
 use Rattle.bike_laws.specs.SingleSteps.Numbers.{is_disabled_of}
+use Rattle.bike_operator.specs.Steps.{new_rider}
 use Rattle.bike_accepted.specs.declared.change.Change.TheVariants as change
 use Rattle.bike_accepted.specs.Effects.{after_change}
 use Rattle.bike_book.specs.declared.by_type.CountedType.{CountedType}
@@ -21,7 +24,7 @@ use Rattle.bike_book.specs.Rows.{station_row, rider_row}
 use Rattle.bike_book.specs.Stored.{stored_bike, stored_truck, stored_rider}
 use Rattle.bike_book.specs.Between.{counted_station, tables_between}
 use Rattle.bike_book.specs.ChangeLaws.{Everywhere, AddBikeLaw, AddTruckLaw, AddRiderLaw, SetRiderLaw}
-use Rattle.bike_book.proofs.MapRows.{same_entries, put_entries, set_entries}
+use Rattle.bike_book.proofs.MapRows.{same_entries, put_entries, changed_entries}
 use Rattle.bike_book.proofs.Keys.{numbers, texts}
 use Rattle.bike_book.proofs.TypeLaws.{types_same}
 use Rattle.bike_book.proofs.ListingLemmas.{listing_same}
@@ -72,16 +75,16 @@ add_truck s m listing truck capacity =
 pub add_rider : Everywhere AddRiderLaw
 add_rider s m listing rider none =
     let n = after_change (change.AddRider rider) s in
+    let zero : pos 0 ≡ pos 0 +ℤ balance_of rider s.entries.items = omega (arith, ints, none) in
     let riders =
-    ap (λ (b : ℤ). put_row_by 1 (rider_row rider false b) (map (stored_rider s.entries) (fin.entries s.riders))) (sym none)
-    ∙ put_entries numbers (stored_rider s.entries) (stored_rider s.entries) (λ e. refl) (λ e. refl) s.riders rider (record { is_blocked = false }) tt (λ q y found. (tt, λ apart. refl)) in
+    ap (λ (b : ℤ). put_row_by 1 (rider_row rider new_rider b) (map (stored_rider s.entries.items) (fin.entries s.riders))) zero
+    ∙ put_entries numbers (stored_rider s.entries.items) (stored_rider s.entries.items) (λ e. refl) (λ e. refl) s.riders rider new_rider tt (λ q y found. (tt, λ apart. refl)) in
     record { leads = λ i. record (tables_between s m) { riders = riders i }; listing = listing_same s n m (same_docks s n refl) refl refl refl listing }
 
 pub set_rider : Everywhere SetRiderLaw
 set_rider s m listing rider blocked known =
     let n = after_change (change.SetRider rider blocked) s in
-    let there = there_of (fin.get s.riders rider) known in
     let riders =
-    set_entries numbers (stored_rider s.entries) (stored_rider s.entries) (λ e. refl) (λ e. refl) s.riders rider tt _ there.0 (record { is_blocked = blocked }) there.1 refl
+    changed_entries numbers (stored_rider s.entries.items) (stored_rider s.entries.items) (λ e. refl) (λ e. refl) s.riders rider tt _ (λ r. record r { is_blocked = blocked }) (λ v found. refl)
     (λ q y found. (tt, λ apart. refl)) in
     record { leads = λ i. record (tables_between s m) { riders = riders i }; listing = listing_same s n m (same_docks s n refl) refl refl refl listing }

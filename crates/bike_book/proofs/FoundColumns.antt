@@ -25,7 +25,7 @@ use Rattle.bike_operator.specs.declared.records.Place.{Place}
 use Rattle.bike_operator.specs.declared.records.Place.TheVariants as place
 use Rattle.bike_operator.specs.declared.records.Bike.{Bike}
 use Rattle.bike_operator.specs.declared.records.Rental.{Rental}
-use Rattle.bike_operator.specs.Operator.{Operator, AcceptedRequest, NameKey, text_cmp, texts_cmp, key_of, key_in, kept_under}
+use Rattle.bike_operator.specs.Operator.{Operator, AcceptedRequest, NameKey, text_cmp, texts_cmp, key_of, key_in, kept_under, Numbered, none_numbered}
 use Rattle.bike_operator.specs.Counts.{is_dock, is_on_truck, is_for_order, is_open}
 use Rattle.bike_operator.specs.Names.{part_at, is_name_of, further_names}
 use Rattle.bike_laws.proofs.SingleSteps.MapLemmas.{text_order, texts_order, tied}
@@ -169,7 +169,7 @@ module _ (plan : List ℕ) where
 
 -- ---- a rider's open rental
 
-module _ (es : List Entry) (rider : ℕ) (rs : List Rental) where
+module _ (es : List Entry) (rider : ℕ) (rs : Numbered Rental) where
   abbrev is_of_rider : ℕ × Rental → Bool
   is_of_rider e = e.1.rider == rider
 
@@ -186,11 +186,11 @@ module _ (es : List Entry) (rider : ℕ) (rs : List Rental) where
       ≡ option_map (stored_rental es) (find is_open_of_rider (with_numbers rs))
   open_found = ap (λ (xs : List Row). slice_get xs 0) rows_are ∙ first_found (stored_rental es) is_open_of_rider (with_numbers rs)
 
-any_found : (rider : ℕ) (n : ℕ) (rs : List Rental) → is_some (find (is_open_of_rider [] rider rs) (numbers_from n rs)) ≡ list_any (λ r. (r.rider == rider) && is_open r) rs
+any_found : (rider : ℕ) (n : ℕ) (rs : List Rental) → is_some (find (is_open_of_rider [] rider none_numbered) (numbers_from n rs)) ≡ list_any (λ r. (r.rider == rider) && is_open r) rs
 any_found rider n [] = refl
 any_found rider n (r ∷ rs) = go ((r.rider == rider) && is_open r) (any_found rider (suc n) rs) where
-  go : (b : Bool) → is_some (find (is_open_of_rider [] rider rs) (numbers_from (suc n) rs)) ≡ list_any (λ z. (z.rider == rider) && is_open z) rs
-      → is_some (cond b (Some (n, r)) (find (is_open_of_rider [] rider rs) (numbers_from (suc n) rs))) ≡ (b || list_any (λ z. (z.rider == rider) && is_open z) rs)
+  go : (b : Bool) → is_some (find (is_open_of_rider [] rider none_numbered) (numbers_from (suc n) rs)) ≡ list_any (λ z. (z.rider == rider) && is_open z) rs
+      → is_some (cond b (Some (n, r)) (find (is_open_of_rider [] rider none_numbered) (numbers_from (suc n) rs))) ≡ (b || list_any (λ z. (z.rider == rider) && is_open z) rs)
   go true rest = refl
   go false rest = rest
 
@@ -213,12 +213,12 @@ module _ (caller key : List ℕ) where
     go true rest = record { number = n; row_is = refl }
     go false rest = rest
 
-  kept_found : (h : List AcceptedRequest)
-      → AreRowOf (kept_under (key_of caller key) h) (slice_get (rows_where (2 ∷ 3 ∷ []) (Text caller ∷ Text key ∷ []) (map stored_request (with_numbers h))) 0)
+  kept_found : (h : Numbered AcceptedRequest)
+      → AreRowOf (kept_under (key_of caller key) h.items) (slice_get (rows_where (2 ∷ 3 ∷ []) (Text caller ∷ Text key ∷ []) (map stored_request (with_numbers h))) 0)
   kept_found h =
-      subst (AreRowOf (kept_under (key_of caller key) h))
+      subst (AreRowOf (kept_under (key_of caller key) h.items))
       (sym (ap (λ (xs : List Row). slice_get xs 0) (filtered stored_request _ has_key keyed (with_numbers h)) ∙ first_found stored_request has_key (with_numbers h)))
-      (kept_from 1 h)
+      (kept_from (suc h.archived) h.items)
 
 pub found_by_columns : WhereListed FoundByColumns
 found_by_columns s m sound listing = record {
@@ -234,8 +234,8 @@ found_by_columns s m sound listing = record {
       ∙ same_length stored_bike (filter (λ e. is_for_order order e.1.place) (fin.entries s.bikes));
   named = λ kind id. names_found s kind id;
   kept = λ caller key. kept_found caller key s.history;
-  open_rental_is = λ rider. open_found s.entries rider s.rentals;
+  open_rental_is = λ rider. open_found s.entries.items rider s.rentals;
   riding =
-      λ rider. ap is_some (open_found s.entries rider s.rentals) ∙ mapped_some (stored_rental s.entries) (find (is_open_of_rider s.entries rider s.rentals) (with_numbers s.rentals))
-      ∙ any_found rider 1 s.rentals;
+      λ rider. ap is_some (open_found s.entries.items rider s.rentals) ∙ mapped_some (stored_rental s.entries.items) (find (is_open_of_rider s.entries.items rider s.rentals) (with_numbers s.rentals))
+      ∙ any_found rider (suc s.rentals.archived) s.rentals.items;
 }

@@ -1,6 +1,6 @@
 -- The rows found by their keys.
 use Rattle.std.proofs.Common.{◌≡◌, pos, ℕ, List, [], ◌∷◌, Bool, true, false, Option, Some, None, is_some, refl, ap, ◌∙◌}
-use Rattle.std.specs.Prelude.{option_map}
+use Rattle.std.specs.Prelude.{◌+◌, ◌==◌, if◌then◌else◌, option_map, slice_get}
 use Rattle.std.specs.FinMap as fin
 use Rattle.sqlite_value.specs.declared.value.Value.TheVariants.{Text}
 use Rattle.bike_sql.specs.View.{row_with}
@@ -9,9 +9,9 @@ use Rattle.bike_operator.specs.Operator.{Operator, DockKey, name_key, dock_key}
 use Rattle.bike_operator.specs.Counts.{is_broken}
 use Rattle.bike_book.specs.declared.version.TheConstants.{NEWEST}
 use Rattle.bike_book.specs.Tables.{Docks}
-use Rattle.bike_book.specs.Rows.{number_value, system_row, dock_row}
+use Rattle.bike_book.specs.Rows.{number_value, system_row, dock_row, books_row}
 use Rattle.bike_book.specs.Stored.{Listed, IsListing, system_rows, stored_plan, stored_type, stored_region, stored_station, stored_dock, stored_bike, stored_truck, stored_rider, stored_rental}
-use Rattle.bike_book.specs.Stored.{stored_order, stored_entry, stored_name}
+use Rattle.bike_book.specs.Stored.{stored_order, stored_entry, stored_name, books_rows}
 use Rattle.bike_book.specs.Found.{row_under, WhereListed, FoundByKey, FoundListed}
 use Rattle.bike_book.proofs.MapRows.{found_entries}
 use Rattle.bike_book.proofs.Keys.{number_key, numbers, texts, triples, name_triple, docks, IsDockPair}
@@ -23,9 +23,15 @@ system_found : (o : Option SystemRow) → row_with 1 (number_key 1) (system_rows
 system_found None = refl
 system_found (Some x) = rw one_key refl
 
+books_found : (requests entries rentals : ℕ) → row_with 1 (number_key 1) (books_rows requests entries rentals) ≡ slice_get (books_rows requests entries rentals) 0
+books_found requests entries rentals = go (requests + entries + rentals == 0) where
+  go : (none : Bool) → row_with 1 (number_key 1) (if none then [] else books_row requests entries rentals ∷ []) ≡ slice_get (if none then [] else books_row requests entries rentals ∷ []) 0
+  go true = refl
+  go false = rw one_key refl
+
 pub found_by_key : WhereListed FoundByKey
 found_by_key s m sound listing = record {
-  meta = meta_found NEWEST m.since (pos 0) (pos 0);
+  meta = meta_found NEWEST m.since s.past.cash s.past.revenue;
   system = system_found s.system;
   plans = λ id. found_entries texts stored_plan (λ e. refl) id tt s.plans (λ q y found. tt);
   types = λ id. found_entries texts stored_type (λ e. refl) id tt s.types (λ q y found. tt);
@@ -33,10 +39,11 @@ found_by_key s m sound listing = record {
   stations = λ id. found_entries texts (stored_station s) (λ e. refl) id tt s.stations (λ q y found. tt);
   bikes = λ bike. found_entries numbers stored_bike (λ e. refl) bike tt s.bikes (λ q y found. tt);
   trucks = λ truck. found_entries numbers stored_truck (λ e. refl) truck tt s.trucks (λ q y found. tt);
-  riders = λ rider. found_entries numbers (stored_rider s.entries) (λ e. refl) rider tt s.riders (λ q y found. tt);
-  rentals = λ rental. found_number (stored_rental s.entries) (λ e. refl) rental s.rentals;
+  riders = λ rider. found_entries numbers (stored_rider s.entries.items) (λ e. refl) rider tt s.riders (λ q y found. tt);
+  rentals = λ rental. found_number (stored_rental s.entries.items) (λ e. refl) rental s.rentals;
   orders = λ order. found_number stored_order (λ e. refl) order s.orders;
   entries = λ entry. found_number stored_entry (λ e. refl) entry s.entries;
+  books = books_found s.history.archived s.entries.archived s.rentals.archived;
   more_names = λ kind id language.
       found_entries triples stored_name (λ e. refl) (name_key kind id language) (name_triple kind id language) s.more_names (λ k y found. named_triple s sound.names k y found);
 }

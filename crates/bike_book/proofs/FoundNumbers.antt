@@ -11,7 +11,7 @@ use Rattle.bike_sql.specs.View.{last_of}
 use Rattle.bike_ledger.specs.Entries.{Entry}
 use Rattle.bike_operator.specs.declared.records.Rental.{Rental}
 use Rattle.bike_operator.specs.declared.records.Closing.{Closing}
-use Rattle.bike_operator.specs.Operator.{AcceptedRequest}
+use Rattle.bike_operator.specs.Operator.{AcceptedRequest, Numbered, last_number}
 use Rattle.bike_operator.specs.Counts.{count, is_open}
 use Rattle.bike_laws.specs.History.{last_moment_of}
 use Rattle.bike_book.specs.Rows.{number_value}
@@ -22,17 +22,20 @@ use Rattle.bike_book.specs.Found.{WhereListed, FoundNumbers, IsLast, IsLastMomen
 -- ---- the last number
 
 module _ {A : Type 0} (row : ℕ × A → Row) (keyed : (e : ℕ × A) → column (row e) 0 ≡ number_value e.0) where
-  last_from : (n : ℕ) (x : A) (xs : List A) → IsLast (n + length xs) (slice_get (last_of (map row (numbers_from n (x ∷ xs)))) 0)
-  last_from n x [] = keyed (n, x) ∙ ap number_value (omega arith)
-  last_from n x (y ∷ xs) = rw (shifted n (length xs)) (last_from (suc n) y xs) where
+  last_from : (none n : ℕ) (x : A) (xs : List A) → IsLast none (n + length xs) (slice_get (last_of (map row (numbers_from n (x ∷ xs)))) 0)
+  last_from none n x [] = keyed (n, x) ∙ ap number_value (omega arith)
+  last_from none n x (y ∷ xs) = rw (shifted n (length xs)) (last_from none (suc n) y xs) where
     shifted : (a b : ℕ) → a + suc b ≡ suc a + b
     shifted a b = omega arith
 
-  last_is : (xs : List A) → IsLast (length xs) (slice_get (last_of (map row (with_numbers xs))) 0)
-  last_is [] = refl
-  last_is (x ∷ xs) = rw (one_more (length xs)) (last_from 1 x xs) where
-    one_more : (b : ℕ) → suc b ≡ 1 + b
+  last_behind : (a : ℕ) (xs : List A) → IsLast a (a + length xs) (slice_get (last_of (map row (numbers_from (suc a) xs))) 0)
+  last_behind a [] = omega arith
+  last_behind a (x ∷ xs) = rw (one_more (length xs)) (last_from a (suc a) x xs) where
+    one_more : (b : ℕ) → a + suc b ≡ suc a + b
     one_more b = omega arith
+
+  last_is : (l : Numbered A) → IsLast l.archived (last_number l) (slice_get (last_of (map row (with_numbers l))) 0)
+  last_is l = last_behind l.archived l.items
 
 -- ---- the last moment
 
@@ -41,9 +44,12 @@ moment_from : (n now : ℕ) (a : AcceptedRequest) (history : List AcceptedReques
 moment_from n now a [] = refl
 moment_from n now a (b ∷ history) = moment_from (suc n) a.moment b history
 
-moment_is : (history : List AcceptedRequest) → IsLastMoment (last_moment_of 0 history) (slice_get (last_of (map stored_request (with_numbers history))) 0)
-moment_is [] = refl
-moment_is (a ∷ history) = moment_from 1 0 a history
+moment_behind : (n : ℕ) (history : List AcceptedRequest) → IsLastMoment (last_moment_of 0 history) (slice_get (last_of (map stored_request (numbers_from n history))) 0)
+moment_behind n [] = refl
+moment_behind n (a ∷ history) = moment_from n 0 a history
+
+moment_is : (history : Numbered AcceptedRequest) → IsLastMoment (last_moment_of 0 history.items) (slice_get (last_of (map stored_request (with_numbers history))) 0)
+moment_is history = moment_behind (suc history.archived) history.items
 
 -- ---- so many rows
 
@@ -77,7 +83,7 @@ open_length es n (r ∷ rs) = rw (finish_null es n r r.closing) (go (is_open r) 
 
 pub found_numbers : WhereListed FoundNumbers
 found_numbers s m sound listing = record {
-  last_rental = last_is (stored_rental s.entries) (λ e. refl) s.rentals;
+  last_rental = last_is (stored_rental s.entries.items) (λ e. refl) s.rentals;
   last_order = last_is stored_order (λ e. refl) s.orders;
   last_entry = last_is stored_entry (λ e. refl) s.entries;
   last_request = last_is stored_request (λ e. refl) s.history;
@@ -88,10 +94,10 @@ found_numbers s m sound listing = record {
   stations = same_len (stored_station s) s.stations;
   bikes = same_len stored_bike s.bikes;
   trucks = same_len stored_truck s.trucks;
-  riders = same_len (stored_rider s.entries) s.riders;
-  rentals = numbered_length (stored_rental s.entries) 1 s.rentals;
-  orders = numbered_length stored_order 1 s.orders;
-  entries = numbered_length stored_entry 1 s.entries;
-  requests = numbered_length stored_request 1 s.history;
-  open_rentals_are = open_length s.entries 1 s.rentals;
+  riders = same_len (stored_rider s.entries.items) s.riders;
+  rentals = numbered_length (stored_rental s.entries.items) (suc s.rentals.archived) s.rentals.items;
+  orders = numbered_length stored_order (suc s.orders.archived) s.orders.items;
+  entries = numbered_length stored_entry (suc s.entries.archived) s.entries.items;
+  requests = numbered_length stored_request (suc s.history.archived) s.history.items;
+  open_rentals_are = open_length s.entries.items (suc s.rentals.archived) s.rentals.items;
 }

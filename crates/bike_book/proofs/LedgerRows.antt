@@ -13,7 +13,8 @@ use Rattle.bike_ledger.specs.Ledger.{credit, given_back, given_back_of, balance_
 use Rattle.bike_ledger.proofs.SumLemmas.{total-append, balance_of-own, balance_of-other}
 use Rattle.bike_operator.specs.declared.records.Rental.{Rental}
 use Rattle.bike_operator.specs.declared.records.Closing.{Closing}
-use Rattle.bike_operator.specs.Operator.{Rider}
+use Rattle.bike_operator.specs.Operator.{Rider, Numbered, last_number, with_item}
+use Rattle.bike_operator.specs.View.{before_of}
 use Rattle.bike_laws.proofs.SingleSteps.MapLemmas.{number_order}
 use Rattle.bike_book.specs.Rows.{meta_row, rider_row, entry_row, rental_row}
 use Rattle.bike_book.specs.Stored.{with_numbers, stored_rider, stored_entry, stored_rental}
@@ -35,17 +36,23 @@ not_same a b apart same =
 
 -- ---- the entry
 
-pub entry_put : (es : List Entry) (e : Entry) → e.number ≡ length es + 1 → put_row_by 1 (entry_row e.number e) (map stored_entry (with_numbers es)) ≡ map stored_entry (with_numbers (es ++ e ∷ []))
+pub entry_put : (es : Numbered Entry) (e : Entry) → e.number ≡ last_number es + 1 → put_row_by 1 (entry_row e.number e) (map stored_entry (with_numbers es)) ≡ map stored_entry (with_numbers (with_item e es))
 entry_put es e is = put_number stored_entry stored_entry (λ x. refl) (λ x. refl) es e.number e is (λ x apart. refl)
 
 -- ---- its rider
 
-pub balance_set : (riders : FinMap nat_cmp Rider) (es : List Entry) (e : Entry) (balance : ℤ) → balance ≡ balance_of e.rider es +ℤ credit e.kind e.amount
+pub balance_set : (riders : FinMap nat_cmp Rider) (es : List Entry) (e : Entry) (balance : ℤ) → balance ≡ (before_of (fin.get riders e.rider) +ℤ balance_of e.rider es) +ℤ credit e.kind e.amount
     → rows_after_update 1 (number_key e.rider) (with_values ((2, Int balance) ∷ [])) (map (stored_rider es) (fin.entries riders)) ≡ map (stored_rider (es ++ e ∷ [])) (fin.entries riders)
 balance_set riders es e balance is =
     kept_entries numbers (stored_rider es) (stored_rider (es ++ e ∷ [])) (λ x. refl) (λ x. refl) riders e.rider tt _
-    (λ r found. ap (rider_row e.rider r.is_blocked) (is ∙ sym (balance_of-own es e)))
-    (λ q r found. (tt, λ apart. ap (rider_row q r.is_blocked) (sym (balance_of-other es e q (not_same e.rider q apart)))))
+    (λ r found. ap (rider_row e.rider r) (own r found))
+    (λ q r found. (tt, λ apart. ap (λ (z : ℤ). rider_row q r (r.before +ℤ z)) (sym (balance_of-other es e q (not_same e.rider q apart)))))
+  where
+    own : (r : Rider) → fin.get riders e.rider ≡ Some r → balance ≡ r.before +ℤ balance_of e.rider (es ++ e ∷ [])
+    own r found =
+        let all : balance_of e.rider (es ++ e ∷ []) ≡ balance_of e.rider es +ℤ credit e.kind e.amount = balance_of-own es e in
+        let had : before_of (fin.get riders e.rider) ≡ r.before = ap before_of found in
+        omega (arith, ints, is, all, had)
 
 -- ---- its rental
 
@@ -62,7 +69,7 @@ refund_counted es e =
     let own : given_back_of e.rental e ≡ given_back e.kind e.amount = ap (λ (b : Bool). cond b (given_back e.kind e.amount) (pos 0)) (own_number e.rental) in
     total-append (given_back_of e.rental) es e ∙ ap (λ z. refunded_of e.rental es +ℤ z) own
 
-pub rentals_same : (rentals : List Rental) (es : List Entry) (e : Entry) → given_back e.kind e.amount ≡ pos 0
+pub rentals_same : (rentals : Numbered Rental) (es : List Entry) (e : Entry) → given_back e.kind e.amount ≡ pos 0
     → map (stored_rental es) (with_numbers rentals) ≡ map (stored_rental (es ++ e ∷ [])) (with_numbers rentals)
 rentals_same rentals es e none =
     same_rows numbers (stored_rental es) (stored_rental (es ++ e ∷ [])) (with_numbers rentals)
@@ -74,7 +81,7 @@ refunded_row : (rental : ℕ) (r : Rental) (old refunded : ℤ) (c : Option Clos
 refunded_row rental r old refunded None = refl
 refunded_row rental r old refunded (Some c) = refl
 
-pub refunded_set : (rentals : List Rental) (es : List Entry) (e : Entry) (refunded : ℤ) → refunded ≡ refunded_of e.rental es +ℤ given_back e.kind e.amount
+pub refunded_set : (rentals : Numbered Rental) (es : List Entry) (e : Entry) (refunded : ℤ) → refunded ≡ refunded_of e.rental es +ℤ given_back e.kind e.amount
     → rows_after_update 1 (number_key e.rental) (with_values ((9, Int refunded) ∷ [])) (map (stored_rental es) (with_numbers rentals)) ≡ map (stored_rental (es ++ e ∷ [])) (with_numbers rentals)
 refunded_set rentals es e refunded is =
     kept_number (stored_rental es) (stored_rental (es ++ e ∷ [])) (λ x. refl) (λ x. refl) rentals e.rental _

@@ -3,7 +3,7 @@
 use Rattle.std.proofs.Common.{◌≡◌, ◌≤◌, ℕ, max, List, [], ◌∷◌, ◌++◌, refl, sym, ap, ◌∙◌, subst}
 use Rattle.std.specs.FinSet as set
 use native.Mathlib.Nat.{le_trans, le-max_left, max-eq_right}
-use Rattle.bike_operator.specs.Operator.{Operator, AcceptedRequest, DockKey, texts_cmp}
+use Rattle.bike_operator.specs.Operator.{Operator, AcceptedRequest, Numbered, DockKey, texts_cmp, with_item}
 use Rattle.bike_operator.specs.Sound.{HasDock}
 use Rattle.bike_laws.specs.History.{last_moment_of}
 use Rattle.bike_book.specs.Stored.{Listed, IsListing, IsDockKey, moment_since}
@@ -20,7 +20,7 @@ pub listing_same : (s n : Operator) (m : Listed) → KeepsDocks s n → n.broken
 listing_same s n m keeps broken now history h = record {
   docks = λ key there. dock_kept s n keeps key (h.docks key there);
   marked = λ key there. h.marked key (ap (λ (b : set.FinSet texts_cmp). set.contains b key) (sym broken) ∙ there);
-  now_is = now ∙ h.now_is ∙ ap (moment_since m.since) (sym history);
+  now_is = now ∙ h.now_is ∙ ap (λ (h : Numbered AcceptedRequest). moment_since m.since h.items) (sym history);
 }
 
 -- ---- a request more
@@ -34,10 +34,10 @@ moment_added : (since : ℕ) (history : List AcceptedRequest) (a : AcceptedReque
 moment_added since history a later =
     ap (max since) (last_added 0 history a) ∙ max-eq_right (le_trans (le-max_left since (last_moment_of 0 history)) later)
 
-pub listing_closed : (s n : Operator) (m : Listed) (a : AcceptedRequest) → KeepsDocks s n → n.broken ≡ s.broken → n.now ≡ a.moment → n.history ≡ s.history ++ a ∷ [] → s.now ≤ a.moment
+pub listing_closed : (s n : Operator) (m : Listed) (a : AcceptedRequest) → KeepsDocks s n → n.broken ≡ s.broken → n.now ≡ a.moment → n.history ≡ with_item a s.history → s.now ≤ a.moment
     → IsListing s m → IsListing n m
 listing_closed s n m a keeps broken now history later h = record {
   docks = λ key there. dock_kept s n keeps key (h.docks key there);
   marked = λ key there. h.marked key (ap (λ (b : set.FinSet texts_cmp). set.contains b key) (sym broken) ∙ there);
-  now_is = now ∙ sym (ap (moment_since m.since) history ∙ moment_added m.since s.history a (subst (λ (k : ℕ). k ≤ a.moment) h.now_is later));
+  now_is = now ∙ sym (ap (λ (h : Numbered AcceptedRequest). moment_since m.since h.items) history ∙ moment_added m.since s.history.items a (subst (λ (k : ℕ). k ≤ a.moment) h.now_is later));
 }

@@ -1,5 +1,5 @@
 -- Numbered records as rows: one is found by its number, one is added, and columns are set in the row of one.
-use Rattle.std.proofs.Common.{◌≡◌, ℕ, zero, suc, ◌+◌, ◌<◌, List, [], ◌∷◌, ◌++◌, length, Bool, true, false, cond, ◌&&◌, T, Option, Some, None, refl, sym, ap, ◌∙◌, arith}
+use Rattle.std.proofs.Common.{◌≡◌, ℕ, zero, suc, ◌+◌, ◌-◌, ◌<◌, List, [], ◌∷◌, ◌++◌, length, Bool, true, false, cond, ◌&&◌, T, Option, Some, None, refl, sym, ap, ◌∙◌, arith}
 use Rattle.std.specs.Prelude.{map, option_map}
 use Rattle.std.specs.Ordering.{nat_cmp, eq_by_cmp, is_eq, is_lt}
 use Rattle.std.specs.declared.cmp.Ordering.{Ordering}
@@ -8,7 +8,7 @@ use Rattle.std.specs.Cmp.{nat_cmp_is}
 use Rattle.std.specs.FinMap.Entries as entries
 use Rattle.sqlite_value.specs.Order.{Row}
 use Rattle.bike_sql.specs.View.{row_with, put_row_by, rows_after_update}
-use Rattle.bike_operator.specs.Operator.{item_at, item_numbered, item_changed, number_changed}
+use Rattle.bike_operator.specs.Operator.{Numbered, item_at, item_in, item_numbered, item_changed, changed_in, number_changed, last_number, with_item}
 use Rattle.bike_book.specs.Stored.{numbers_from, with_numbers}
 use Rattle.bike_book.proofs.MapRows.{BeginsWithKey, found_sorted, put_sorted, set_sorted, unset_sorted}
 use Rattle.bike_book.proofs.Keys.{number_key, numbers}
@@ -36,9 +36,12 @@ same_item n [] = refl
 same_item zero (x ∷ xs) = refl
 same_item (suc n) (x ∷ xs) = ap (λ zs. x ∷ zs) (same_item n xs)
 
-pub same_number : {A : Type 0} (n : ℕ) (xs : List A) → number_changed n (λ x. x) xs ≡ xs
-same_number zero xs = refl
-same_number (suc n) xs = same_item n xs
+same_in : {A : Type 0} (n : ℕ) (xs : List A) → changed_in n (λ x. x) xs ≡ xs
+same_in zero xs = refl
+same_in (suc n) xs = same_item n xs
+
+pub same_number : {A : Type 0} (n : ℕ) (l : Numbered A) → number_changed n (λ x. x) l ≡ l
+same_number n l = ap (λ xs. record l { items = xs }) (same_in (n - l.archived) l.items)
 
 module _ {A : Type 0} where
   below : (k n : ℕ) (xs : List A) → k < n → T (entries.below_all nat_cmp k (numbers_from n xs))
@@ -61,12 +64,16 @@ module _ {A : Type 0} where
   find_item n (suc i) k (x ∷ xs) is =
       ap (λ (r : Ordering). cond (is_eq r) (Some x) (entries.find nat_cmp k (numbers_from (suc n) xs))) (is_greater k n (omega (arith, is))) ∙ find_item (suc n) i k xs (omega (arith, is))
 
-  pub find_numbered : (k : ℕ) (xs : List A) → entries.find nat_cmp k (with_numbers xs) ≡ item_numbered k xs
-  find_numbered zero xs = none_below 0 1 xs (omega arith)
-  find_numbered (suc k) xs = find_item 1 k (suc k) xs (omega arith)
+  -- what stands at the place of a number behind those that were archived
+  find_place : (k a place : ℕ) (xs : List A) → k - a ≡ place → entries.find nat_cmp k (numbers_from (suc a) xs) ≡ item_in place xs
+  find_place k a zero xs is = none_below k (suc a) xs (omega (arith, is))
+  find_place k a (suc i) xs is = find_item (suc a) i k xs (omega (arith, is))
 
-  pub found_number : (row : ℕ × A → Row) → BeginsWithKey numbers row → (k : ℕ) (xs : List A) → row_with 1 (number_key k) (map row (with_numbers xs)) ≡ option_map (λ x. row (k, x)) (item_numbered k xs)
-  found_number row begins k xs = found_sorted numbers row begins k tt (with_numbers xs) (λ e has. tt) ∙ ap (option_map (λ x. row (k, x))) (find_numbered k xs)
+  pub find_numbered : (k : ℕ) (l : Numbered A) → entries.find nat_cmp k (with_numbers l) ≡ item_numbered k l
+  find_numbered k l = find_place k l.archived (k - l.archived) l.items refl
+
+  pub found_number : (row : ℕ × A → Row) → BeginsWithKey numbers row → (k : ℕ) (l : Numbered A) → row_with 1 (number_key k) (map row (with_numbers l)) ≡ option_map (λ x. row (k, x)) (item_numbered k l)
+  found_number row begins k l = found_sorted numbers row begins k tt (with_numbers l) (λ e has. tt) ∙ ap (option_map (λ x. row (k, x))) (find_numbered k l)
 
   -- ---- added
 
@@ -78,10 +85,11 @@ module _ {A : Type 0} where
       ∙ ap (λ (es : List (ℕ × A)). (n, x) ∷ es) (put_last (suc n) k xs y (omega (arith, is)))
 
   -- a row is added behind the last, and the other rows stay
-  pub put_number : (row next : ℕ × A → Row) → BeginsWithKey numbers row → BeginsWithKey numbers next → (xs : List A) (k : ℕ) (y : A) → k ≡ length xs + 1
-      → ((e : ℕ × A) → eq_by_cmp nat_cmp k e.0 ≡ false → row e ≡ next e) → put_row_by 1 (next (k, y)) (map row (with_numbers xs)) ≡ map next (with_numbers (xs ++ y ∷ []))
-  put_number row next begins begins_next xs k y is same =
-      put_sorted numbers row next begins begins_next k y tt (with_numbers xs) (sorted 1 xs) (λ e has. (tt, same e)) ∙ ap (map next) (put_last 1 k xs y (omega (arith, is)))
+  pub put_number : (row next : ℕ × A → Row) → BeginsWithKey numbers row → BeginsWithKey numbers next → (l : Numbered A) (k : ℕ) (y : A) → k ≡ last_number l + 1
+      → ((e : ℕ × A) → eq_by_cmp nat_cmp k e.0 ≡ false → row e ≡ next e) → put_row_by 1 (next (k, y)) (map row (with_numbers l)) ≡ map next (with_numbers (with_item y l))
+  put_number row next begins begins_next l k y is same =
+      put_sorted numbers row next begins begins_next k y tt (with_numbers l) (sorted (suc l.archived) l.items) (λ e has. (tt, same e))
+      ∙ ap (map next) (put_last (suc l.archived) k l.items y (omega (arith, is)))
 
   -- ---- changed
 
@@ -97,34 +105,40 @@ module _ {A : Type 0} where
       (is_greater k n (omega (arith, is)))
       ∙ ap (λ (es : List (ℕ × A)). (n, y) ∷ es) (put_item (suc n) i k f xs x (omega (arith, is)) found)
 
-  put_numbered : (k : ℕ) (f : A → A) (xs : List A) (x : A) → item_numbered k xs ≡ Some x → entries.put nat_cmp k (f x) (with_numbers xs) ≡ with_numbers (number_changed k f xs)
-  put_numbered zero f xs x found = absurd cc
-  put_numbered (suc k) f xs x found = put_item 1 k (suc k) f xs x (omega arith) found
+  put_place : (k a place : ℕ) (f : A → A) (xs : List A) (x : A) → k - a ≡ place → item_in place xs ≡ Some x → entries.put nat_cmp k (f x) (numbers_from (suc a) xs) ≡ numbers_from (suc a) (changed_in place f xs)
+  put_place k a zero f xs x is found = absurd cc
+  put_place k a (suc i) f xs x is found = put_item (suc a) i k f xs x (omega (arith, is)) found
+
+  put_numbered : (k : ℕ) (f : A → A) (l : Numbered A) (x : A) → item_numbered k l ≡ Some x → entries.put nat_cmp k (f x) (with_numbers l) ≡ with_numbers (number_changed k f l)
+  put_numbered k f l x found = put_place k l.archived (k - l.archived) f l.items x refl found
 
   no_item : (n : ℕ) (f : A → A) (xs : List A) → item_at n xs ≡ None → item_changed n f xs ≡ xs
   no_item n f [] none = refl
   no_item zero f (x ∷ xs) none = absurd cc
   no_item (suc n) f (x ∷ xs) none = ap (λ zs. x ∷ zs) (no_item n f xs none)
 
-  no_number : (k : ℕ) (f : A → A) (xs : List A) → item_numbered k xs ≡ None → number_changed k f xs ≡ xs
-  no_number zero f xs none = refl
-  no_number (suc k) f xs none = no_item k f xs none
+  no_place : (k : ℕ) (f : A → A) (xs : List A) → item_in k xs ≡ None → changed_in k f xs ≡ xs
+  no_place zero f xs none = refl
+  no_place (suc k) f xs none = no_item k f xs none
+
+  no_number : (k : ℕ) (f : A → A) (l : Numbered A) → item_numbered k l ≡ None → number_changed k f l ≡ l
+  no_number k f l none = ap (λ xs. record l { items = xs }) (no_place (k - l.archived) f l.items none)
 
   -- A record is changed where it is there, and so is its row.
-  pub changed_number : (row next : ℕ × A → Row) → BeginsWithKey numbers row → BeginsWithKey numbers next → (xs : List A) (k : ℕ) (change : Row → Row) (f : A → A)
-      → ((x : A) → item_numbered k xs ≡ Some x → change (row (k, x)) ≡ next (k, f x)) → ((e : ℕ × A) → eq_by_cmp nat_cmp k e.0 ≡ false → row e ≡ next e)
-      → rows_after_update 1 (number_key k) change (map row (with_numbers xs)) ≡ map next (with_numbers (number_changed k f xs))
-  changed_number row next begins begins_next xs k change f is same = go (item_numbered k xs) refl where
-    go : (o : Option A) → item_numbered k xs ≡ o → rows_after_update 1 (number_key k) change (map row (with_numbers xs)) ≡ map next (with_numbers (number_changed k f xs))
+  pub changed_number : (row next : ℕ × A → Row) → BeginsWithKey numbers row → BeginsWithKey numbers next → (l : Numbered A) (k : ℕ) (change : Row → Row) (f : A → A)
+      → ((x : A) → item_numbered k l ≡ Some x → change (row (k, x)) ≡ next (k, f x)) → ((e : ℕ × A) → eq_by_cmp nat_cmp k e.0 ≡ false → row e ≡ next e)
+      → rows_after_update 1 (number_key k) change (map row (with_numbers l)) ≡ map next (with_numbers (number_changed k f l))
+  changed_number row next begins begins_next l k change f is same = go (item_numbered k l) refl where
+    go : (o : Option A) → item_numbered k l ≡ o → rows_after_update 1 (number_key k) change (map row (with_numbers l)) ≡ map next (with_numbers (number_changed k f l))
     go None none =
-        unset_sorted numbers row next begins k tt change (with_numbers xs) (find_numbered k xs ∙ none) (λ e has. (tt, same e)) ∙ ap (λ zs. map next (with_numbers zs)) (sym (no_number k f xs none))
+        unset_sorted numbers row next begins k tt change (with_numbers l) (find_numbered k l ∙ none) (λ e has. (tt, same e)) ∙ ap (λ zs. map next (with_numbers zs)) (sym (no_number k f l none))
     go (Some x) found =
-        set_sorted numbers row next begins begins_next k tt change (with_numbers xs) (sorted 1 xs) x (f x) (find_numbered k xs ∙ found) (is x found) (λ e has. (tt, same e))
-        ∙ ap (map next) (put_numbered k f xs x found)
+        set_sorted numbers row next begins begins_next k tt change (with_numbers l) (sorted (suc l.archived) l.items) x (f x) (find_numbered k l ∙ found) (is x found) (λ e has. (tt, same e))
+        ∙ ap (map next) (put_numbered k f l x found)
 
   -- The list stays, and what is stored beside the record of one number changes.
-  pub kept_number : (row next : ℕ × A → Row) → BeginsWithKey numbers row → BeginsWithKey numbers next → (xs : List A) (k : ℕ) (change : Row → Row)
-      → ((x : A) → item_numbered k xs ≡ Some x → change (row (k, x)) ≡ next (k, x)) → ((e : ℕ × A) → eq_by_cmp nat_cmp k e.0 ≡ false → row e ≡ next e)
-      → rows_after_update 1 (number_key k) change (map row (with_numbers xs)) ≡ map next (with_numbers xs)
-  kept_number row next begins begins_next xs k change is same =
-      changed_number row next begins begins_next xs k change (λ x. x) is same ∙ ap (λ zs. map next (with_numbers zs)) (same_number k xs)
+  pub kept_number : (row next : ℕ × A → Row) → BeginsWithKey numbers row → BeginsWithKey numbers next → (l : Numbered A) (k : ℕ) (change : Row → Row)
+      → ((x : A) → item_numbered k l ≡ Some x → change (row (k, x)) ≡ next (k, x)) → ((e : ℕ × A) → eq_by_cmp nat_cmp k e.0 ≡ false → row e ≡ next e)
+      → rows_after_update 1 (number_key k) change (map row (with_numbers l)) ≡ map next (with_numbers l)
+  kept_number row next begins begins_next l k change is same =
+      changed_number row next begins begins_next l k change (λ x. x) is same ∙ ap (λ zs. map next (with_numbers zs)) (same_number k l)

@@ -32,15 +32,15 @@ add_rental s m listing rental rider bike plan from_station start is none =
     let n = after_change (change.AddRental rental rider bike plan from_station start) s in
     let r : Rental = record { rider = rider; bike = bike; plan = plan.now; from_station = from_station.now; start = start; closing = None } in
     let rentals =
-    ap (λ (z : ℤ). put_row_by 1 (rental_row rental r z) (map (stored_rental s.entries) (with_numbers s.rentals))) (sym none)
-    ∙ put_number (stored_rental s.entries) (stored_rental s.entries) (λ e. refl) (λ e. refl) s.rentals rental r is (λ e apart. refl) in
+    ap (λ (z : ℤ). put_row_by 1 (rental_row rental r z) (map (stored_rental s.entries.items) (with_numbers s.rentals))) (sym none)
+    ∙ put_number (stored_rental s.entries.items) (stored_rental s.entries.items) (λ e. refl) (λ e. refl) s.rentals rental r is (λ e apart. refl) in
     record { leads = λ i. record (tables_between s m) { rentals = rentals i }; listing = listing_same s n m (same_docks s n refl) refl refl refl listing }
 
 pub close_rental : Everywhere CloseRentalLaw
 close_rental s m listing rental to_station finish fare =
     let n = after_change (change.CloseRental rental to_station finish fare) s in
     let f = λ (r : Rental). record r { closing = Some (record { to_station = text_in to_station; finish = finish; fare = fare }) } in
-    let rentals = changed_number (stored_rental s.entries) (stored_rental s.entries) (λ e. refl) (λ e. refl) s.rentals rental _ f (λ r found. closed_row rental finish (text_in to_station) fare (refunded_of rental s.entries) r r.closing) (λ e apart. refl) in
+    let rentals = changed_number (stored_rental s.entries.items) (stored_rental s.entries.items) (λ e. refl) (λ e. refl) s.rentals rental _ f (λ r found. closed_row rental finish (text_in to_station) fare (refunded_of rental s.entries.items) r r.closing) (λ e apart. refl) in
     record { leads = λ i. record (tables_between s m) { rentals = rentals i }; listing = listing_same s n m (same_docks s n refl) refl refl refl listing }
 
 -- ---- orders

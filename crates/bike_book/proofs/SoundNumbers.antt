@@ -1,5 +1,5 @@
 -- What soundness says of the numbers of a record that isn't there.
-use Rattle.std.proofs.Common.{◌≡◌, ◌⊎◌, inl, inr, ℕ, ℤ, zero, suc, ◌<◌, pos, List, [], ◌∷◌, length, Bool, true, false, cond, not, ◌&&◌, Option, Some, None, is_some, refl, sym, ap, ◌∙◌, arith, filter}
+use Rattle.std.proofs.Common.{◌≡◌, ◌⊎◌, inl, inr, ℕ, ℤ, zero, suc, ◌+◌, ◌<◌, pos, List, [], ◌∷◌, length, Bool, true, false, cond, not, ◌&&◌, Option, Some, None, is_some, refl, sym, ap, ◌∙◌, arith, filter}
 use Rattle.std.specs.Prelude.{◌==◌}
 use Rattle.std.specs.Str.{bytes_eq}
 use Rattle.std.specs.FinMap as fin
@@ -14,10 +14,10 @@ use Rattle.bike_ledger.specs.Ledger.{total, credit, given_back, given_back_of, s
 use Rattle.bike_operator.specs.declared.records.Place.{Place}
 use Rattle.bike_operator.specs.declared.records.Place.TheVariants as place
 use Rattle.bike_operator.specs.declared.records.Bike.{Bike}
-use Rattle.bike_operator.specs.Operator.{Operator, Station, dock_key, item_at}
+use Rattle.bike_operator.specs.Operator.{Operator, Station, dock_key, item_at, last_number}
 use Rattle.bike_operator.specs.Counts.{count, is_at, is_broken, is_available, is_working_dock, docks_up_to}
 use Rattle.bike_operator.specs.Sound.{HasDock, IsSound, IsPlace, IsBooking, IsOfRental}
-use Rattle.bike_laws.proofs.SingleSteps.ItemLemmas.{number_within}
+use Rattle.bike_laws.proofs.SingleSteps.ItemLemmas.{number_within, number_of_place}
 use Rattle.bike_laws.proofs.SingleSteps.MapLemmas.{number_order}
 use Rattle.bike_laws.proofs.SingleSteps.CountLemmas.{none_counted}
 use Rattle.bike_laws.specs.SingleSteps.Numbers.{is_available_of, is_disabled_of}
@@ -44,12 +44,15 @@ module _ (s : Operator) (sound : IsSound s) where
   -- ---- rentals
 
   -- no entry is of a rental that isn't there yet
-  other_rental : (n : ℕ) → length s.rentals < n → (e : Entry) → IsOfRental s e → (e.rental == n) ≡ false
-  other_rental n low e of =
+  other_rental : (n : ℕ) → last_number s.rentals < n → (e : Entry) → IsOfRental s e → (e.rental == n) ≡ false
+  other_rental n low e (inl old) =
+      let high = old.high in
+      elim (eqb_tells e.rental n) [ inl w ↦ absurd (let same = w.1 in omega (arith, same, high, low)) | inr w ↦ w.0 ]
+  other_rental n low e (inr of) =
       let within = number_within e.rental s.rentals of.row of.found in
       elim (eqb_tells e.rental n) [ inl w ↦ absurd (let same = w.1 in omega (arith, same, within, low)) | inr w ↦ w.0 ]
 
-  none_given : (n : ℕ) → length s.rentals < n → (e : Entry) (k : EntryKind) → IsBooking s e k → cond (e.rental == n) (given_back k e.amount) (pos 0) ≡ pos 0
+  none_given : (n : ℕ) → last_number s.rentals < n → (e : Entry) (k : EntryKind) → IsBooking s e k → cond (e.rental == n) (given_back k e.amount) (pos 0) ≡ pos 0
   none_given n low e TopUp b = either_none (e.rental == n) (pos 0) refl
   none_given n low e Fare b = either_none (e.rental == n) (pos 0) refl
   none_given n low e Refund b = ap (λ (c : Bool). cond c e.amount (pos 0)) (other_rental n low e b.0)
@@ -58,13 +61,13 @@ module _ (s : Operator) (sound : IsSound s) where
   none_given n low e Credit b = either_none (e.rental == n) (pos 0) refl
 
   refunds : NoRefundsYet s
-  refunds n low = nothing_added (given_back_of n) s.entries (λ i e is. none_given n low e e.kind (sound.ledger.entries (suc i) e is).booking)
+  refunds n low = nothing_added (given_back_of n) s.entries.items (λ i e is. none_given n low e e.kind (sound.ledger.entries (s.entries.archived + suc i) e (number_of_place i s.entries e is)).booking)
 
   -- ---- riders
 
   -- no entry is of a rider who isn't there
   balance : NoBalanceYet s
-  balance rider none = nothing_added (share rider) s.entries (λ i e is. go e (sound.ledger.entries (suc i) e is).rider_is (eqb_tells e.rider rider)) where
+  balance rider none = nothing_added (share rider) s.entries.items (λ i e is. go e (sound.ledger.entries (s.entries.archived + suc i) e (number_of_place i s.entries e is)).rider_is (eqb_tells e.rider rider)) where
     go : (e : Entry) → fin.contains_key s.riders e.rider ≡ true → ((e.rider == rider) ≡ true) × (e.rider ≡ rider) ⊎ ((e.rider == rider) ≡ false) × (e.rider ≡ rider → ⊥) → share rider e ≡ pos 0
     go e known (inl same) =
         let there : is_some (fin.get s.riders rider) ≡ true = ap (λ (r : ℕ). is_some (fin.get s.riders r)) (sym same.1) ∙ known in

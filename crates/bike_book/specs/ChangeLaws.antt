@@ -1,5 +1,5 @@
 -- The rows that book each record that an accepted command puts, adds or removes.
-use Rattle.std.specs.Prelude.{◌≡◌, ◌+◌, ℕ, suc, ℤ, pos, length, List, [], ◌∷◌, Bool, true, Option, None}
+use Rattle.std.specs.Prelude.{◌≡◌, ◌+◌, ℕ, suc, ℤ, pos, List, [], ◌∷◌, Bool, true, Option, None}
 use Rattle.std.specs.Borrow.{Bor}
 use Rattle.std.specs.FinMap as fin
 use Rattle.bike_fields.specs.declared.name_kind.NameKind.{NameKind}
@@ -7,7 +7,7 @@ use Rattle.bike_fields.specs.Values.{SegmentRow, PositionRow}
 use Rattle.bike_catalogue.specs.Rows.{PlanRow, TypeRow, RegionRow, StationRow, SettingsRow, SystemRow}
 use Rattle.bike_ledger.specs.Ledger.{balance_of, refunded_of}
 use Rattle.bike_texts.specs.declared.ends.OrderEnd.{OrderEnd}
-use Rattle.bike_operator.specs.Operator.{Operator, name_key}
+use Rattle.bike_operator.specs.Operator.{Operator, name_key, last_number}
 use Rattle.bike_operator.specs.Counts.{docks_broken}
 use Rattle.bike_operator.specs.Sound.{AreNamesSound}
 use Rattle.bike_laws.specs.SingleSteps.Numbers.{occupied_docks}
@@ -124,7 +124,7 @@ module _ (s : Operator) (m : Listed) where
 
   -- a rider whose balance is 0, as of one who isn't there
   abbrev pub AddRiderLaw : Type 0
-  AddRiderLaw = (rider : ℕ) → balance_of rider s.entries ≡ pos 0 → BooksChange (change.AddRider rider)
+  AddRiderLaw = (rider : ℕ) → balance_of rider s.entries.items ≡ pos 0 → BooksChange (change.AddRider rider)
 
   -- a rider who is there
   abbrev pub SetRiderLaw : Type 0
@@ -137,8 +137,8 @@ module _ (s : Operator) (m : Listed) where
   -- the next rental, of which no refund is booked
   abbrev pub AddRentalLaw : Type 0
   AddRentalLaw =
-      (rental rider bike : ℕ) (plan from_station : Bor (List ℕ)) (start : ℕ) → rental ≡ length s.rentals + 1
-      → refunded_of rental s.entries ≡ pos 0
+      (rental rider bike : ℕ) (plan from_station : Bor (List ℕ)) (start : ℕ) → rental ≡ last_number s.rentals + 1
+      → refunded_of rental s.entries.items ≡ pos 0
       → BooksChange (change.AddRental rental rider bike plan from_station start)
 
   -- a rental closed, where it is there
@@ -151,7 +151,7 @@ module _ (s : Operator) (m : Listed) where
   abbrev pub AddOrderLaw : Type 0
   AddOrderLaw =
       (order truck : ℕ) (from_end to_end : Bor OrderEnd) (type_id : Bor (List ℕ)) (count : ℕ)
-      → order ≡ length s.orders + 1
+      → order ≡ last_number s.orders + 1
       → BooksChange (change.AddOrder order truck from_end to_end type_id count)
 
   -- how many of an order are delivered, and whether it is open, where it is there

@@ -1,6 +1,6 @@
 -- What is found in the tables of an operator: the row of a key,
 -- rows by other columns, the last row, and how many there are.
-use Rattle.std.specs.Prelude.{◌≡◌, ◌==◌, ◌&&◌, ℕ, pos, length, List, [], ◌∷◌, false, Option, Some, None, is_some}
+use Rattle.std.specs.Prelude.{◌≡◌, ◌==◌, ◌&&◌, ◌+ℤ◌, ℕ, pos, length, List, [], ◌∷◌, false, Option, Some, None, is_some}
 use Rattle.std.specs.Prelude.{option_map, find, map, filter, slice_get}
 use Rattle.std.specs.List.{list_all}
 use Rattle.std.specs.FinMap as fin
@@ -14,7 +14,7 @@ use Rattle.bike_catalogue.specs.Rows.{PlanRow}
 use Rattle.bike_ledger.specs.Ledger.{balance_of, refunded_of}
 use Rattle.bike_operator.specs.declared.records.Rental.{Rental}
 use Rattle.bike_operator.specs.Operator.{Operator, AcceptedRequest, item_numbered, key_of, name_key, dock_key}
-use Rattle.bike_operator.specs.Operator.{kept_under}
+use Rattle.bike_operator.specs.Operator.{kept_under, last_number}
 use Rattle.bike_operator.specs.Counts.{count, is_on_truck, is_for_order, docked_at, is_broken, is_open, is_riding}
 use Rattle.bike_operator.specs.Counts.{open_rentals, docks_available, docks_broken}
 use Rattle.bike_operator.specs.Names.{further_names}
@@ -23,12 +23,12 @@ use Rattle.bike_laws.specs.History.{last_moment_of}
 use Rattle.bike_book.specs.declared.version.TheConstants.{NEWEST}
 use Rattle.bike_book.specs.ByType.{types_at, by_type_text}
 use Rattle.bike_book.specs.Tables.{TableName, rows_in, keys_of, Meta, System, Plans, Segments, Types, Regions, Stations}
-use Rattle.bike_book.specs.Tables.{Docks, Bikes, Trucks, Riders, Rentals, Orders, Entries, History, MoreNames}
+use Rattle.bike_book.specs.Tables.{Docks, Bikes, Trucks, Riders, Rentals, Orders, Entries, History, MoreNames, Books}
 use Rattle.bike_book.specs.Rows.{number_value, meta_row, system_row, plan_row, type_row, region_row, station_row}
 use Rattle.bike_book.specs.Rows.{dock_row, bike_row, truck_row, rider_row, rental_row, order_row, entry_row}
 use Rattle.bike_book.specs.Rows.{name_row}
 use Rattle.bike_book.specs.Stored.{Listed, IsListing, with_numbers, segment_rows, stored_bike, stored_rental}
-use Rattle.bike_book.specs.Stored.{stored_request, tables_for}
+use Rattle.bike_book.specs.Stored.{stored_request, books_rows, tables_for}
 
 -- the fact holds of each sound operator whose rows are listed right
 abbrev pub WhereListed : (Operator → Listed → Type 0) → Type 0
@@ -47,7 +47,7 @@ row_under s m name key = row_with (keys_of name) key (rows_of s m name)
 -- The row under a key is that of the record, and there is none where there is no record.
 pub record FoundByKey (s : Operator) (m : Listed) : Type 0 where
   pub meta : row_under s m Meta (number_value 1 ∷ [])
-      ≡ Some (meta_row NEWEST m.since (pos 0) (pos 0))
+      ≡ Some (meta_row NEWEST m.since s.past.cash s.past.revenue)
   pub system : row_under s m System (number_value 1 ∷ []) ≡ option_map system_row s.system
   pub plans : (id : List ℕ) → row_under s m Plans (Text id ∷ []) ≡ option_map (plan_row id) (fin.get s.plans id)
   pub types : (id : List ℕ) → row_under s m Types (Text id ∷ []) ≡ option_map (type_row id) (fin.get s.types id)
@@ -60,13 +60,15 @@ pub record FoundByKey (s : Operator) (m : Listed) : Type 0 where
   pub trucks : (truck : ℕ) → row_under s m Trucks (number_value truck ∷ [])
       ≡ option_map (λ t. truck_row truck t.capacity) (fin.get s.trucks truck)
   pub riders : (rider : ℕ) → row_under s m Riders (number_value rider ∷ [])
-      ≡ option_map (λ r. rider_row rider r.is_blocked (balance_of rider s.entries)) (fin.get s.riders rider)
+      ≡ option_map (λ r. rider_row rider r (r.before +ℤ balance_of rider s.entries.items)) (fin.get s.riders rider)
   pub rentals : (rental : ℕ) → row_under s m Rentals (number_value rental ∷ [])
-      ≡ option_map (λ r. rental_row rental r (refunded_of rental s.entries)) (item_numbered rental s.rentals)
+      ≡ option_map (λ r. rental_row rental r (refunded_of rental s.entries.items)) (item_numbered rental s.rentals)
   pub orders : (order : ℕ) → row_under s m Orders (number_value order ∷ [])
       ≡ option_map (order_row order) (item_numbered order s.orders)
   pub entries : (entry : ℕ) → row_under s m Entries (number_value entry ∷ [])
       ≡ option_map (entry_row entry) (item_numbered entry s.entries)
+  pub books : row_under s m Books (number_value 1 ∷ [])
+      ≡ slice_get (books_rows s.history.archived s.entries.archived s.rentals.archived) 0
   pub more_names : (kind : NameKind) (id language : List ℕ)
       → row_under s m MoreNames (Text (kind_text kind) ∷ Text id ∷ Text language ∷ [])
       ≡ option_map (name_row (name_key kind id language)) (fin.get s.more_names (name_key kind id language))
@@ -130,17 +132,17 @@ pub record FoundByColumns (s : Operator) (m : Listed) : Type 0 where
   pub named : (kind : NameKind) (id : List ℕ)
       → length (rows_by s m MoreNames (0 ∷ 1 ∷ []) (Text (kind_text kind) ∷ Text id ∷ []))
       ≡ length (further_names s kind id)
-  pub open_rental_is : (rider : ℕ) → open_row s m rider ≡ option_map (stored_rental s.entries) (open_rental s rider)
-  pub kept : (caller key : List ℕ) → AreRowOf (kept_under (key_of caller key) s.history)
+  pub open_rental_is : (rider : ℕ) → open_row s m rider ≡ option_map (stored_rental s.entries.items) (open_rental s rider)
+  pub kept : (caller key : List ℕ) → AreRowOf (kept_under (key_of caller key) s.history.items)
       (slice_get (rows_by s m History (2 ∷ 3 ∷ []) (Text caller ∷ Text key ∷ [])) 0)
   pub riding : (rider : ℕ) → is_some (open_row s m rider) ≡ is_riding s rider
 
 -- ---- numbers of rows
 
--- the key of a last row is how many records there are; there is none of no record
-abbrev pub IsLast : ℕ → Option Row → Type 0
-IsLast count None = count ≡ 0
-IsLast count (Some row) = column row 0 ≡ number_value count
+-- the key of a last row is how many records there are; where there is none, all were archived
+abbrev pub IsLast : ℕ → ℕ → Option Row → Type 0
+IsLast archived count None = count ≡ archived
+IsLast archived count (Some row) = column row 0 ≡ number_value count
 
 -- the moment in a last row of the history; 0 where there is none
 abbrev pub IsLastMoment : ℕ → Option Row → Type 0
@@ -157,11 +159,11 @@ row_count s m name = length (rows_of s m name)
 
 -- How many records there are, by the last row or by the rows, and the moment of the last request.
 pub record FoundNumbers (s : Operator) (m : Listed) : Type 0 where
-  pub last_rental : IsLast (length s.rentals) (last_row s m Rentals)
-  pub last_order : IsLast (length s.orders) (last_row s m Orders)
-  pub last_entry : IsLast (length s.entries) (last_row s m Entries)
-  pub last_request : IsLast (length s.history) (last_row s m History)
-  pub last_moment : IsLastMoment (last_moment_of 0 s.history) (last_row s m History)
+  pub last_rental : IsLast s.rentals.archived (last_number s.rentals) (last_row s m Rentals)
+  pub last_order : IsLast s.orders.archived (last_number s.orders) (last_row s m Orders)
+  pub last_entry : IsLast s.entries.archived (last_number s.entries) (last_row s m Entries)
+  pub last_request : IsLast s.history.archived (last_number s.history) (last_row s m History)
+  pub last_moment : IsLastMoment (last_moment_of 0 s.history.items) (last_row s m History)
   pub plans : row_count s m Plans ≡ fin.len s.plans
   pub types : row_count s m Types ≡ fin.len s.types
   pub regions : row_count s m Regions ≡ fin.len s.regions
@@ -169,8 +171,8 @@ pub record FoundNumbers (s : Operator) (m : Listed) : Type 0 where
   pub bikes : row_count s m Bikes ≡ fin.len s.bikes
   pub trucks : row_count s m Trucks ≡ fin.len s.trucks
   pub riders : row_count s m Riders ≡ fin.len s.riders
-  pub rentals : row_count s m Rentals ≡ length s.rentals
-  pub orders : row_count s m Orders ≡ length s.orders
-  pub entries : row_count s m Entries ≡ length s.entries
-  pub requests : row_count s m History ≡ length s.history
+  pub rentals : row_count s m Rentals ≡ length s.rentals.items
+  pub orders : row_count s m Orders ≡ length s.orders.items
+  pub entries : row_count s m Entries ≡ length s.entries.items
+  pub requests : row_count s m History ≡ length s.history.items
   pub open_rentals_are : length (rows_open (rows_of s m Rentals)) ≡ open_rentals s

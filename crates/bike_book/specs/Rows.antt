@@ -21,7 +21,7 @@ use Rattle.bike_operator.specs.declared.records.Bike.{Bike}
 use Rattle.bike_operator.specs.declared.records.Rental.{Rental}
 use Rattle.bike_operator.specs.declared.records.Closing.{Closing}
 use Rattle.bike_operator.specs.declared.records.Order.{Order}
-use Rattle.bike_operator.specs.Operator.{Station, NameKey}
+use Rattle.bike_operator.specs.Operator.{Station, Rider, NameKey}
 
 -- a truth value as its column holds it
 abbrev pub truth : Bool → ℤ
@@ -30,7 +30,7 @@ truth b = if b then pos 1 else pos 0
 abbrev pub number_value : ℕ → Value
 number_value n = Int (pos n)
 
--- one, app, version, now (seconds), cash, revenue (hundredths)
+-- one, app, version, now (seconds), cash, revenue (hundredths: by archived entries)
 abbrev pub meta_row : ℕ → ℕ → ℤ → ℤ → Row
 meta_row version now cash revenue =
     Int (pos 1) ∷ Text (codes "bikeshare") ∷ number_value version ∷ number_value now ∷ Int cash ∷ Int revenue ∷ []
@@ -96,9 +96,10 @@ bike_row bike b = number_value bike ∷ Text b.type_id ∷ Int (state_number b.s
 abbrev pub truck_row : ℕ → ℕ → Row
 truck_row truck capacity = number_value truck ∷ number_value capacity ∷ []
 
--- rider, blocked, balance (hundredths)
-abbrev pub rider_row : ℕ → Bool → ℤ → Row
-rider_row rider blocked balance = number_value rider ∷ Int (truth blocked) ∷ Int balance ∷ []
+-- rider, blocked, balance, before (hundredths: its balance by archived entries), plan_id (the rider's own, or NULL)
+abbrev pub rider_row : ℕ → Rider → ℤ → Row
+rider_row rider r balance =
+    number_value rider ∷ Int (truth r.is_blocked) ∷ Int balance ∷ Int r.before ∷ or_null Text r.plan ∷ []
 
 -- to_station (NULL where the bicycle was recovered), finish (seconds), fare (hundredths); all NULL while it is open
 abbrev pub closing_columns : Option Closing → Row
@@ -142,6 +143,11 @@ entry_row entry e =
 abbrev pub history_row : ℕ → ℕ → List ℕ → List ℕ → List ℕ → List ℕ → Row
 history_row number moment caller key command reply =
     number_value number ∷ number_value moment ∷ Text caller ∷ Text key ∷ Text command ∷ Text reply ∷ []
+
+-- one, requests, entries, rentals: how many were archived
+abbrev pub books_row : ℕ → ℕ → ℕ → Row
+books_row requests entries rentals =
+    Int (pos 1) ∷ number_value requests ∷ number_value entries ∷ number_value rentals ∷ []
 
 -- ---- the parts of a key of two, or of three
 

@@ -1,6 +1,6 @@
 -- The tables of an operator: for each one the row of each record,
 -- in the order of its key, stored numbers by their definitions.
-use Rattle.std.specs.Prelude.{◌≡◌, ℕ, pos, suc, max, List, [], ◌∷◌, ◌++◌, map, Option, Some, None, true}
+use Rattle.std.specs.Prelude.{◌≡◌, ◌==◌, if◌then◌else◌, ℕ, suc, max, ◌+◌, ◌+ℤ◌, pos, List, [], ◌∷◌, ◌++◌, map, Option, Some, None, true}
 use Rattle.std.specs.FinMap as fin
 use Rattle.std.specs.FinMap.{FinMap}
 use Rattle.std.specs.FinSet.{FinSet, contains}
@@ -16,7 +16,7 @@ use Rattle.bike_operator.specs.declared.records.Bike.{Bike}
 use Rattle.bike_operator.specs.declared.records.Rental.{Rental}
 use Rattle.bike_operator.specs.declared.records.Order.{Order}
 use Rattle.bike_operator.specs.Operator.{Operator, Station, Truck, Rider, NameKey, DockKey, texts_cmp}
-use Rattle.bike_operator.specs.Operator.{AcceptedRequest, dock_key}
+use Rattle.bike_operator.specs.Operator.{AcceptedRequest, Numbered, Past, dock_key}
 use Rattle.bike_operator.specs.Counts.{docks_available, docks_broken}
 use Rattle.bike_operator.specs.Sound.{HasDock}
 use Rattle.bike_laws.specs.History.{last_moment_of}
@@ -25,16 +25,17 @@ use Rattle.bike_book.specs.ByType.{types_at, by_type_text}
 use Rattle.bike_book.specs.Tables.{Tables}
 use Rattle.bike_book.specs.Rows.{meta_row, system_row, plan_row, segment_row, type_row, region_row, station_row}
 use Rattle.bike_book.specs.Rows.{dock_row, bike_row, truck_row, rider_row, rental_row, order_row, entry_row}
-use Rattle.bike_book.specs.Rows.{history_row, name_row, first_text, second_number}
+use Rattle.bike_book.specs.Rows.{history_row, name_row, books_row, first_text, second_number}
 
--- ---- numbered records with their numbers, from 1
+-- ---- numbered records with their numbers
 
 abbrev pub numbers_from : {A : Type 0} → ℕ → List A → List (ℕ × A)
 numbers_from n [] = []
 numbers_from n (x ∷ xs) = (n, x) ∷ numbers_from (suc n) xs
 
-abbrev pub with_numbers : {A : Type 0} → List A → List (ℕ × A)
-with_numbers xs = numbers_from 1 xs
+-- behind those that were archived
+abbrev pub with_numbers : {A : Type 0} → Numbered A → List (ℕ × A)
+with_numbers l = numbers_from (suc l.archived) l.items
 
 -- ---- the row of each record
 
@@ -62,9 +63,9 @@ stored_bike e = bike_row e.0 e.1
 abbrev pub stored_truck : ℕ × Truck → Row
 stored_truck e = truck_row e.0 e.1.capacity
 
--- with the rider's balance, which is a sum over the entries
+-- with the rider's balance, which is a sum over all entries, archived ones included
 abbrev pub stored_rider : List Entry → ℕ × Rider → Row
-stored_rider entries e = rider_row e.0 e.1.is_blocked (balance_of e.0 entries)
+stored_rider entries e = rider_row e.0 e.1 (e.1.before +ℤ balance_of e.0 entries)
 
 -- with the sum of the rental's refunds
 abbrev pub stored_rental : List Entry → ℕ × Rental → Row
@@ -86,9 +87,14 @@ stored_name e = name_row e.0 e.1
 
 -- ---- the rows of each table
 
--- the moment of the last request of an earlier version, and no sums: both columns are 0
-abbrev pub meta_rows : ℕ → List Row
-meta_rows since = meta_row NEWEST since (pos 0) (pos 0) ∷ []
+-- the moment of the last request of an earlier version, and the sums of archived entries
+abbrev pub meta_rows : ℕ → Past → List Row
+meta_rows since past = meta_row NEWEST since past.cash past.revenue ∷ []
+
+-- how many requests, entries and rentals were archived: no row where none was
+abbrev pub books_rows : ℕ → ℕ → ℕ → List Row
+books_rows requests entries rentals =
+    if requests + entries + rentals == 0 then [] else books_row requests entries rentals ∷ []
 
 abbrev pub system_rows : Option SystemRow → List Row
 system_rows None = []
@@ -119,7 +125,7 @@ moment_since since history = max since (last_moment_of 0 history)
 -- THE TABLES OF AN OPERATOR, with a row for each of these docks
 abbrev pub tables_for : Operator → Listed → Tables
 tables_for s m = record {
-  meta = meta_rows m.since;
+  meta = meta_rows m.since s.past;
   system = system_rows s.system;
   plans = map stored_plan (fin.entries s.plans);
   segments = plans_segments (fin.entries s.plans);
@@ -129,12 +135,13 @@ tables_for s m = record {
   docks = map (stored_dock s.broken) (fin.entries m.docks);
   bikes = map stored_bike (fin.entries s.bikes);
   trucks = map stored_truck (fin.entries s.trucks);
-  riders = map (stored_rider s.entries) (fin.entries s.riders);
-  rentals = map (stored_rental s.entries) (with_numbers s.rentals);
+  riders = map (stored_rider s.entries.items) (fin.entries s.riders);
+  rentals = map (stored_rental s.entries.items) (with_numbers s.rentals);
   orders = map stored_order (with_numbers s.orders);
   entries = map stored_entry (with_numbers s.entries);
   history = map stored_request (with_numbers s.history);
   more_names = map stored_name (fin.entries s.more_names);
+  books = books_rows s.history.archived s.entries.archived s.rentals.archived;
 }
 
 -- the key is that of a dock of a station
@@ -148,4 +155,4 @@ pub record IsDockKey (s : Operator) (key : DockKey) : Type 0 where
 pub record IsListing (s : Operator) (m : Listed) : Type 0 where
   pub docks : (key : DockKey) → fin.contains_key m.docks key ≡ true → IsDockKey s key
   pub marked : (key : DockKey) → contains s.broken key ≡ true → fin.contains_key m.docks key ≡ true
-  pub now_is : s.now ≡ moment_since m.since s.history
+  pub now_is : s.now ≡ moment_since m.since s.history.items

@@ -19,6 +19,7 @@ pub data TableName : Type 0 where
   Entries : TableName
   History : TableName
   MoreNames : TableName
+  Books : TableName
 
 -- the place of the table in the order of the schema
 abbrev pub table_place : TableName → ℕ
@@ -38,6 +39,7 @@ table_place Orders = 12
 table_place Entries = 13
 table_place History = 14
 table_place MoreNames = 15
+table_place Books = 16
 
 abbrev pub is_table : TableName → TableName → Bool
 is_table a b = table_place a == table_place b
@@ -60,6 +62,7 @@ keys_of Orders = 1
 keys_of Entries = 1
 keys_of History = 1
 keys_of MoreNames = 3
+keys_of Books = 1
 
 -- the rows of each table
 pub record Tables : Type 0 where
@@ -79,6 +82,7 @@ pub record Tables : Type 0 where
   pub entries : List Row
   pub history : List Row
   pub more_names : List Row
+  pub books : List Row
 
 abbrev pub rows_in : Tables → TableName → List Row
 rows_in t Meta = t.meta
@@ -97,6 +101,7 @@ rows_in t Orders = t.orders
 rows_in t Entries = t.entries
 rows_in t History = t.history
 rows_in t MoreNames = t.more_names
+rows_in t Books = t.books
 
 -- the tables whose rows a function of the name gives
 abbrev pub tables_by : (TableName → List Row) → Tables
@@ -117,6 +122,7 @@ tables_by rows = record {
   entries = rows Entries;
   history = rows History;
   more_names = rows MoreNames;
+  books = rows Books;
 }
 
 -- the tables with these rows in one of them

@@ -11,7 +11,7 @@ use Rattle.bike_fields.specs.NameKinds.{kind_text}
 use Rattle.bike_fields.specs.declared.name_kind.NameKind.{NameKind}
 use Rattle.bike_fields.specs.declared.name_kind.NameKind.TheVariants as named
 use Rattle.bike_operator.specs.Operator.{name_key}
-use Rattle.bike_operator.specs.Steps.{new_station}
+use Rattle.bike_operator.specs.Steps.{new_station, new_rider}
 use Rattle.bike_operator.specs.Changes.{place_of, text_in}
 use Rattle.bike_accepted.specs.declared.change.Change.{Change}
 use Rattle.bike_accepted.specs.declared.change.Change.TheVariants as change
@@ -102,7 +102,7 @@ record_write (change.MoveStation station p) =
 record_write (change.AddBike bike type_id) =
     Add Bikes (bike_row bike (record { type_id = type_id.now; state = Fit; place = place.Depot }))
 record_write (change.AddTruck truck capacity) = Add Trucks (truck_row truck capacity)
-record_write (change.AddRider rider) = Add Riders (rider_row rider false (pos 0))
+record_write (change.AddRider rider) = Add Riders (rider_row rider new_rider (pos 0))
 record_write (change.SetRider rider blocked) = Set Riders (number_value rider ∷ []) ((1, Int (truth blocked)) ∷ [])
 record_write (change.AddRental rental rider bike plan from_station start) =
     Add Rentals (rental_row rental (record {

@@ -17,10 +17,10 @@ pub mod meta {
     /// Seconds: the moment of the last request of versions 1 to 3, and 0 where there was none.
     pub const NOW: usize = 3;
 
-    /// Hundredths: all top-ups in versions 1 to 3, and 0 since.
+    /// Hundredths: the cash by archived entries; by all entries in versions 1 to 3.
     pub const CASH: usize = 4;
 
-    /// Hundredths: all fares less all refunds in versions 1 to 3, and 0 since.
+    /// Hundredths: the revenue by archived entries; by all entries in versions 1 to 3.
     pub const REVENUE: usize = 5;
 
     /// How many there are.
@@ -255,8 +255,14 @@ pub mod riders {
     /// Whether the rider is blocked, 0 or 1.
     pub const BLOCKED: usize = 1;
 
-    /// Hundredths.
+    /// Hundredths: over all entries, archived ones included.
     pub const BALANCE: usize = 2;
+
+    /// Hundredths: the balance by the entries that were archived.
+    pub const BEFORE: usize = 3;
+
+    /// The rider's own plan, or NULL.
+    pub const PLAN_ID: usize = 4;
 
     /// How many there are.
     pub const COLUMNS: usize = crate::table!(count riders);
@@ -392,4 +398,22 @@ pub mod more_names {
 
     /// How many there are.
     pub const COLUMNS: usize = crate::table!(count more_names);
+}
+
+/// The columns of `books`, whose one row tells how much was archived; it has none where nothing was.
+pub mod books {
+    /// 1, the key of the one row.
+    pub const ONE: usize = 0;
+
+    /// So many accepted requests.
+    pub const REQUESTS: usize = 1;
+
+    /// So many entries.
+    pub const ENTRIES: usize = 2;
+
+    /// So many rentals.
+    pub const RENTALS: usize = 3;
+
+    /// How many there are.
+    pub const COLUMNS: usize = crate::table!(count books);
 }

@@ -90,10 +90,12 @@ macro_rules! table {
         truck INTEGER PRIMARY KEY,
         capacity INTEGER NOT NULL
     ) } };
-    ($part:ident riders) => { $crate::table_part! { $part riders (
+    ($part:ident riders) => { $crate::table_part! { $part riders_4 (
         rider INTEGER PRIMARY KEY,
         blocked INTEGER NOT NULL,
-        balance INTEGER NOT NULL
+        balance INTEGER NOT NULL,
+        before INTEGER NOT NULL,
+        plan_id TEXT
     ) } };
     ($part:ident rentals) => { $crate::table_part! { $part rentals (
         rental INTEGER PRIMARY KEY,
@@ -139,6 +141,12 @@ macro_rules! table {
         language TEXT NOT NULL,
         name TEXT NOT NULL;
         PRIMARY KEY (kind, id, language)
+    ) } };
+    ($part:ident books) => { $crate::table_part! { $part books (
+        one INTEGER PRIMARY KEY,
+        requests INTEGER NOT NULL,
+        entries INTEGER NOT NULL,
+        rentals INTEGER NOT NULL
     ) } };
 }
 

@@ -1,6 +1,6 @@
 -- An accepted request, as row changes.
-use Rattle.std.proofs.Common.{◌≡◌, ◌+◌, ◌<◌, ◌≤◌, ℕ, ℤ, length, length-append, List, [], ◌∷◌, ◌++◌, append_assoc, Option, Some, None, Ok, refl, sym, ap, ◌∙◌, subst, subst₂, arith}
-use Rattle.std.specs.Prelude.{◌+ℤ◌, IfSome}
+use Rattle.std.proofs.Common.{◌≡◌, ◌+◌, ◌<◌, ◌≤◌, ℕ, ℤ, List, ◌∷◌, ◌++◌, append_assoc, Option, Some, None, Ok, refl, sym, ap, ap₂, ◌∙◌, subst, subst₂}
+use Rattle.std.specs.Prelude.{◌+ℤ◌, IfSome, is_some, false}
 use Rattle.std.specs.Borrow.{Bor}
 use Rattle.std.specs.FinMap as fin
 use Rattle.std.specs.FinMap.{FinMap}
@@ -16,12 +16,15 @@ use Rattle.bike_operator.specs.declared.records.Rental.{Rental}
 use Rattle.bike_catalogue.specs.Rows.{more_docks}
 use Rattle.bike_fields.specs.declared.name_kind.NameKind.{NameKind}
 use Rattle.bike_fields.specs.declared.name_kind.NameKind.TheVariants as named
-use Rattle.bike_operator.specs.Operator.{Operator, Station, Rider, AcceptedRequest, texts_cmp}
+use Rattle.bike_operator.specs.Operator.{Operator, Station, Rider, AcceptedRequest, Numbered, texts_cmp, last_number, with_item}
+use Rattle.bike_operator.specs.View.{before_of, rider_balance}
+use Rattle.bike_laws.proofs.NameLemmas.{get_inserted, get_other, changed_found, changed_other, Either, either}
+use Rattle.bike_laws.proofs.NameLemmas.Either.{Same, Other}
 use Rattle.bike_operator.specs.Changes.{entry_added}
-use Rattle.bike_operator.specs.Steps.{key_changed, own_name_set, with_report, dock_marked}
+use Rattle.bike_operator.specs.Steps.{key_changed, new_rider, own_name_set, with_report, dock_marked}
 use Rattle.bike_operator.specs.Runs.{after_acceptance}
 use Rattle.bike_operator.specs.Sound.{IsSound}
-use Rattle.bike_laws.proofs.SingleSteps.ItemLemmas.{length-number_changed}
+use Rattle.bike_laws.proofs.SingleSteps.ItemLemmas.{last_added, last_changed}
 use Rattle.bike_laws.proofs.SingleSteps.MapLemmas.{text_order, known_changed}
 use Rattle.bike_laws.proofs.SingleSteps.Moment.{reports}
 use Rattle.bike_laws.proofs.SingleSteps.NameLemmas.{KeepsNamed, same_named, names_kept}
@@ -44,7 +47,6 @@ use Rattle.bike_accepted.specs.declared.accepted.BookedEntry.{BookedEntry}
 use Rattle.bike_accepted.specs.declared.accepted.Accepted.{Accepted}
 use Rattle.bike_accepted.specs.Effects.{bike_in, after_change, where_moved, where_changed, entry_of, changed_by, effect_of, Decides}
 use Rattle.bike_accepted.specs.Found.{IsMovedFound, IsFound, IsRefundFound, IsBookedFound}
-use Rattle.bike_booking.specs.declared.figures.Figures.{Figures}
 use Rattle.bike_booking.specs.declared.stored.Stored.{Stored}
 use Rattle.bike_booking.specs.declared.texts.KeptTexts.{KeptTexts}
 use Rattle.bike_booking.specs.Stored.{IsMovedStored}
@@ -122,8 +124,8 @@ ready : (s n : Operator) → IsSound s → Leaves s n → NoTypesYet n → IsRea
 ready s n sound h types = record {
   types = types;
   names = names_kept s n h.more_names h.named sound.names;
-  refunds = λ rental above. ap (refunded_of rental) h.entries ∙ no_refunds s sound rental (subst (λ (rs : List Rental). length rs < rental) h.rentals above);
-  balance = λ rider none. ap (balance_of rider) h.entries ∙ no_balance s sound rider (ap (λ (m : FinMap nat_cmp Rider). fin.get m rider) (sym h.riders) ∙ none);
+  refunds = λ rental above. ap (λ (es : Numbered Entry). refunded_of rental es.items) h.entries ∙ no_refunds s sound rental (subst (λ (rs : Numbered Rental). last_number rs < rental) h.rentals above);
+  balance = λ rider none. ap (λ (es : Numbered Entry). balance_of rider es.items) h.entries ∙ no_balance s sound rider (ap (λ (m : FinMap nat_cmp Rider). fin.get m rider) (sym h.riders) ∙ none);
 }
 
 -- a name in the system's language leaves the moment, the ledger, what is kept, rentals and orders
@@ -142,6 +144,14 @@ own_name_left named.Plan id name s = record { now = refl; entries = refl; histor
 own_name_left named.Description id name s = record { now = refl; entries = refl; history = refl; rentals = refl; orders = refl }
 own_name_left named.Region id name s = record { now = refl; entries = refl; history = refl; rentals = refl; orders = refl }
 
+own_name_riders : (kind : NameKind) (id name : List ℕ) (s : Operator) → (own_name_set kind id name s).riders ≡ s.riders
+own_name_riders named.System id name s = refl
+own_name_riders named.Station id name s = refl
+own_name_riders named.«Type» id name s = refl
+own_name_riders named.Plan id name s = refl
+own_name_riders named.Description id name s = refl
+own_name_riders named.Region id name s = refl
+
 -- a record leaves the ledger, what is kept and the moment
 abbrev LeavesKept : Operator → Operator → Type 0
 LeavesKept s n = (n.entries ≡ s.entries) × (n.history ≡ s.history) × (n.now ≡ s.now)
@@ -153,6 +163,28 @@ change_left c s = (refl, refl, refl)
 changed_left : (co : Option Change) (s : Operator) → LeavesKept s (where_changed co s)
 changed_left None s = (refl, refl, refl)
 changed_left (Some c) s = change_left c s
+
+-- what a rider has of archived entries stays: a new rider has nothing of them
+before_left : (co : Option Change) (s : Operator) → IfSome co (IsFound s) → (rider : ℕ) → before_of (fin.get (where_changed co s).riders rider) ≡ before_of (fin.get s.riders rider)
+before_left None s found rider = refl
+before_left (Some (change.AddRider r)) s found rider = go (either rider r) where
+  go : Either rider r → before_of (fin.get (fin.insert s.riders r new_rider) rider) ≡ before_of (fin.get s.riders rider)
+  go (Same same) =
+      ap (λ (n : ℕ). before_of (fin.get (fin.insert s.riders r new_rider) n)) same ∙ ap before_of (get_inserted s.riders r new_rider)
+      ∙ sym (ap (λ (n : ℕ). before_of (fin.get s.riders n)) same ∙ ap before_of found)
+  go (Other apart) = ap before_of (get_other s.riders r new_rider rider apart)
+before_left (Some (change.SetRider r blocked)) s found rider = go (either rider r) (fin.get s.riders r) refl where
+  sets : Rider → Rider
+  sets x = record x { is_blocked = blocked }
+
+  go : Either rider r → (o : Option Rider) → fin.get s.riders r ≡ o → before_of (fin.get (key_changed s.riders r sets) rider) ≡ before_of (fin.get s.riders rider)
+  go (Other apart) o e = ap before_of (changed_other s.riders r sets rider apart)
+  go (Same same) None e = let none : is_some (fin.get s.riders r) ≡ false = ap is_some e in absurd cc
+  go (Same same) (Some x) e =
+      ap (λ (n : ℕ). before_of (fin.get (key_changed s.riders r sets) n)) same ∙ ap before_of (changed_found s.riders r sets x e)
+      ∙ sym (ap (λ (n : ℕ). before_of (fin.get s.riders n)) same ∙ ap before_of e)
+before_left (Some (change.SetOwnName kind id name)) s found rider = ap (λ (m : FinMap nat_cmp Rider). before_of (fin.get m rider)) (own_name_riders kind id.now name.now s)
+before_left (Some c) s found rider = refl
 
 -- ---- the parts of an acceptance
 
@@ -170,7 +202,7 @@ accepted_closed : (s : Operator) (now : ℕ) (q : Request) (a : Accepted) → De
     → after_acceptance s now q ≡ after_close now q a.reply (effect_of now a s)
 accepted_closed s now q a decides stays =
     let history : (effect_of now a s).history ≡ s.history = go (entry_of a.entry) in
-    λ i. record (sym decides.2 i) { now = now; history = sym history i ++ record { moment = now; request = q; reply = sym decides.1 i } ∷ [] }
+    λ i. record (sym decides.2 i) { now = now; history = with_item (record { moment = now; request = q; reply = sym decides.1 i }) (sym history i) }
   where
     go : (e : Option Entry) → (entry_added e (changed_by now a s)).history ≡ s.history
     go None = stays
@@ -192,19 +224,25 @@ module _ (s : Operator) (m : Listed) (now : ℕ) (q : Request) (a : Accepted) (n
   history : next.history ≡ s.history
   history = (changed_left a.change moved_next).1 ∙ left.history
 
+  -- what a rider has stays, whatever the record is
+  balance_stays : (rider : ℕ) → rider_balance next rider ≡ rider_balance s rider
+  balance_stays rider =
+      ap₂ (λ (z : ℤ) (es : Numbered Entry). z +ℤ balance_of rider es.items)
+      (before_left a.change moved_next h.found.change rider ∙ ap (λ (m : FinMap nat_cmp Rider). before_of (fin.get m rider)) left.riders) entries
+
   later : next.now ≤ now
   later = subst (λ (k : ℕ). k ≤ now) (sym ((changed_left a.change moved_next).2 ∙ left.now)) h.later
 
-  numbered : number ≡ length next.history + 1
-  numbered = h.number_is ∙ ap (λ (l : List AcceptedRequest). length l + 1) (sym history)
+  numbered : number ≡ last_number next.history + 1
+  numbered = h.number_is ∙ ap (λ (l : Numbered AcceptedRequest). last_number l + 1) (sym history)
 
   texts_are : AreTextsOf q a.reply texts.caller.now texts.key.now texts.command.now texts.reply.now
   texts_are = record { caller_is = h.texts_are.caller; key_is = h.texts_are.key; command_is = h.texts_are.command; reply_is = h.texts_are.reply ∙ ap reply_text (sym h.decides.1) }
 
   numbers : (b : BookedEntry) → IsBookedFound s b → AreNumbersWith next b.entry b.balance
   numbers b found = record {
-    number_is = found.number_is ∙ ap (λ (es : List Entry). length es + 1) (sym entries);
-    balance_is = found.balance_is ∙ ap (λ (es : List Entry). balance_of b.entry.rider es +ℤ credit b.entry.kind b.entry.amount) (sym entries);
+    number_is = found.number_is ∙ ap (λ (es : Numbered Entry). last_number es + 1) (sym entries);
+    balance_is = found.balance_is ∙ ap (λ (z : ℤ). z +ℤ credit b.entry.kind b.entry.amount) (sym (balance_stays b.entry.rider));
   }
 
   -- the entry, where there is one, and the close
@@ -223,7 +261,7 @@ module _ (s : Operator) (m : Listed) (now : ℕ) (q : Request) (a : Accepted) (n
     go (Some refunded) is =
         let e : Bor Entry = record { ref_ptr = (0, 0); now = b.entry } in
         close_refund next w now q a.reply number texts.caller texts.key texts.command texts.reply listing later numbered texts_are e b.balance refunded (numbers b found)
-        (is ∙ ap (λ (es : List Entry). refunded_of b.entry.rental es +ℤ given_back b.entry.kind b.entry.amount) (sym entries))
+        (is ∙ ap (λ (es : Numbered Entry). refunded_of b.entry.rental es.items +ℤ given_back b.entry.kind b.entry.amount) (sym entries))
 
   pub leads_accepted : (w : Listed) × Leads (writes_of_accepted now n number texts a) s m (after_acceptance s now q) w
   leads_accepted =
@@ -259,36 +297,36 @@ changed_by_left now a s =
 -- ---- figures
 
 -- how many rentals and orders there are after a record
-rentals_with : (co : Option Change) (s : Operator) → IfSome co (IsFound s) → rentals_after (length s.rentals) co ≡ length (where_changed co s).rentals
+rentals_with : (co : Option Change) (s : Operator) → IfSome co (IsFound s) → rentals_after (last_number s.rentals) co ≡ last_number (where_changed co s).rentals
 rentals_with None s found = refl
-rentals_with (Some (change.AddRental rental rider bike plan from_station start)) s found = found ∙ sym (length-append s.rentals _)
-rentals_with (Some (change.CloseRental rental to_station finish fare)) s found = sym (length-number_changed rental _ s.rentals)
-rentals_with (Some (change.SetOwnName kind id name)) s found = ap (λ (rs : List Rental). length rs) (sym (own_name_left kind id.now name.now s).rentals)
+rentals_with (Some (change.AddRental rental rider bike plan from_station start)) s found = found ∙ sym (last_added s.rentals _)
+rentals_with (Some (change.CloseRental rental to_station finish fare)) s found = sym (last_changed rental _ s.rentals)
+rentals_with (Some (change.SetOwnName kind id name)) s found = ap (λ (rs : Numbered Rental). last_number rs) (sym (own_name_left kind id.now name.now s).rentals)
 rentals_with (Some c) s found = refl
 
-orders_with : (co : Option Change) (s : Operator) → IfSome co (IsFound s) → orders_after (length s.orders) co ≡ length (where_changed co s).orders
+orders_with : (co : Option Change) (s : Operator) → IfSome co (IsFound s) → orders_after (last_number s.orders) co ≡ last_number (where_changed co s).orders
 orders_with None s found = refl
-orders_with (Some (change.AddOrder order truck from_end to_end type_id count)) s found = found ∙ sym (length-append s.orders _)
-orders_with (Some (change.SetOrder order delivered is_open)) s found = sym (length-number_changed order _ s.orders)
-orders_with (Some (change.SetOwnName kind id name)) s found = ap (λ (os : List Order). length os) (sym (own_name_left kind id.now name.now s).orders)
+orders_with (Some (change.AddOrder order truck from_end to_end type_id count)) s found = found ∙ sym (last_added s.orders _)
+orders_with (Some (change.SetOrder order delivered is_open)) s found = sym (last_changed order _ s.orders)
+orders_with (Some (change.SetOwnName kind id name)) s found = ap (λ (os : Numbered Order). last_number os) (sym (own_name_left kind id.now name.now s).orders)
 orders_with (Some c) s found = refl
 
 -- the figures of the ledger with an entry
 record LedgerWith (s next : Operator) (o : Option BookedEntry) : Type 0 where
-  entries : entries_after (length s.entries) o ≡ length (entry_added (entry_of o) next).entries
+  entries : entries_after (last_number s.entries) o ≡ last_number (entry_added (entry_of o) next).entries
   rentals : (entry_added (entry_of o) next).rentals ≡ next.rentals
   orders : (entry_added (entry_of o) next).orders ≡ next.orders
   history : (entry_added (entry_of o) next).history ≡ next.history
 
 ledger_with : (s n : Operator) (o : Option BookedEntry) → n.entries ≡ s.entries → IfSome o (IsBookedFound s) → LedgerWith s n o
 ledger_with s n None same found = record {
-  entries = ap (λ (es : List Entry). length es) (sym same);
+  entries = ap (λ (es : Numbered Entry). last_number es) (sym same);
   rentals = refl;
   orders = refl;
   history = refl;
 }
 ledger_with s n (Some b) same found = record {
-  entries = found.number_is ∙ ap (λ (es : List Entry). length es + 1) (sym same) ∙ sym (length-append n.entries (b.entry ∷ []));
+  entries = found.number_is ∙ ap (λ (es : Numbered Entry). last_number es + 1) (sym same) ∙ sym (last_added n.entries b.entry);
   rentals = refl;
   orders = refl;
   history = refl;
@@ -303,10 +341,12 @@ figures_follow s now q a figures decides found follows =
     let end = effect_of now a s in
     let ledger = ledger_with s next a.entry left.0 found.entry in
     let closed = accepted_closed s now q a decides left.1 in
-    let rentals = ap (λ (rs : List Rental). rentals_after (length rs) a.change) (sym before.rentals) ∙ rentals_with a.change mid found.change ∙ ap (λ (rs : List Rental). length rs) (sym ledger.rentals) in
-    let orders = ap (λ (os : List Order). orders_after (length os) a.change) (sym before.orders) ∙ orders_with a.change mid found.change ∙ ap (λ (os : List Order). length os) (sym ledger.orders) in
-    let requests : length s.history + 1 ≡ length (after_close now q a.reply end).history =
-    ap (λ (l : List AcceptedRequest). length l + 1) (sym (ledger.history ∙ left.1)) ∙ sym (length-append end.history _) in
-    let all : figures_with (figures_of s) now a (length s.history + 1) ≡ figures_of (after_close now q a.reply end) =
+    let rentals = ap (λ (rs : Numbered Rental). rentals_after (last_number rs) a.change) (sym before.rentals) ∙ rentals_with a.change mid found.change
+    ∙ ap (λ (rs : Numbered Rental). last_number rs) (sym ledger.rentals) in
+    let orders = ap (λ (os : Numbered Order). orders_after (last_number os) a.change) (sym before.orders) ∙ orders_with a.change mid found.change
+    ∙ ap (λ (os : Numbered Order). last_number os) (sym ledger.orders) in
+    let requests : last_number s.history + 1 ≡ last_number (after_close now q a.reply end).history =
+    ap (λ (l : Numbered AcceptedRequest). last_number l + 1) (sym (ledger.history ∙ left.1)) ∙ sym (last_added end.history _) in
+    let all : figures_with (figures_of s) now a (last_number s.history + 1) ≡ figures_of (after_close now q a.reply end) =
     λ i. record { now = now; rentals = rentals i; orders = orders i; entries = ledger.entries i; requests = requests i } in
     figures_next (figures_of s) now a follows ∙ all ∙ ap figures_of (sym closed)

@@ -1,8 +1,8 @@
 -- One other record, as the rows that are written of it.
-use Rattle.std.proofs.Common.{◌≡◌, ◌+◌, ◌<◌, ℕ, pos, length, None, arith}
+use Rattle.std.proofs.Common.{◌≡◌, ◌+◌, ◌<◌, ℕ, pos, None, arith}
 use Rattle.std.specs.FinMap as fin
 use Rattle.bike_ledger.specs.Ledger.{balance_of, refunded_of}
-use Rattle.bike_operator.specs.Operator.{Operator}
+use Rattle.bike_operator.specs.Operator.{Operator, last_number}
 use Rattle.bike_operator.specs.Sound.{AreNamesSound}
 use Rattle.bike_book.specs.Stored.{Listed, IsListing}
 use Rattle.bike_book.specs.ChangeLaws.{BooksChange}
@@ -19,8 +19,8 @@ use Rattle.bike_accepted.specs.Found.{IsFound}
 -- What is known of an operator beside the record: names stand under three texts, and what isn't there has no balance, no refunds and no bicycles.
 pub record IsReady (s : Operator) : Type 0 where
   pub names : AreNamesSound s
-  pub refunds : (rental : ℕ) → length s.rentals < rental → refunded_of rental s.entries ≡ pos 0
-  pub balance : (rider : ℕ) → fin.get s.riders rider ≡ None → balance_of rider s.entries ≡ pos 0
+  pub refunds : (rental : ℕ) → last_number s.rentals < rental → refunded_of rental s.entries.items ≡ pos 0
+  pub balance : (rider : ℕ) → fin.get s.riders rider ≡ None → balance_of rider s.entries.items ≡ pos 0
   pub types : NoTypesYet s
 
 module _ (s : Operator) (m : Listed) (listing : IsListing s m) (ready : IsReady s) where
@@ -44,7 +44,7 @@ module _ (s : Operator) (m : Listed) (listing : IsListing s m) (ready : IsReady 
   books_change (change.AddRider rider) found = add_rider s m listing rider (ready.balance rider found)
   books_change (change.SetRider rider blocked) found = set_rider s m listing rider blocked found
   books_change (change.AddRental rental rider bike plan from_station start) found =
-      let is : rental ≡ length s.rentals + 1 = found in add_rental s m listing rental rider bike plan from_station start found (ready.refunds rental (omega (arith, is)))
+      let is : rental ≡ last_number s.rentals + 1 = found in add_rental s m listing rental rider bike plan from_station start found (ready.refunds rental (omega (arith, is)))
   books_change (change.CloseRental rental to_station finish fare) found = close_rental s m listing rental to_station finish fare
   books_change (change.AddOrder order truck from_end to_end type_id count) found = add_order s m listing order truck from_end to_end type_id count found
   books_change (change.SetOrder order delivered is_open) found = set_order s m listing order delivered is_open

@@ -5,7 +5,7 @@ use Rattle.std.specs.Cmp.{eq_by_cmp_equiv}
 use Rattle.std.specs.FinMap as fin
 use Rattle.std.specs.FinMap.{FinMap}
 use Rattle.std.specs.FinSet as set
-use Rattle.bike_operator.specs.Operator.{Operator, DockKey, texts_cmp, dock_key}
+use Rattle.bike_operator.specs.Operator.{Operator, AcceptedRequest, DockKey, Numbered, texts_cmp, dock_key}
 use Rattle.bike_operator.specs.Sound.{HasDock}
 use Rattle.bike_laws.proofs.SingleSteps.MapLemmas.{texts_order, tied}
 use Rattle.bike_book.specs.Stored.{Listed, IsListing, IsDockKey, moment_since}
@@ -53,5 +53,5 @@ module _ (s n : Operator) (m : Listed) (station : List ℕ) (dock : ℕ) (listin
     docks = all_added m.docks (dock_key station dock) (IsDockKey n) (record { station = station; dock = dock; key_is = refl; has = keeps station dock has })
         (λ key there. dock_kept s n keeps key (listing.docks key there));
     marked = marked;
-    now_is = now ∙ listing.now_is ∙ ap (moment_since m.since) (sym history);
+    now_is = now ∙ listing.now_is ∙ ap (λ (l : Numbered AcceptedRequest). moment_since m.since l.items) (sym history);
   }

@@ -1,5 +1,5 @@
 -- A dock marked as broken or as working, as the rows that are written of it.
-use Rattle.std.proofs.Common.{◌≡◌, ℕ, List, [], ◌∷◌, Bool, refl, sym, ap, ap₂, ◌∙◌, subst}
+use Rattle.std.proofs.Common.{◌≡◌, ℕ, List, [], ◌∷◌, Bool, refl, sym, ap, ap₂, ◌∙◌}
 use Rattle.std.specs.Prelude.{map}
 use Rattle.std.specs.FinMap as fin
 use Rattle.std.specs.Borrow.{Bor}

@@ -3,7 +3,6 @@ use Rattle.std.proofs.Common.{◌≡◌, ◌≢◌, ℕ, List, Option, Some, Non
 use Rattle.std.specs.Prelude.{IfSome}
 use Rattle.std.specs.FinMap as fin
 use Rattle.std.specs.FinMap.{FinMap}
-use Rattle.bike_operator.specs.declared.records.Bike.{Bike}
 use Rattle.bike_operator.specs.Operator.{Operator, Station, text_cmp}
 use Rattle.bike_operator.specs.Steps.{key_changed}
 use Rattle.bike_operator.specs.Changes.{place_of}
@@ -21,7 +20,7 @@ use Rattle.bike_booking.proofs.PutBooks.{marked_at}
 use Rattle.bike_accepted.specs.declared.movement.Movement.{Movement}
 use Rattle.bike_accepted.specs.declared.movement.Movement.TheVariants as moved
 use Rattle.bike_accepted.specs.Effects.{bike_in, after_moved, where_moved}
-use Rattle.bike_accepted.specs.Found.{IsDockFound, held_bike, IsMovedFound}
+use Rattle.bike_accepted.specs.Found.{held_bike, IsMovedFound}
 
 -- what isn't there after a change of another record wasn't there before
 absent_before : (m : FinMap text_cmp Station) (at : List ℕ) (f : Station → Station) (station : List ℕ) → fin.get (key_changed m at f) station ≡ None → fin.get m station ≡ None

@@ -1,10 +1,10 @@
 -- The law of an accepted request: its row changes lead to the tables of the operator after it.
-use Rattle.std.specs.Prelude.{◌≡◌, ◌≤◌, ◌+◌, ℕ, List, length, Ok}
+use Rattle.std.specs.Prelude.{◌≡◌, ◌≤◌, ◌+◌, ℕ, List, Ok}
 use Rattle.bike_fields.specs.Caller.{caller_text}
 use Rattle.bike_commands.specs.declared.request.Request.{Request}
 use Rattle.bike_commands.specs.Commands.{text_of}
 use Rattle.bike_commands.specs.Replies.{reply_text}
-use Rattle.bike_operator.specs.Operator.{Operator}
+use Rattle.bike_operator.specs.Operator.{Operator, last_number}
 use Rattle.bike_operator.specs.Steps.{reply_of}
 use Rattle.bike_operator.specs.Runs.{after_acceptance}
 use Rattle.bike_operator.specs.Sound.{IsSound}
@@ -37,7 +37,7 @@ pub record IsAccepted (s : Operator) (m : Listed) (now : ℕ) (q : Request) (a :
   pub decides : Decides s now q.command (Ok a)
   pub found : AreFound now s a
   pub stored : IsStored s m a n
-  pub number_is : number ≡ length s.history + 1
+  pub number_is : number ≡ last_number s.history + 1
   pub texts_are : AreTexts s now q texts
   pub sound_after : IsSound (after_acceptance s now q)
 

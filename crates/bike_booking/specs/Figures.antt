@@ -1,7 +1,7 @@
 -- The operator's figures: its moment, and how many rentals, orders, entries and accepted requests it has.
-use Rattle.std.specs.Prelude.{◌≡◌, ℕ, length, Option, Some, None, Ok, option_map}
+use Rattle.std.specs.Prelude.{◌≡◌, ℕ, Option, Some, None, Ok, option_map}
 use Rattle.bike_commands.specs.declared.request.Request.{Request}
-use Rattle.bike_operator.specs.Operator.{Operator}
+use Rattle.bike_operator.specs.Operator.{Operator, last_number}
 use Rattle.bike_operator.specs.Runs.{after_acceptance}
 use Rattle.bike_accepted.specs.declared.change.Change.{Change}
 use Rattle.bike_accepted.specs.declared.change.Change.TheVariants as change
@@ -16,10 +16,10 @@ abbrev pub figures_of : Operator → Figures
 figures_of s =
     record {
       now = s.now;
-      rentals = length s.rentals;
-      orders = length s.orders;
-      entries = length s.entries;
-      requests = length s.history;
+      rentals = last_number s.rentals;
+      orders = last_number s.orders;
+      entries = last_number s.entries;
+      requests = last_number s.history;
     }
 
 -- what is added has the next number, and that is how many there are then

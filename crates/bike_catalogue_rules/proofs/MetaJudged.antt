@@ -1,11 +1,12 @@
 -- What a judge of meta finds is the verdict on meta.
-use Rattle.std.proofs.Common.{◌≡◌, List, [], ◌∷◌, Bool, true, false, cond, Option, Some, None, option_map, refl, sym, ap, ◌∙◌, subst}
+use Rattle.std.proofs.Common.{◌≡◌, ℕ, List, [], ◌∷◌, Bool, true, false, cond, Option, Some, None, option_map, refl, sym, ap, ◌∙◌, subst}
 use Rattle.std.specs.Prelude.{take}
 use Rattle.std.specs.Ordering.{is_lt}
 use Rattle.sqlite_value.specs.Order.{Row, row_cmp}
 use Rattle.sqlite.specs.Effect.{Database}
 use Rattle.bike_book.specs.Tables.{Meta}
 use Rattle.bike_schema.specs.Tables.{tables_of}
+use Rattle.bike_readings.specs.ReadOff.{archived_of}
 use Rattle.bike_readings.proofs.RulesLaws.{stored_in_order}
 use Rattle.bike_judges.specs.declared.key.BadKey.{BadKey}
 use Rattle.bike_judges.specs.Judging.{key_row, Continues}
@@ -15,9 +16,13 @@ use Rattle.bike_catalogue_rules.specs.OneRow.{is_meta, one_key, first_meta}
 use Rattle.bike_catalogue_rules.proofs.Judged.{Finds}
 use Rattle.bike_catalogue_rules.proofs.MetaRules.{meta_verdict}
 
-pub meta_judged : (db : Database) (found : Option BadKey) → Finds (first_meta is_meta false (tables_of db).meta) found → JudgesTable Meta db found
-meta_judged db found finds earlier =
-    subst (IsTableVerdict (tables_of db) Meta) (sym (finds (first_meta is_meta false (tables_of db).meta) refl)) (meta_verdict (tables_of db) (stored_in_order db))
+-- where the judge was told how many entries were archived
+pub meta_judged : (db : Database) (archived : ℕ) → archived ≡ (archived_of (tables_of db).books).1 → (found : Option BadKey) → Finds (first_meta (is_meta archived) false (tables_of db).meta) found
+    → JudgesTable Meta db found
+meta_judged db archived archived_is found finds earlier =
+    let t = tables_of db in
+    subst (IsTableVerdict t Meta) (sym (finds (first_meta (is_meta archived) false t.meta) refl))
+    (subst (λ (n : ℕ). IsTableVerdict t Meta (first_meta (is_meta n) false t.meta)) (sym archived_is) (meta_verdict t (stored_in_order db)))
 
 -- ---- one more row
 

@@ -1,12 +1,11 @@
--- The first row of meta that isn't the one of the newest version with no sums, or that this is missing, is the verdict on meta.
-use Rattle.std.proofs.Common.{◌≡◌, inl, inr, ℕ, ℤ, pos, List, [], ◌∷◌, Bool, true, false, cond, ◌&&◌, Option, Some, None, refl, sym, ap, ◌∙◌, subst}
+-- The first row of meta that isn't the one of the newest version with good sums, or that this is missing, is the verdict on meta.
+use Rattle.std.proofs.Common.{◌≡◌, inl, inr, ℕ, ℤ, List, [], ◌∷◌, Bool, true, false, cond, ◌&&◌, Option, Some, None, refl, sym, ap, ◌∙◌, subst}
 use Rattle.std.specs.Prelude.{take, IfSome, ◌==◌}
 use Rattle.std.specs.Option.{IsSomeAnd}
-use Rattle.std.specs.Ordering.{int_eq, is_lt, ordering_reverse}
+use Rattle.std.specs.Ordering.{is_lt, ordering_reverse}
 use Rattle.std.specs.declared.cmp.Ordering.{Ordering}
 use Rattle.std.specs.declared.cmp.Ordering.TheVariants.{Less, Equal, Greater}
 use Rattle.std.proofs.lemmas.Bool.{and_from, eqb-true, eq-eqb}
-use Rattle.std.proofs.lemmas.Bool.Decides.{Decides-int_eq}
 use Rattle.std.proofs.lemmas.Cmp.{tied_itself}
 use Rattle.sqlite_value.specs.Order.{Row, row_cmp}
 use Rattle.sqlite_value.proofs.OrderLemmas.{row_cmp_total}
@@ -19,16 +18,25 @@ use Rattle.bike_book.specs.declared.version.TheConstants.{NEWEST}
 use Rattle.bike_book.specs.Tables.{Tables, Meta}
 use Rattle.bike_readings.specs.Readings.{meta_read}
 use Rattle.bike_readings.proofs.CatalogueRows.{meta_reading}
-use Rattle.bike_readings.specs.ReadOff.{operator_of}
+use Rattle.bike_readings.specs.ReadOff.{operator_of, archived_of}
 use Rattle.bike_readings.specs.Demands.{IsGoodMeta}
 use Rattle.bike_readings.specs.Rules.{AreInOrder, IsGoodAt, IsGoodKey, row_under, rows_below}
 use Rattle.bike_readings.proofs.Places.{has_under, under_has}
 use Rattle.bike_readings.proofs.RowRules.{some_with}
 use Rattle.bike_judges.specs.Verdicts.{IsTableVerdict}
 use Rattle.bike_judges.specs.Least.{least_key}
-use Rattle.bike_catalogue_rules.specs.OneRow.{has_no_sums, is_meta, one_key, first_meta}
+use Rattle.bike_judges.specs.Sums.{is_sum_of}
+use Rattle.bike_judges.proofs.SumLaws.{sum_decides}
+use Rattle.bike_catalogue_rules.specs.OneRow.{has_sums, is_meta as is_meta_of, one_key, first_meta}
 
 module _ (t : Tables) (up : AreInOrder t) where
+  -- how many entries were archived
+  abbrev archived : ℕ
+  archived = (archived_of t.books).1
+
+  abbrev is_meta : Row → Bool
+  is_meta = is_meta_of archived
+
   abbrev IsGood : Row → Type 0
   IsGood r = (n : ℕ) → IsSomeAnd (meta_read r) (IsGoodMeta (operator_of t) n)
 
@@ -36,21 +44,20 @@ module _ (t : Tables) (up : AreInOrder t) where
 
   meta_good : (r : Row) → is_meta r ≡ true → IsGood r
   meta_good r h n = go (meta_read r) refl h where
-    go : (o : Option (ℕ × ℕ × ℤ × ℤ)) → meta_read r ≡ o → has_no_sums o ≡ true → IsSomeAnd o (IsGoodMeta (operator_of t) n)
+    go : (o : Option (ℕ × ℕ × ℤ × ℤ)) → meta_read r ≡ o → has_sums archived o ≡ true → IsSomeAnd o (IsGoodMeta (operator_of t) n)
     go None e h = absurd cc
     go (Some x) e h =
-        let all = both_hold ((x.0 == NEWEST) && int_eq x.2 (pos 0)) (int_eq x.3 (pos 0)) h in
-        let two = both_hold (x.0 == NEWEST) (int_eq x.2 (pos 0)) all.0 in
-        record { version_is = eqb-true x.0 NEWEST two.0; cash_is = (Decides-int_eq x.2 (pos 0)).0 two.1; revenue_is = (Decides-int_eq x.3 (pos 0)).0 all.1 }
+        let all = both_hold ((x.0 == NEWEST) && is_sum_of archived x.2) (is_sum_of archived x.3) h in
+        let two = both_hold (x.0 == NEWEST) (is_sum_of archived x.2) all.0 in
+        record { version_is = eqb-true x.0 NEWEST two.0; cash = (sum_decides archived x.2).0 two.1; revenue = (sum_decides archived x.3).0 all.1 }
 
   good_meta : (n : ℕ) (r : Row) → IsSomeAnd (meta_read r) (IsGoodMeta (operator_of t) n) → is_meta r ≡ true
   good_meta n r good =
       let it = some_with (IsGoodMeta (operator_of t) n) (meta_read r) good in
-      let x = it.value in
-      ap (has_no_sums) it.value_is
-      ∙ and_from ((it.value.0 == NEWEST) && int_eq it.value.2 (pos 0)) (int_eq it.value.3 (pos 0))
-      (and_from (it.value.0 == NEWEST) (int_eq it.value.2 (pos 0)) (eq-eqb it.value.0 NEWEST it.fact.version_is) ((Decides-int_eq it.value.2 (pos 0)).1 it.fact.cash_is))
-      ((Decides-int_eq it.value.3 (pos 0)).1 it.fact.revenue_is)
+      ap (has_sums archived) it.value_is
+      ∙ and_from ((it.value.0 == NEWEST) && is_sum_of archived it.value.2) (is_sum_of archived it.value.3)
+      (and_from (it.value.0 == NEWEST) (is_sum_of archived it.value.2) (eq-eqb it.value.0 NEWEST it.fact.version_is) ((sum_decides archived it.value.2).1 it.fact.cash))
+      ((sum_decides archived it.value.3).1 it.fact.revenue)
 
   -- the key of a good row is 1
   good_key : (r : Row) → is_meta r ≡ true → take 1 r ≡ one_key

@@ -11,7 +11,7 @@ use Rattle.sqlite_rules.specs.Lists.{Has}
 use Rattle.bike_sql.specs.View.{by_key}
 use Rattle.bike_sql.proofs.OrderLemmas.{Rises, all_has}
 use Rattle.bike_fields.specs.Values.{SegmentRow}
-use Rattle.bike_operator.specs.Operator.{text_cmp, item_at, item_numbered}
+use Rattle.bike_operator.specs.Operator.{text_cmp, item_at, item_in}
 use Rattle.bike_book.specs.Rows.{segment_row}
 use Rattle.bike_book.proofs.Keys.{texts, value_cmp-number_value}
 use Rattle.bike_readings.specs.ReadOff.{segment_at, and_after, segments_from, segments_of}
@@ -43,11 +43,11 @@ next_found rows id seq (suc (suc most)) i x g is few there = go (segment_at rows
       ∙ rest j is (omega (arith, few)) (ap (segment_at rows id) (sym number) ∙ there)
 
 -- the first segment of a plan, and the one after a segment
-pub first_numbered : (rows : List Row) (id : List ℕ) (g : SegmentRow) → segment_at rows id 1 ≡ Some g → item_numbered 1 (segments_of rows id) ≡ Some g
+pub first_numbered : (rows : List Row) (id : List ℕ) (g : SegmentRow) → segment_at rows id 1 ≡ Some g → item_in 1 (segments_of rows id) ≡ Some g
 first_numbered rows id g is = first_found rows id 1 7 g is
 
-pub next_numbered : (rows : List Row) (id : List ℕ) (n : ℕ) (x g : SegmentRow) → item_numbered n (segments_of rows id) ≡ Some x → suc n ≤ 8 → segment_at rows id (suc n) ≡ Some g
-    → item_numbered (suc n) (segments_of rows id) ≡ Some g
+pub next_numbered : (rows : List Row) (id : List ℕ) (n : ℕ) (x g : SegmentRow) → item_in n (segments_of rows id) ≡ Some x → suc n ≤ 8 → segment_at rows id (suc n) ≡ Some g
+    → item_in (suc n) (segments_of rows id) ≡ Some g
 next_numbered rows id zero x g is few there = absurd cc
 next_numbered rows id (suc i) x g is few there = let number : 1 + suc i ≡ suc (suc i) = omega arith in next_found rows id 1 8 i x g is (omega (arith, few)) (ap (segment_at rows id) number ∙ there)
 

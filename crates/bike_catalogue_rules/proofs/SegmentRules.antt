@@ -21,7 +21,7 @@ use Rattle.bike_sql.proofs.OrderLemmas.{Rises, all_has}
 use Rattle.bike_sql.proofs.TreeLemmas.{by_key_total}
 use Rattle.bike_fields.specs.Values.{SegmentRow}
 use Rattle.bike_catalogue.specs.Rows.{PlanRow}
-use Rattle.bike_operator.specs.Operator.{item_numbered}
+use Rattle.bike_operator.specs.Operator.{item_in}
 use Rattle.bike_book.specs.Rows.{segment_row}
 use Rattle.bike_book.specs.Tables.{Tables, Segments}
 use Rattle.bike_readings.specs.Readings.{segment_read}
@@ -95,12 +95,12 @@ module _ (t : Tables) (up : AreInOrder t) (wide : AreWide t) where
     plan : PlanRow
     read_is : segment_read r ≡ Some (id, seq, segment)
     found : fin.get (operator_of t).plans id ≡ Some plan
-    segment_is : item_numbered seq (segments_of rows id) ≡ Some segment
+    segment_is : item_in seq (segments_of rows id) ≡ Some segment
 
   placed_good : (below : ℕ) (r : Row) → IsPlaced r → IsSomeAnd (segment_read r) (IsGoodSegment (operator_of t) below)
   placed_good below r it =
       some_and (IsGoodSegment (operator_of t) below) (segment_read r) (it.id, it.seq, it.segment) it.read_is
-      (record { plan = it.plan; found = it.found; segment_is = ap (item_numbered it.seq) (plan_segments t up it.id it.plan it.found) ∙ it.segment_is })
+      (record { plan = it.plan; found = it.found; segment_is = ap (item_in it.seq) (plan_segments t up it.id it.plan it.found) ∙ it.segment_is })
 
   good_placed : (below : ℕ) (r : Row) → IsSomeAnd (segment_read r) (IsGoodSegment (operator_of t) below) → IsPlaced r
   good_placed below r good =
@@ -112,7 +112,7 @@ module _ (t : Tables) (up : AreInOrder t) (wide : AreWide t) where
         plan = it.fact.plan;
         read_is = it.value_is;
         found = it.fact.found;
-        segment_is = ap (item_numbered it.value.1) (sym (plan_segments t up it.value.0 it.fact.plan it.fact.found)) ∙ it.fact.segment_is;
+        segment_is = ap (item_in it.value.1) (sym (plan_segments t up it.value.0 it.fact.plan it.fact.found)) ∙ it.fact.segment_is;
       }
 
   placed_name : (r : Row) (has : Has rows r) (it : IsPlaced r) → name r ≡ Some (it.id, it.seq)
@@ -154,27 +154,27 @@ module _ (t : Tables) (up : AreInOrder t) (wide : AreWide t) where
     has_row = subst (λ (xs : List Row). Has xs r) (sym is) (middle before)
 
     -- the row before is the one of this name, and is good
-    after : (e : List ℕ × ℕ) → b ≡ Some e → (x : SegmentRow) × (item_numbered e.1 (segments_of rows e.0) ≡ Some x)
+    after : (e : List ℕ × ℕ) → b ≡ Some e → (x : SegmentRow) × (item_in e.1 (segments_of rows e.0) ≡ Some x)
     after e named_e = go last where
-      go : IsLast before b → (x : SegmentRow) × (item_numbered e.1 (segments_of rows e.0) ≡ Some x)
+      go : IsLast before b → (x : SegmentRow) × (item_in e.1 (segments_of rows e.0) ≡ Some x)
       go (inl none) = let never : ◌≡◌ {A = Option (List ℕ × ℕ)} None (Some e) = sym none.1 ∙ named_e in absurd cc
       go (inr (front, x, at, names)) =
           let has : Has before x = subst (λ (xs : List Row). Has xs x) (sym at) (has_last front x) in
           let it = placed x has in
           let same : (it.id, it.seq) ≡ e = same_Some (it.id, it.seq) e (sym (placed_name x (has_before x has) it) ∙ sym names ∙ named_e) in
-          (it.segment, subst (λ (z : List ℕ × ℕ). item_numbered z.1 (segments_of rows z.0) ≡ Some it.segment) same it.segment_is)
+          (it.segment, subst (λ (z : List ℕ × ℕ). item_in z.1 (segments_of rows z.0) ≡ Some it.segment) same it.segment_is)
 
-    next_is : (e : List ℕ × ℕ) (it : IsNamed r e) → ((e.1 == 1) || comes_after b e) ≡ true → item_numbered e.1 (segments_of rows e.0) ≡ Some it.segment
+    next_is : (e : List ℕ × ℕ) (it : IsNamed r e) → ((e.1 == 1) || comes_after b e) ≡ true → item_in e.1 (segments_of rows e.0) ≡ Some it.segment
     next_is e it next = go (e.1 == 1) refl next where
       at : segment_at rows e.0 e.1 ≡ Some it.segment
       at = at_number r e.0 e.1 it.segment has_row it.read_is
 
-      first : (e.1 == 1) ≡ true → item_numbered e.1 (segments_of rows e.0) ≡ Some it.segment
+      first : (e.1 == 1) ≡ true → item_in e.1 (segments_of rows e.0) ≡ Some it.segment
       first one =
           let number : e.1 ≡ 1 = eqb-true e.1 1 one in
-          ap (λ (n : ℕ). item_numbered n (segments_of rows e.0)) number ∙ first_numbered rows e.0 it.segment (ap (segment_at rows e.0) (sym number) ∙ at)
+          ap (λ (n : ℕ). item_in n (segments_of rows e.0)) number ∙ first_numbered rows e.0 it.segment (ap (segment_at rows e.0) (sym number) ∙ at)
 
-      later : (d : List ℕ × ℕ) → b ≡ Some d → (bytes_eq d.0 e.0 && (d.1 + 1 == e.1)) ≡ true → item_numbered e.1 (segments_of rows e.0) ≡ Some it.segment
+      later : (d : List ℕ × ℕ) → b ≡ Some d → (bytes_eq d.0 e.0 && (d.1 + 1 == e.1)) ≡ true → item_in e.1 (segments_of rows e.0) ≡ Some it.segment
       later d is same =
           let both = both_hold (bytes_eq d.0 e.0) (d.1 + 1 == e.1) same in
           let plan : d.0 ≡ e.0 = (bytes_eq-Decides d.0 e.0).0 both.0 in
@@ -182,14 +182,14 @@ module _ (t : Tables) (up : AreInOrder t) (wide : AreWide t) where
           let number : suc d.1 ≡ e.1 = omega (arith, one_more) in
           let x = after d is in
           let few = (segment_reading.sound r (e.0, e.1, it.segment) it.read_is).1.good_seq.1 in
-          ap (λ (n : ℕ). item_numbered n (segments_of rows e.0)) (sym number)
-          ∙ next_numbered rows e.0 d.1 x.0 it.segment (ap (λ (z : List ℕ). item_numbered d.1 (segments_of rows z)) (sym plan) ∙ x.1) (omega (arith, number, few)) (ap (segment_at rows e.0) number ∙ at)
+          ap (λ (n : ℕ). item_in n (segments_of rows e.0)) (sym number)
+          ∙ next_numbered rows e.0 d.1 x.0 it.segment (ap (λ (z : List ℕ). item_in d.1 (segments_of rows z)) (sym plan) ∙ x.1) (omega (arith, number, few)) (ap (segment_at rows e.0) number ∙ at)
 
-      by : (o : Option (List ℕ × ℕ)) → b ≡ o → comes_after o e ≡ true → item_numbered e.1 (segments_of rows e.0) ≡ Some it.segment
+      by : (o : Option (List ℕ × ℕ)) → b ≡ o → comes_after o e ≡ true → item_in e.1 (segments_of rows e.0) ≡ Some it.segment
       by None none h = absurd cc
       by (Some d) some h = later d some h
 
-      go : (c : Bool) → (e.1 == 1) ≡ c → (c || comes_after b e) ≡ true → item_numbered e.1 (segments_of rows e.0) ≡ Some it.segment
+      go : (c : Bool) → (e.1 == 1) ≡ c → (c || comes_after b e) ≡ true → item_in e.1 (segments_of rows e.0) ≡ Some it.segment
       go true one h = first one
       go false one h = by b refl h
 
@@ -243,7 +243,7 @@ module _ (t : Tables) (up : AreInOrder t) (wide : AreWide t) where
       one_more : (n : ℕ) → n + 1 ≡ suc n
       one_more n = omega arith
 
-      go : (seq : ℕ) → segment_read r ≡ Some (it.id, seq, it.segment) → item_numbered seq (segments_of rows it.id) ≡ Some it.segment → ((seq == 1) || comes_after b (it.id, seq)) ≡ true
+      go : (seq : ℕ) → segment_read r ≡ Some (it.id, seq, it.segment) → item_in seq (segments_of rows it.id) ≡ Some it.segment → ((seq == 1) || comes_after b (it.id, seq)) ≡ true
       go zero read is = absurd cc
       go (suc zero) read is = refl
       go (suc (suc i)) read is =

@@ -1,20 +1,20 @@
--- The one row of meta, which is of the newest version and holds no sums.
-use Rattle.std.specs.Prelude.{ℕ, ℤ, pos, ◌==◌, ◌&&◌, List, [], ◌∷◌, take, Bool, true, false, if◌then◌else◌}
+-- The one row of meta, which is of the newest version and holds sums that the archived entries can come to.
+use Rattle.std.specs.Prelude.{ℕ, ℤ, ◌==◌, ◌&&◌, List, [], ◌∷◌, take, Bool, true, false, if◌then◌else◌}
 use Rattle.std.specs.Prelude.{Option, Some, None}
-use Rattle.std.specs.Ordering.{int_eq}
 use Rattle.sqlite_value.specs.Order.{Row}
 use Rattle.bike_book.specs.declared.version.TheConstants.{NEWEST}
 use Rattle.bike_book.specs.Rows.{number_value}
 use Rattle.bike_readings.specs.Readings.{meta_read}
 use Rattle.bike_judges.specs.Least.{least_key}
+use Rattle.bike_judges.specs.Sums.{is_sum_of}
 
--- version, moment, cash, revenue
-abbrev pub has_no_sums : Option (ℕ × ℕ × ℤ × ℤ) → Bool
-has_no_sums None = false
-has_no_sums (Some e) = ((e.0 == NEWEST) && int_eq e.2 (pos 0)) && int_eq e.3 (pos 0)
+-- version, moment, cash, revenue, where so many entries were archived
+abbrev pub has_sums : ℕ → Option (ℕ × ℕ × ℤ × ℤ) → Bool
+has_sums archived None = false
+has_sums archived (Some e) = ((e.0 == NEWEST) && is_sum_of archived e.2) && is_sum_of archived e.3
 
-abbrev pub is_meta : Row → Bool
-is_meta line = has_no_sums (meta_read line)
+abbrev pub is_meta : ℕ → Row → Bool
+is_meta archived line = has_sums archived (meta_read line)
 
 -- the key of the one row
 abbrev pub one_key : Row

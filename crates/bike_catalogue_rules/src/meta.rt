@@ -1,4 +1,4 @@
-//! The row of `meta`, which holds no sums.
+//! The row of `meta`, which holds the sums of what was archived.
 
 ghost use Rattle.std.specs.Prelude.{◌≡◌};
 ghost use Rattle.bike_sql.specs.Calls.{ReadsWhere};
@@ -9,20 +9,20 @@ ghost use Rattle.bike_catalogue_rules.specs.OneRow.{is_meta, first_meta};
 
 use crate::key::number_key;
 use bike_book::NEWEST;
-use bike_judges::{BadKey, Judge, Query, judge_lines, least};
+use bike_judges::{BadKey, Judge, Query, find_archived, is_sum_of, judge_lines, least};
 use bike_readings::{Part, read_meta};
 use bike_schema::StatementFault;
 use sqlite::{Alter, Connection, Row};
 
-/// Whether a line is a row of `meta` of the newest version with no sums.
-fn is_meta(line: &Row) -> bool
-    ensures { result ≡ is_meta line.now }
+/// Whether a line is a row of `meta` of the newest version, with sums that so many archived entries can come to.
+fn is_meta(archived: u32, line: &Row) -> bool
+    ensures { result ≡ is_meta archived line.now }
 {
     match read_meta(Part::whole(line)) {
         Some(meta) => {
             meta.version.get() == NEWEST
-                && meta.cash.hundredths() == 0
-                && meta.revenue.hundredths() == 0
+                && is_sum_of(archived, meta.cash)
+                && is_sum_of(archived, meta.revenue)
         }
         None => false,
     }
@@ -31,18 +31,20 @@ fn is_meta(line: &Row) -> bool
 /// Finds the first row of `meta` that isn't the one that has to be there, or that this is missing.
 #[derive(Drop)]
 struct MetaJudge {
+    /// How many entries were archived.
+    archived: u32,
     /// Whether the one row was there.
     seen: bool,
 }
 
 impl Judge for MetaJudge {
-    ghost says = { λ j lines verdict. first_meta is_meta j.seen lines ≡ verdict };
+    ghost says = { λ j lines verdict. first_meta (is_meta j.archived) j.seen lines ≡ verdict };
 
     fn take(&mut self, line: &Row) -> Result<Option<BadKey>, StatementFault> {
         if self.seen {
             return Ok(Some(number_key(line)?));
         }
-        if is_meta(line) {
+        if is_meta(self.archived, line) {
             self.seen = true;
             return Ok(None);
         }
@@ -57,10 +59,16 @@ impl Judge for MetaJudge {
     }
 }
 
-/// The first bad key of `meta`: its one row is of the newest version, and its cash and revenue are 0. The database
-/// stays as it is. `StoreFailed` where the store fails or was shut; `NoMemory` where memory is refused.
+/// The first bad key of `meta`: its one row is of the newest version, and its cash and revenue are what so many
+/// archived entries can come to. The database stays as it is. `StoreFailed` where the store fails or was shut;
+/// `NoMemory` where memory is refused.
 pub fn judge_meta<S: Alter>(conn: &mut Connection<S>) -> Result<Option<BadKey>, StatementFault>
     ensures { ReadsWhere S.Store IsOurs conn.old conn.new result (JudgesTable Meta) }
 {
-    judge_lines(conn, Query::Meta, MetaJudge { seen: false })
+    let books = find_archived(conn)?;
+    let judge = MetaJudge {
+        archived: books.entries,
+        seen: false,
+    };
+    judge_lines(conn, Query::Meta, judge)
 }

@@ -107,6 +107,9 @@ asks_by task file words are is =
 abbrev pub feed_by : Option AnyFeed → Option ℕ → Option Wanted
 feed_by feed at = option_and_then (λ feed. option_map (λ at. want.Feed feed at) (option_map (λ n. Some n) at)) feed
 
+abbrev pub history_by : Option ℕ → Option Wanted
+history_by number = option_map (λ (after : Option ℕ). want.History after) (option_map (λ (n : ℕ). Some n) number)
+
 abbrev pub import_by : Option Text → Option ℕ → Option Wanted
 import_by name at = option_and_then (λ name. option_map (λ at. want.Import name at) (option_map (λ n. Some n) at)) name
 
@@ -165,14 +168,14 @@ behind_day_all table date zone file name is = record {
   file_is = refl;
 }
 
-behind_history : (after : ℕ) (file text : Text) → number_of 0 9223372036854775807 text ≡ Some after
-    → Behind (OnFile (History after)) file (plain file ∷ plain text ∷ [])
+behind_history : (file : Text) → Behind (OnFile (History None)) file (plain file ∷ [])
 unfolding program clap_on_literals task_of
-behind_history after file text is = record {
-  free = refl;
-  tells = ap (option_map (λ (after : ℕ). want.History after)) is;
-  file_is = refl;
-}
+behind_history file = record { free = refl; tells = refl; file_is = refl }
+
+behind_history_after : (number : ℕ) (file text : Text) → number_of 0 9223372036854775807 text ≡ Some number
+    → Behind (OnFile (History (Some number))) file (plain file ∷ plain text ∷ [])
+unfolding program clap_on_literals task_of
+behind_history_after number file text is = record { free = refl; tells = ap history_by is; file_is = refl }
 
 behind_import : (name : Bor Text) (file : Text) → ident_of name.now ≡ Some name.now → Behind (OnFile (Import name None)) file (plain file ∷ plain name.now ∷ [])
 unfolding program clap_on_literals task_of
@@ -281,9 +284,10 @@ word_asks (OnFile (Feed feed (Some at))) file no_minus within =
     (no_minus, (feed_plain feed, (decimal_plain at (omega (arith, within)), tt)))
     (behind_feed_at feed at file (feed_name feed) (decimal at) (feed_named feed) (read_back 0 last_moment at (omega arith) (omega arith) within))
 word_asks (OnFile (Day table date zone)) file no_minus within = day_asks table date zone file
-word_asks (OnFile (History after)) file no_minus within =
-    asks_by (OnFile (History after)) file (plain file ∷ plain (decimal after) ∷ []) (no_minus, (decimal_plain after (omega (arith, within)), tt))
-    (behind_history after file (decimal after) (read_back 0 9223372036854775807 after (omega arith) (omega arith) within))
+word_asks (OnFile (History None)) file no_minus within = asks_by (OnFile (History None)) file (plain file ∷ []) (no_minus, tt) (behind_history file)
+word_asks (OnFile (History (Some number))) file no_minus within =
+    asks_by (OnFile (History (Some number))) file (plain file ∷ plain (decimal number) ∷ []) (no_minus, (decimal_plain number (omega (arith, within)), tt))
+    (behind_history_after number file (decimal number) (read_back 0 9223372036854775807 number (omega arith) (omega arith) within))
 word_asks (OnFile (Import name at)) file no_minus within = import_asks name at file within
 word_asks (Serve port None) file no_minus within =
     asks_by (Serve port None) file (plain file ∷ other (codes "--port") ∷ plain (decimal port) ∷ [])

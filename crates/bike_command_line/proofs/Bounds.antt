@@ -1,5 +1,5 @@
 -- The numbers of a task that is found lie within their bounds, and its import's name is an identifier.
-use Rattle.std.proofs.Common.{◌≡◌, ◌≤◌, ℕ, arith, refl, subst, Bool, Option, Some, None, IfSome, if◌then◌else◌, option_and_then, option_map, true, false, codes}
+use Rattle.std.proofs.Common.{◌≡◌, ◌≤◌, ℕ, refl, subst, Bool, Option, Some, None, IfSome, if◌then◌else◌, option_and_then, option_map, true, false, codes}
 use Rattle.std.specs.Str.{bytes_eq}
 use Rattle.clap.specs.Words.{Text}
 use Rattle.bike_fixed.specs.Whole.{last_moment, number_of}
@@ -8,7 +8,7 @@ use Rattle.bike_fields.specs.Bytes.{ident_of, is_ident, kept_if}
 use Rattle.bike_day_texts.specs.declared.table.DayTable.{DayTable}
 use Rattle.bike_feed_texts.specs.declared.feed.Feed.{Feed as AnyFeed}
 use Rattle.bike_command_line.specs.Program.{IsWithin}
-use Rattle.bike_command_line.specs.Asked.{Found, after_given, after_in, count_in, day_task, feed_in, feed_task, history_task, import_in, import_task, moment_in}
+use Rattle.bike_command_line.specs.Asked.{Found, after_in, count_in, day_task, feed_in, feed_task, history_task, import_in, import_task, moment_in}
 use Rattle.bike_command_line.specs.Asked.{name_in, number_given, port_in, serve_task}
 use Rattle.bike_command_line.specs.Asked.{Wanted, Feed, Day, History, Import, Serve, table_in, task_in, task_of, value_in, want_of}
 use Rattle.bike_command_line.specs.declared.task.Task.{Task}
@@ -21,7 +21,7 @@ Lies low high n = (low ≤ n) × (n ≤ high)
 -- the same of what is wanted
 abbrev IsGood : Wanted → Type 0
 IsGood (Feed feed at) = IfSome at (λ seconds. seconds ≤ last_moment)
-IsGood (History after) = after ≤ 9223372036854775807
+IsGood (History after) = IfSome after (λ number. number ≤ 9223372036854775807)
 IsGood (Import name at) = (is_ident name ≡ true) × IfSome at (λ seconds. seconds ≤ last_moment)
 IsGood (Serve port count) = (port ≤ 65535) × IfSome count (λ n. (1 ≤ n) × (n ≤ 1000000000))
 IsGood _ = Unit
@@ -71,13 +71,11 @@ day_lies (Some table) None place = tt
 day_lies (Some table) (Some date) None = tt
 day_lies (Some table) (Some date) (Some zone) = tt
 
-after_lies : (text : Option Text) → IfSome (after_given text) (Lies 0 9223372036854775807)
-after_lies None = (omega arith, omega arith)
-after_lies (Some text) = number_lies 0 9223372036854775807 text
-
-history_lies : (after : Option ℕ) → IfSome after (Lies 0 9223372036854775807) → IfSome (option_map (λ (after : ℕ). History after) after) IsGood
+history_lies : (after : Option (Option ℕ)) → IfSome after (λ given. IfSome given (Lies 0 9223372036854775807))
+    → IfSome (option_map (λ (after : Option ℕ). History after) after) IsGood
 history_lies None lies = tt
-history_lies (Some after) lies = lies.1
+history_lies (Some None) lies = tt
+history_lies (Some (Some number)) lies = lies.1
 
 kept_good : (passes : Bool) (text : Text) → is_ident text ≡ passes → IfSome (kept_if passes text) (λ name. is_ident name ≡ true)
 kept_good true text is = is
@@ -112,7 +110,7 @@ task_within name found =
     let at = given_lies 0 last_moment (value_in found (codes "at")) in
     let feed = feed_lies (feed_in found) (moment_in found) at in
     let day = day_lies (table_in found) (value_in found (codes "date")) (value_in found (codes "zone")) in
-    let history = history_lies (after_in found) (after_lies (value_in found (codes "after"))) in
+    let history = history_lies (after_in found) (given_lies 0 9223372036854775807 (value_in found (codes "after"))) in
     let stations = import_lies (import_in found) (moment_in found) (named_lies (value_in found (codes "name"))) at in
     let serve = serve_lies (port_in found) (count_in found) (wanted_lies 0 65535 (value_in found (codes "port")))
     (given_lies 1 1000000000 (value_in found (codes "count"))) in

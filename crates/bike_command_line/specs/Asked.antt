@@ -28,7 +28,7 @@ pub data Wanted : Type 0 where
   Lines : Wanted
   Feed : AnyFeed → Option ℕ → Wanted
   Day : DayTable → Text → Text → Wanted
-  History : ℕ → Wanted
+  History : Option ℕ → Wanted
   Import : Text → Option ℕ → Wanted
   Serve : ℕ → Option ℕ → Wanted
 
@@ -73,13 +73,9 @@ moment_in found = number_given 0 last_moment (value_in found (codes "at"))
 abbrev pub table_in : Found → Option DayTable
 table_in found = option_and_then table_of (value_in found (codes "which"))
 
--- the number behind which the history is wanted; 0, behind which all of it stands, where it is left out
-abbrev pub after_given : Option Text → Option ℕ
-after_given None = Some 0
-after_given (Some text) = number_of 0 GREATEST_AFTER text
-
-abbrev pub after_in : Found → Option ℕ
-after_in found = after_given (value_in found (codes "after"))
+-- the number behind which the history is wanted
+abbrev pub after_in : Found → Option (Option ℕ)
+after_in found = number_given 0 GREATEST_AFTER (value_in found (codes "after"))
 
 abbrev pub import_in : Found → Option Text
 import_in found = option_and_then ident_of (value_in found (codes "name"))

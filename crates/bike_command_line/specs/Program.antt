@@ -81,6 +81,11 @@ abbrev pub option_words : Text → Option ℕ → List Text
 option_words flag None = []
 option_words flag (Some n) = flag ∷ decimal n ∷ []
 
+-- a number by its place, where there is one
+abbrev pub number_words : Option ℕ → List Text
+number_words None = []
+number_words (Some n) = decimal n ∷ []
+
 -- Texts by their places, and the options behind them. Where one of
 -- the texts would be taken for an option, they stand behind a `--`.
 abbrev pub words_in_order : List Text → List Text → List Text
@@ -96,7 +101,7 @@ words_for (OnFile Lines) file = codes "lines" ∷ file ∷ []
 words_for (OnFile (Feed feed at)) file = codes "feed" ∷ file ∷ feed_name feed ∷ option_words (codes "--at") at
 words_for (OnFile (Day table date zone)) file =
     codes "day" ∷ words_in_order (file ∷ table_name table ∷ date.now ∷ zone.now ∷ []) []
-words_for (OnFile (History after)) file = codes "history" ∷ file ∷ decimal after ∷ []
+words_for (OnFile (History after)) file = codes "history" ∷ file ∷ number_words after
 words_for (OnFile (Import name at)) file =
     codes "import" ∷ words_in_order (file ∷ name.now ∷ []) (option_words (codes "--at") at)
 words_for (Serve port count) file =
@@ -105,7 +110,7 @@ words_for (Serve port count) file =
 -- its numbers lie within their bounds, and the name of an import is spelled as an identifier
 abbrev pub IsWithinOnFile : FileTask → Type 0
 IsWithinOnFile (Feed feed at) = IfSome at (λ seconds. seconds ≤ last_moment)
-IsWithinOnFile (History after) = after ≤ GREATEST_AFTER
+IsWithinOnFile (History after) = IfSome after (λ number. number ≤ GREATEST_AFTER)
 IsWithinOnFile (Import name at) = (is_ident name.now ≡ true) × IfSome at (λ seconds. seconds ≤ last_moment)
 IsWithinOnFile _ = Unit
 

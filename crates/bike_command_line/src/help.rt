@@ -77,7 +77,8 @@ const DAY_IS: &str = ", DATE is the day's date as 2024-03-31, and ZONE a POSIX t
      CET-1CEST,M3.5.0,M10.5.0/3.\n";
 
 const HISTORY_IS: &str =
-    "AFTER is a request's number, 0 to 9223372036854775807; all are written where it is left out.\n";
+    "AFTER is a request's number, 0 to 9223372036854775807; where it is left out, that behind which the \
+     history begins.\n";
 
 const IMPORT_IS: &str =
     "An import's NAME is 1 to 36 of a-z 0-9 _ -, and stands for the caller import:NAME.\n";

@@ -46,10 +46,10 @@ pub fn word_laws()
         (Task.OnFile (FileTask.Day DayTable.Rentals date zone)) (codes "f") }
     ensures no_table { AskNothing (parted (codes "day f riders 2024-03-31 UTC0")) }
     ensures no_zone { AskNothing (parted (codes "day f entries 2024-03-31")) }
-    // The history, whole or behind a number; nothing behind one out of its bounds, or with a leading zero or a sign.
-    ensures history { Ask (parted (codes "history f")) (Task.OnFile (FileTask.History 0)) (codes "f") }
+    // The history from its begin, or behind a number; nothing for one out of its bounds, with a leading zero or a sign.
+    ensures history { Ask (parted (codes "history f")) (Task.OnFile (FileTask.History None)) (codes "f") }
     ensures history_after { Ask (parted (codes "history f 9223372036854775807"))
-        (Task.OnFile (FileTask.History 9223372036854775807)) (codes "f") }
+        (Task.OnFile (FileTask.History (Some 9223372036854775807))) (codes "f") }
     ensures past { AskNothing (parted (codes "history f 9223372036854775808")) }
     ensures led { AskNothing (parted (codes "history f 01")) }
     ensures below { AskNothing (parted (codes "history f -1")) }

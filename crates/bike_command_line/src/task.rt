@@ -65,8 +65,8 @@ pub enum FileTask<'a> {
     },
     /// Writes the accepted requests of the history as request lines.
     History {
-        /// Those of a later number than this, which is at most `GREATEST_AFTER`; behind 0 stand all.
-        after: u64,
+        /// Those of a later number than this, which is at most `GREATEST_AFTER`, or none for the history's begin.
+        after: Option<u64>,
     },
     /// Adds the stations of standard input.
     Import {
@@ -146,14 +146,17 @@ fn import_in<'a>(matches: &ArgMatches<'a>) -> Result<&'a str, BadValue<'a>>
     Ident::checked(text).ok_or(BadValue::Bad(Value::Import, text))
 }
 
-/// The number behind which the history is asked for; 0 where it is left out.
-fn after_in<'a>(matches: &ArgMatches<'a>) -> Result<u64, BadValue<'a>>
+/// The number behind which the history is asked for, which may be left out.
+fn after_in<'a>(matches: &ArgMatches<'a>) -> Result<Option<u64>, BadValue<'a>>
     ensures { IsRead Word.History (subcommand_rows_of matches.now) (λ after. after) after_in result }
 {
     let Some(text) = value_in(matches, "after") else {
-        return Ok(0);
+        return Ok(None);
     };
-    read_whole(text, 0, GREATEST_AFTER).ok_or(BadValue::Bad(Value::After, text))
+    match read_whole(text, 0, GREATEST_AFTER) {
+        Some(number) => Ok(Some(number)),
+        None => Err(BadValue::Bad(Value::After, text)),
+    }
 }
 
 /// The port.

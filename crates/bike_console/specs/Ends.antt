@@ -32,7 +32,7 @@ use Rattle.bike_console.specs.declared.end.Fault.TheVariants.{SystemMissing, Row
 use Rattle.bike_console.specs.declared.end.Fault.TheVariants.{BadDate, BadZone, DayOutOfRange}
 use Rattle.bike_console.specs.declared.end.Fault.TheVariants.{StoreFailed, OutOfMemory, Foreign, Unsound, Older, Newer}
 use Rattle.bike_console.specs.declared.end.Fault.TheVariants.{ReadFailed, TooManyReads, WriteFailed, NoClock}
-use Rattle.bike_console.specs.declared.end.Fault.TheVariants.{BindFailed, AcceptFailed}
+use Rattle.bike_console.specs.declared.end.Fault.TheVariants.{Begins, BindFailed, AcceptFailed}
 use Rattle.bike_console.specs.Pieces.{key_text}
 
 -- the word that a fault is told by: of a port, a connection, a clock and too many reads that of a read that failed
@@ -50,6 +50,7 @@ word_of Foreign = codes "foreign"
 word_of (Unsound bad) = codes "unsound"
 word_of (Older version) = codes "older"
 word_of (Newer version) = codes "newer"
+word_of (Begins number) = codes "begins"
 word_of ReadFailed = codes "read failed"
 word_of TooManyReads = codes "read failed"
 word_of WriteFailed = codes "write failed"
@@ -61,8 +62,8 @@ word_of AcceptFailed = codes "read failed"
 abbrev pub row_detail : ℕ → List ℕ → List ℕ
 row_detail number what = codes " " ++ decimal number ++ codes " " ++ what
 
--- what is told behind the word: a row's number and what is wrong
--- with it, the table and the key of a bad row, or the version
+-- what is told behind the word: a row's number and what is wrong with it, the table and the key of a bad row, the
+-- version, or the number behind which the history begins
 abbrev pub detail_of : Fault → List ℕ
 detail_of (RowRefused number refusal) = row_detail number (refusal_name refusal)
 detail_of (RowUnreadable number) = row_detail number (codes "unreadable")
@@ -70,6 +71,7 @@ detail_of (Unsound bad) =
     codes " " ++ name_at bad.earlier (row_name bad.row).0 ++ codes " " ++ key_text (row_name bad.row).1
 detail_of (Older version) = codes " " ++ decimal version
 detail_of (Newer version) = codes " " ++ decimal version
+detail_of (Begins number) = codes " " ++ decimal number
 detail_of _ = []
 
 abbrev pub fault_status : Fault → ℕ
@@ -86,6 +88,7 @@ fault_status Foreign = 5
 fault_status (Unsound bad) = 5
 fault_status (Older version) = 5
 fault_status (Newer version) = 5
+fault_status (Begins number) = 5
 fault_status ReadFailed = 6
 fault_status TooManyReads = 6
 fault_status WriteFailed = 6

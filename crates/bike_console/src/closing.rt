@@ -30,6 +30,7 @@ fn is_log_kept(end: &Result<u64, Fault>) -> bool
             Fault::Foreign | Fault::Unsound(_) | Fault::Older(_) | Fault::Newer(_) => true,
             Fault::SystemMissing | Fault::RowRefused(_, _) | Fault::RowUnreadable(_) => false,
             Fault::BadHeader | Fault::BadDate | Fault::BadZone | Fault::DayOutOfRange => false,
+            Fault::Begins(_) => false,
             Fault::ReadFailed | Fault::TooManyReads | Fault::WriteFailed => false,
             Fault::NoClock | Fault::BindFailed | Fault::AcceptFailed => false,
         },

@@ -55,6 +55,8 @@ pub enum Fault {
     Older(u64),
     /// The database is of this later version of the schema.
     Newer(u64),
+    /// The history can be told behind this number alone, or behind a greater one.
+    Begins(u64),
     /// The input failed.
     ReadFailed,
     /// The input takes more reads than there may be.
@@ -88,6 +90,7 @@ impl Fault {
             Fault::Unsound(_) => "unsound",
             Fault::Older(_) => "older",
             Fault::Newer(_) => "newer",
+            Fault::Begins(_) => "begins",
             Fault::ReadFailed | Fault::TooManyReads | Fault::NoClock => "read failed",
             Fault::BindFailed | Fault::AcceptFailed => "read failed",
             Fault::WriteFailed => "write failed",
@@ -104,6 +107,7 @@ impl Fault {
             Fault::StoreFailed => 3,
             Fault::OutOfMemory => 4,
             Fault::Foreign | Fault::Unsound(_) | Fault::Older(_) | Fault::Newer(_) => 5,
+            Fault::Begins(_) => 5,
             Fault::ReadFailed | Fault::TooManyReads | Fault::WriteFailed => 6,
             Fault::NoClock | Fault::BindFailed | Fault::AcceptFailed => 6,
         }
@@ -274,12 +278,12 @@ impl From<sqlite::Error> for Fault {
     }
 }
 
-/// Writes a version, and a space before it.
-fn put_version<W: Output>(out: &mut W, going: bool, version: u64) -> bool
-    ensures { Puts (W.contents out.old) (W.contents out.new) (codes " " ++ decimal version) going result }
+/// Writes a version or a request's number, and a space before it.
+fn put_spaced<W: Output>(out: &mut W, going: bool, number: u64) -> bool
+    ensures { Puts (W.contents out.old) (W.contents out.new) (codes " " ++ decimal number) going result }
 {
     let going = put(out, going, b" ");
-    put_number(out, going, version)
+    put_number(out, going, number)
 }
 
 /// Writes a row's number, with a space on either side, and what is wrong with it.
@@ -305,8 +309,9 @@ fn put_detail<W: Output>(out: &mut W, going: bool, fault: &Fault) -> bool
         }
         Fault::RowRefused(number, refusal) => put_row(out, going, *number, refusal.name()),
         Fault::RowUnreadable(number) => put_row(out, going, *number, "unreadable"),
-        Fault::Older(version) => put_version(out, going, *version),
-        Fault::Newer(version) => put_version(out, going, *version),
+        Fault::Older(version) => put_spaced(out, going, *version),
+        Fault::Newer(version) => put_spaced(out, going, *version),
+        Fault::Begins(number) => put_spaced(out, going, *number),
         _ => going,
     }
 }
@@ -314,7 +319,7 @@ fn put_detail<W: Output>(out: &mut W, going: bool, fault: &Fault) -> bool
 /// Writes the fault at which the program ends, if there is one, as a line, and gives the exit status, which is the same
 /// where the output refuses a part of that line: then a front of it is written. A fault's line is its first words;
 /// `row` has the row's number behind them and the refusal's name or `unreadable`, `unsound` a table and a key, whose
-/// columns are parted by `/`, and `older` and `newer` a version.
+/// columns are parted by `/`, `older` and `newer` a version, and `begins` the number of a request.
 pub fn exit_code<W: Output>(errors: &mut W, end: &Result<u64, Fault>) -> ExitCode
     ensures status { exit_status result ≡ status_of end.now }
     ensures told { PutsLine (W.contents errors.old) (W.contents errors.new) (line_of end.now) }

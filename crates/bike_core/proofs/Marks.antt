@@ -17,7 +17,7 @@ use Rattle.bike_accepted.specs.declared.movement.DockAt.{DockAt}
 use Rattle.bike_accepted.specs.declared.movement.DockOccupant.{DockOccupant}
 use Rattle.bike_accepted.specs.declared.movement.Movement.TheVariants as moved
 use Rattle.bike_accepted.specs.Found.{AreFound}
-use Rattle.bike_core.specs.Moves.{IsShown, put_from, IsHeldShown}
+use Rattle.bike_accepted.specs.Moves.{IsShown, put_from, IsHeldShown}
 use Rattle.bike_core.proofs.Moves.{same_reach, put_found, dock_shown, held_found}
 
 pub dock_mark_found : (v : View) (station : Bor (List ℕ)) (dock : ℕ) (broken : Bool) (held : Option DockOccupant) (x : StationView) (s : Operator) (now : ℕ) → IsSound s

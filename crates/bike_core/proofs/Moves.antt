@@ -26,7 +26,7 @@ use Rattle.bike_accepted.specs.declared.movement.DockAt.{DockAt}
 use Rattle.bike_accepted.specs.declared.movement.DockOccupant.{DockOccupant}
 use Rattle.bike_accepted.specs.Effects.{bike_in, bike_put, after_moved}
 use Rattle.bike_accepted.specs.Found.{IsStationFound, IsNoOtherDock, held_bike, IsMovedFound}
-use Rattle.bike_core.specs.Moves.{IsShown, put_from, IsHeldShown}
+use Rattle.bike_accepted.specs.Moves.{IsShown, put_from, IsHeldShown}
 use Rattle.bike_core.proofs.Views.{shown_bike, empty_dock}
 
 -- ---- a bicycle put from where it stands

@@ -1,5 +1,5 @@
 -- Orders that are opened, bicycles that are loaded and unloaded: their decisions, and what was found for them.
-use Rattle.std.proofs.Common.{◌≡◌, ◌≤◌, ◌+◌, ◌==◌, ℕ, zero, suc, List, [], ◌∷◌, true, false, not, ◌&&◌, Option, Some, None, is_some, is_none, Ok, refl, sym, ap, ◌∙◌, subst, arith}
+use Rattle.std.proofs.Common.{◌≡◌, ◌≤◌, ◌+◌, ◌-◌, ◌==◌, ℕ, zero, suc, List, [], ◌∷◌, true, false, not, ◌&&◌, Option, Some, None, is_some, is_none, Ok, refl, sym, ap, ◌∙◌, subst, arith}
 use Rattle.std.specs.Prelude.{IfSome}
 use Rattle.std.specs.Borrow.{Bor}
 use Rattle.std.specs.FinMap as map
@@ -17,7 +17,7 @@ use Rattle.bike_operator.specs.declared.records.Place.TheVariants as place
 use Rattle.bike_operator.specs.declared.records.Bike.{Bike}
 use Rattle.bike_operator.specs.declared.records.Order.{Order}
 use Rattle.bike_operator.specs.declared.view.View.{View}
-use Rattle.bike_operator.specs.Operator.{Operator, Station, item_at, item_numbered, item_changed}
+use Rattle.bike_operator.specs.Operator.{Operator, Station, item_at, item_in, item_numbered, item_changed, changed_in}
 use Rattle.bike_operator.specs.Counts.{is_on_truck, is_for_order, is_broken, docked_at}
 use Rattle.bike_operator.specs.View.{view_of, station_view, truck_at, docked_view, end_view, side_view, end_at, has_end, is_in_broken_dock, is_broken_dock}
 use Rattle.bike_operator.specs.Steps.{first, tests, has_no_dock, ends_apart, order_changed, with_delivery, placed_at_end, after_unload}
@@ -34,7 +34,7 @@ use Rattle.bike_accepted.specs.declared.change.Change.TheVariants as change
 use Rattle.bike_accepted.specs.declared.accepted.Accepted.{Accepted}
 use Rattle.bike_accepted.specs.Effects.{after_moved, where_changed, Decides}
 use Rattle.bike_accepted.specs.Found.{IsMovedFound, IsFound, AreFound}
-use Rattle.bike_core.specs.Moves.{IsShown, put_from, IsPutAtEnd}
+use Rattle.bike_accepted.specs.Moves.{IsShown, put_from, IsPutAtEnd}
 use Rattle.bike_core.proofs.Moves.{after_put, away_reach, put_found, no_dock}
 use Rattle.bike_core.proofs.Views.{refused_as, shown_bike, empty_dock}
 
@@ -97,10 +97,14 @@ item_as n f g [] x there same = absurd cc
 item_as zero f g (y ∷ ys) x there same = let is : y ≡ x = cc in ap (λ z. z ∷ ys) (ap f is ∙ same ∙ sym (ap g is))
 item_as (suc n) f g (y ∷ ys) x there same = ap (λ zs. y ∷ zs) (item_as n f g ys x there same)
 
+in_as : {A : Type 0} (n : ℕ) (f g : A → A) (xs : List A) (x : A) → item_in n xs ≡ Some x → f x ≡ g x → changed_in n f xs ≡ changed_in n g xs
+in_as zero f g xs x there same = refl
+in_as (suc n) f g xs x there same = item_as n f g xs x there same
+
 -- an order that is there, changed by two functions that make the same of it
 pub order_as : (order : ℕ) (f g : Order → Order) (o : Order) (s : Operator) → item_numbered order s.orders ≡ Some o → f o ≡ g o → order_changed order f s ≡ order_changed order g s
-order_as zero f g o s there same = refl
-order_as (suc n) f g o s there same = ap (λ os. record s { orders = os }) (item_as n f g s.orders o there same)
+order_as order f g o s there same =
+    ap (λ (os : List Order). record s { orders = record s.orders { items = os } }) (in_as (order - s.orders.archived) f g s.orders.items o there same)
 
 pub close_order_decided : (v : View) (order : ℕ) (o : Order) (s : Operator) (now : ℕ) → v ≡ view_of s (command.CloseOrder order) → v.order ≡ Some o → o.is_open ≡ true → v.on_truck ≤ 0
     → Decides s now (command.CloseOrder order) (Ok (record { reply = Done; moved = None; change = Some (change.SetOrder order o.delivered false); entry = None }))

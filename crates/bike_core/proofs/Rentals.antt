@@ -1,5 +1,5 @@
 -- Rentals that start, end and are recovered, refunds and top-ups: their decisions, and what was found for them.
-use Rattle.std.proofs.Common.{◌≡◌, ℕ, ℤ, pos, ◌+◌, ◌≤◌, ◌+ℤ◌, List, [], ◌∷◌, ◌++◌, length, Bool, true, false, not, cond, Option, Some, None, is_none, Ok, refl, sym, ap, ◌∙◌, subst}
+use Rattle.std.proofs.Common.{◌≡◌, ℕ, ℤ, pos, ◌+◌, ◌≤◌, ◌+ℤ◌, List, Bool, true, false, not, cond, Option, Some, None, is_none, Ok, refl, sym, ap, ◌∙◌, subst}
 use Rattle.std.specs.Prelude.{IfSome}
 use Rattle.std.specs.Ordering.{nat_cmp, eq_by_cmp}
 use Rattle.std.specs.Cmp.{nat_cmp_total}
@@ -9,7 +9,7 @@ use Rattle.std.specs.FinMap as map
 use Rattle.std.specs.FinMap.{FinMap}
 use Rattle.bike_ledger.specs.Entries.{Entry}
 use Rattle.bike_ledger.specs.declared.entry.EntryKind.TheVariants as kind
-use Rattle.bike_ledger.specs.Ledger.{balance_of, credit}
+use Rattle.bike_ledger.specs.Ledger.{credit}
 use Rattle.bike_commands.specs.declared.command.Command.{Command}
 use Rattle.bike_commands.specs.declared.command.Command.TheVariants as command
 use Rattle.bike_commands.specs.declared.reply.Reply.TheVariants.{Balance, Started, Ended}
@@ -23,11 +23,11 @@ use Rattle.bike_operator.specs.declared.view.DockedBike.{DockedBike}
 use Rattle.bike_operator.specs.declared.view.RentalView.{RentalView}
 use Rattle.bike_operator.specs.declared.view.RiderView.{RiderView}
 use Rattle.bike_operator.specs.declared.view.View.{View}
-use Rattle.bike_operator.specs.Operator.{Operator, item_numbered}
+use Rattle.bike_operator.specs.Operator.{Operator, item_numbered, last_number}
 use Rattle.bike_operator.specs.Counts.{is_open, docked_at}
-use Rattle.bike_operator.specs.View.{view_of, docked_view, rental_of, rental_view, bike_of, rider_view}
-use Rattle.bike_operator.specs.Steps.{first, tests, fare_now, effect, reply_of, found_changed, key_changed, with_fare}
-use Rattle.bike_operator.specs.Changes.{place_of}
+use Rattle.bike_operator.specs.View.{view_of, docked_view, rental_of, rental_view, bike_of, rider_view, rider_balance}
+use Rattle.bike_operator.specs.Steps.{first, tests, fare_now, effect, reply_of, found_changed, key_changed, with_fare, plan_for}
+use Rattle.bike_operator.specs.Changes.{place_of, entry_added}
 use Rattle.bike_operator.specs.Sound.{IsSound, IsOut, IsOpenOrClosed}
 use Rattle.bike_laws.specs.SingleSteps.Laws.{IsAway}
 use Rattle.bike_laws.proofs.SingleSteps.FoundLemmas.{ridden_in, IsRentalRow, rental_row}
@@ -40,9 +40,10 @@ use Rattle.bike_accepted.specs.declared.accepted.BookedEntry.{BookedEntry}
 use Rattle.bike_accepted.specs.declared.accepted.Accepted.{Accepted}
 use Rattle.bike_accepted.specs.Effects.{bike_in, effect_of, Decides}
 use Rattle.bike_accepted.specs.Found.{IsMovedFound, IsNoOtherDock, IsAtDockFound, IsBookedFound, AreFound}
-use Rattle.bike_core.specs.Moves.{IsShown, IsRecovered}
+use Rattle.bike_accepted.specs.Moves.{IsShown}
+use Rattle.bike_core.specs.Recovered.{IsRecovered}
 use Rattle.bike_core.proofs.Moves.{IsDockedRow, docked_row}
-use Rattle.bike_core.proofs.Views.{refused_as, shown_bike, empty_dock, balance_after_entry, rental_balance, bike_balance, rental_refunds, rider_balance}
+use Rattle.bike_core.proofs.Views.{refused_as, shown_bike, empty_dock, balance_after_entry, rental_balance, bike_balance, rental_refunds, row_balance, row_plan}
 
 abbrev pub fare_entry : ℕ → RentalView → ℕ → Entry
 fare_entry number r now = record { number = number; kind = kind.Fare; rider = r.rental.rider; rental = r.number; amount = fare_now r now; at = now }
@@ -111,12 +112,12 @@ module _ (v : View) (now bike dock : ℕ) (station : Bor (List ℕ)) where
       rental : rental_of s (map.get s.bikes bike) ≡ Some r
       rental = ap (λ (w : View). w.rental) (sym e) ∙ rental_is
 
-      count : v.entries ≡ length s.entries
+      count : v.entries ≡ last_number s.entries
       count = ap (λ (w : View). w.entries) e
 
       pub end_decided : Decides s now end (Ok ended)
       end_decided =
-          let balance = balance_after_entry s.entries (fare_entry (length s.entries + 1) r now) r.balance (bike_balance s (map.get s.bikes bike) r rental) in
+          let balance = balance_after_entry s (fare_entry (last_number s.entries + 1) r now) r.balance (bike_balance s (map.get s.bikes bike) r rental) in
           let entry = fare.entry_is in
           let after = fare.balance_is in
           let type_is = shown.type_is in
@@ -163,7 +164,8 @@ module _ (v : View) (now rider dock : ℕ) (station plan type_id : Bor (List ℕ
   abbrev start : Command
   start = command.Start rider station.now dock
 
-  module _ (d : DockedBike) (passes : None ≡ first (tests v start)) (docked_is : v.docked ≡ Some d) (plan_is : plan.now ≡ d.plan) (type_is : type_id.now ≡ d.type_id) where
+  module _ (row : RiderView) (d : DockedBike) (passes : None ≡ first (tests v start)) (rider_is : v.rider ≡ Some row) (docked_is : v.docked ≡ Some d) (plan_is : plan.now ≡ plan_for row.plan d.plan)
+      (type_is : type_id.now ≡ d.type_id) where
     abbrev stood : BikeStatus
     stood = record { state = d.state; place = new.Dock station dock }
 
@@ -185,13 +187,17 @@ module _ (v : View) (now rider dock : ℕ) (station plan type_id : Bor (List ℕ
       in_dock : IsDockedRow s station.now dock d
       in_dock = docked_row s station.now dock d docked
 
+      rider_row : rider_view s rider (map.get s.riders rider) ≡ Some row
+      rider_row = ap (λ (w : View). w.rider) (sym e) ∙ rider_is
+
       pub start_decided : Decides s now start (Ok started)
       start_decided =
-          let count : v.rentals ≡ length s.rentals = ap (λ (w : View). w.rentals) e in
+          let count : v.rentals ≡ last_number s.rentals = ap (λ (w : View). w.rentals) e in
           let found = in_dock.found in
           let row_type = in_dock.type_is in
           let row_state = in_dock.state_is in
-          (refused_as s v start None e passes, rw (docked, count) refl, rw (docked, count, plan_is, type_is, found, row_type, row_state) refl)
+          let own = row_plan s rider (map.get s.riders rider) row rider_row in
+          (refused_as s v start None e passes, rw (docked, count) refl, rw (docked, count, plan_is, own, type_is, found, row_type, row_state) refl)
 
       pub start_found : IsSound s → 1 ≤ dock → AreFound now s started
       start_found sound low =
@@ -230,7 +236,7 @@ module _ (v : View) (now rental : ℕ) (r : RentalView) (booked : BookedEntry) (
     bike_there : v.bike ≡ map.get s.bikes r.rental.bike
     bike_there = ap (λ (w : View). w.bike) e ∙ ap (bike_of s) row.found
 
-    entries_are : v.entries ≡ length s.entries
+    entries_are : v.entries ≡ last_number s.entries
     entries_are = ap (λ (w : View). w.entries) e
 
     made : IsRecovered r.rental.bike (map.get s.bikes r.rental.bike) mo
@@ -246,7 +252,7 @@ module _ (v : View) (now rental : ℕ) (r : RentalView) (booked : BookedEntry) (
 
     pub recover_decided : Decides s now recovery (Ok closed)
     recover_decided =
-        let balance = balance_after_entry s.entries (fare_entry (length s.entries + 1) r now) r.balance (rental_balance s rental (item_numbered rental s.rentals) r shown) in
+        let balance = balance_after_entry s (fare_entry (last_number s.entries + 1) r now) r.balance (rental_balance s rental (item_numbered rental s.rentals) r shown) in
         let entry = fare.entry_is in
         let balance_is = fare.balance_is in
         (refused_as s v recovery None e passes, rw (entry, balance_is, shown) (ap (Ended (fare_now r now)) (sym balance)), after (map.get s.bikes r.rental.bike) refl made)
@@ -295,12 +301,12 @@ module _ (v : View) (now rental amount : ℕ) (r : RentalView) (booked : BookedE
     of : rental_view s rental (item_numbered rental s.rentals) ≡ Some r
     of = ap (λ (w : View). w.rental) (sym e) ∙ rental_is
 
-    so_many : v.entries ≡ length s.entries
+    so_many : v.entries ≡ last_number s.entries
     so_many = ap (λ (w : View). w.entries) e
 
     pub refund_decided : Decides s now refund (Ok given)
     refund_decided =
-        let balance = balance_after_entry s.entries (refund_entry (length s.entries + 1) r amount now) r.balance (rental_balance s rental (item_numbered rental s.rentals) r of) in
+        let balance = balance_after_entry s (refund_entry (last_number s.entries + 1) r amount now) r.balance (rental_balance s rental (item_numbered rental s.rentals) r of) in
         (refused_as s v refund None e passes, rw (balance_is, of) (ap Balance (sym balance)), rw (entry_is, of, so_many) refl)
 
     pub refund_found : AreFound now s given
@@ -331,21 +337,22 @@ module _ (v : View) (now rider amount : ℕ) (row : RiderView) (booked : BookedE
     known : rider_view s rider (map.get s.riders rider) ≡ Some row
     known = ap (λ (w : View). w.rider) (sym e) ∙ rider_is
 
-    numbered : v.entries ≡ length s.entries
+    numbered : v.entries ≡ last_number s.entries
     numbered = ap (λ (w : View). w.entries) e
 
     pub top_up_decided : Decides s now top_up (Ok paid)
     top_up_decided =
         let none : None ≡ first (tests v top_up) = rw (rider_is, room) refl in
-        let balance = balance_after_entry s.entries (top_up_entry (length s.entries + 1) rider amount now) row.balance (rider_balance s rider (map.get s.riders rider) row known) in
+        let balance = balance_after_entry s (top_up_entry (last_number s.entries + 1) rider amount now) row.balance (row_balance s rider (map.get s.riders rider) row known) in
         (refused_as s v top_up None e none, balance_is_reply balance, rw (entry_is, numbered) refl)
       where
-        balance_is_reply : balance_of rider (s.entries ++ top_up_entry (length s.entries + 1) rider amount now ∷ []) ≡ row.balance +ℤ pos amount → Balance booked.balance ≡ reply_of s now top_up
+        balance_is_reply : rider_balance (entry_added (Some (top_up_entry (last_number s.entries + 1) rider amount now)) s) rider ≡ row.balance +ℤ pos amount
+            → Balance booked.balance ≡ reply_of s now top_up
         balance_is_reply b = ap Balance (balance_is ∙ sym b)
 
     pub top_up_found : AreFound now s paid
     top_up_found =
-        let balance = rider_balance s rider (map.get s.riders rider) row known in
+        let balance = row_balance s rider (map.get s.riders rider) row known in
         record {
           moved = tt;
           change = tt;

@@ -1,5 +1,5 @@
 -- What a view shows of a dock, of a bicycle and of a balance.
-use Rattle.std.proofs.Common.{◌≡◌, ℕ, ℤ, pos, ◌+ℤ◌, List, [], ◌∷◌, ◌++◌, true, cond, eqb, Option, Some, None, is_some, refl, sym, ap, ◌∙◌, arith, inl, inr}
+use Rattle.std.proofs.Common.{◌≡◌, ℕ, ℤ, pos, ◌+ℤ◌, List, true, cond, eqb, Option, Some, None, is_some, refl, sym, ap, ◌∙◌, arith, inl, inr}
 use Rattle.std.specs.Prelude.{Result, Ok, Err, IfOk}
 use Rattle.std.specs.Option.{option_copied}
 use Rattle.std.specs.Borrow.{Bor}
@@ -22,9 +22,9 @@ use Rattle.bike_operator.specs.declared.view.RiderView.{RiderView}
 use Rattle.bike_operator.specs.declared.view.View.{View}
 use Rattle.bike_operator.specs.Operator.{Operator, Rider, item_numbered}
 use Rattle.bike_operator.specs.Counts.{is_dock, docked_at}
-use Rattle.bike_operator.specs.View.{view_of, rider_view, typed_bike, docked_view, rental_view, rental_of, rental_in, planned_rental}
-use Rattle.bike_operator.specs.Steps.{first, tests, refusal_of}
-use Rattle.bike_operator.specs.Changes.{text_in}
+use Rattle.bike_operator.specs.View.{view_of, before_of, rider_balance, rider_view, typed_bike, docked_view, rental_view, rental_of, rental_in, planned_rental}
+use Rattle.bike_operator.specs.Steps.{first, tests, refusal_of, own_plan}
+use Rattle.bike_operator.specs.Changes.{text_in, entry_added}
 use Rattle.bike_operator.specs.Sound.{AreBikesSound}
 use Rattle.bike_laws.proofs.SingleSteps.MapLemmas.{number_order}
 use Rattle.bike_laws.proofs.SingleSteps.CountLemmas.{found_by}
@@ -32,7 +32,7 @@ use Rattle.bike_accepted.specs.declared.movement.BikeStatus.{BikeStatus}
 use Rattle.bike_accepted.specs.declared.accepted.Accepted.{Accepted}
 use Rattle.bike_accepted.specs.Effects.{bike_in}
 use Rattle.bike_accepted.specs.Found.{FindsAt, FindsOn}
-use Rattle.bike_core.specs.Moves.{IsShown}
+use Rattle.bike_accepted.specs.Moves.{IsShown}
 
 -- the first test that holds over the view is the operator's refusal
 pub refused_as : (s : Operator) (v : View) (c : Command) (o : Option Refusal) → v ≡ view_of s c → o ≡ first (tests v c) → refusal_of s c ≡ o
@@ -62,50 +62,54 @@ equal_to_itself : (n : ℕ) → eqb n n ≡ true
 equal_to_itself n = elim (eqb_tells n n) [ inl w ↦ w.0 | inr w ↦ absurd (w.1 refl) ]
 
 -- one more entry adds its credit to its rider's balance
-pub balance_after_entry : (es : List Entry) (e : Entry) (balance : ℤ) → balance_of e.rider es ≡ balance → balance_of e.rider (es ++ e ∷ []) ≡ balance +ℤ credit e.kind e.amount
-balance_after_entry es e balance is =
-    let more = total-append (share e.rider) es e in
+pub balance_after_entry : (s : Operator) (e : Entry) (balance : ℤ) → rider_balance s e.rider ≡ balance → rider_balance (entry_added (Some e) s) e.rider ≡ balance +ℤ credit e.kind e.amount
+balance_after_entry s e balance is =
+    let more = total-append (share e.rider) s.entries.items e in
     let own : share e.rider e ≡ credit e.kind e.amount = ap (λ b. cond b (credit e.kind e.amount) (pos 0)) (equal_to_itself e.rider) in
     omega (arith, ints, more, own, is)
 
-planned_balance : (s : Operator) (number : ℕ) (r : Rental) (o : Option PlanRow) (row : RentalView) → planned_rental s number r o ≡ Some row → balance_of row.rental.rider s.entries ≡ row.balance
+planned_balance : (s : Operator) (number : ℕ) (r : Rental) (o : Option PlanRow) (row : RentalView) → planned_rental s number r o ≡ Some row → rider_balance s row.rental.rider ≡ row.balance
 planned_balance s number r None row e = absurd cc
 planned_balance s number r (Some plan) row e =
     let same = same_Some _ row e in
-    sym (ap (λ (x : RentalView). balance_of x.rental.rider s.entries) same) ∙ ap (λ (x : RentalView). x.balance) same
+    sym (ap (λ (x : RentalView). rider_balance s x.rental.rider) same) ∙ ap (λ (x : RentalView). x.balance) same
 
-pub rental_balance : (s : Operator) (number : ℕ) (o : Option Rental) (row : RentalView) → rental_view s number o ≡ Some row → balance_of row.rental.rider s.entries ≡ row.balance
+pub rental_balance : (s : Operator) (number : ℕ) (o : Option Rental) (row : RentalView) → rental_view s number o ≡ Some row → rider_balance s row.rental.rider ≡ row.balance
 rental_balance s number None row e = absurd cc
 rental_balance s number (Some r) row e = planned_balance s number r (map.get s.plans r.plan) row e
 
-place_balance : (s : Operator) (p : Place) (row : RentalView) → rental_in s p ≡ Some row → balance_of row.rental.rider s.entries ≡ row.balance
+place_balance : (s : Operator) (p : Place) (row : RentalView) → rental_in s p ≡ Some row → rider_balance s row.rental.rider ≡ row.balance
 place_balance s (place.Dock station dock) row e = absurd cc
 place_balance s (place.Rental rental) row e = rental_balance s rental (item_numbered rental s.rentals) row e
 place_balance s (place.Truck truck order) row e = absurd cc
 place_balance s place.Depot row e = absurd cc
 
-pub bike_balance : (s : Operator) (o : Option Bike) (row : RentalView) → rental_of s o ≡ Some row → balance_of row.rental.rider s.entries ≡ row.balance
+pub bike_balance : (s : Operator) (o : Option Bike) (row : RentalView) → rental_of s o ≡ Some row → rider_balance s row.rental.rider ≡ row.balance
 bike_balance s None row e = absurd cc
 bike_balance s (Some b) row e = place_balance s b.place row e
 
 -- ---- refunds
 
-planned_refunds : (s : Operator) (number : ℕ) (r : Rental) (o : Option PlanRow) (row : RentalView) → planned_rental s number r o ≡ Some row → refunded_of row.number s.entries ≡ row.refunded
+planned_refunds : (s : Operator) (number : ℕ) (r : Rental) (o : Option PlanRow) (row : RentalView) → planned_rental s number r o ≡ Some row → refunded_of row.number s.entries.items ≡ row.refunded
 planned_refunds s number r None row e = absurd cc
 planned_refunds s number r (Some plan) row e =
     let same = same_Some _ row e in
-    sym (ap (λ (x : RentalView). refunded_of x.number s.entries) same) ∙ ap (λ (x : RentalView). x.refunded) same
+    sym (ap (λ (x : RentalView). refunded_of x.number s.entries.items) same) ∙ ap (λ (x : RentalView). x.refunded) same
 
 -- a view's refunds are a sum over the entries
-pub rental_refunds : (s : Operator) (number : ℕ) (o : Option Rental) (row : RentalView) → rental_view s number o ≡ Some row → refunded_of row.number s.entries ≡ row.refunded
+pub rental_refunds : (s : Operator) (number : ℕ) (o : Option Rental) (row : RentalView) → rental_view s number o ≡ Some row → refunded_of row.number s.entries.items ≡ row.refunded
 rental_refunds s number None row e = absurd cc
 rental_refunds s number (Some r) row e = planned_refunds s number r (map.get s.plans r.plan) row e
 
 -- ---- riders
 
-pub rider_balance : (s : Operator) (rider : ℕ) (o : Option Rider) (row : RiderView) → rider_view s rider o ≡ Some row → balance_of rider s.entries ≡ row.balance
-rider_balance s rider None row e = absurd cc
-rider_balance s rider (Some r) row e = ap (λ (x : RiderView). x.balance) (same_Some _ row e)
+pub row_balance : (s : Operator) (rider : ℕ) (o : Option Rider) (row : RiderView) → rider_view s rider o ≡ Some row → before_of o +ℤ balance_of rider s.entries.items ≡ row.balance
+row_balance s rider None row e = absurd cc
+row_balance s rider (Some r) row e = ap (λ (x : RiderView). x.balance) (same_Some _ row e)
+
+pub row_plan : (s : Operator) (rider : ℕ) (o : Option Rider) (row : RiderView) → rider_view s rider o ≡ Some row → own_plan o ≡ row.plan
+row_plan s rider None row e = absurd cc
+row_plan s rider (Some r) row e = ap (λ (x : RiderView). x.plan) (same_Some _ row e)
 
 -- ---- decisions that no moment changes
 

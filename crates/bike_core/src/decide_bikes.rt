@@ -5,8 +5,9 @@ ghost use Rattle.bike_commands.specs.declared.command.Command.TheVariants as com
 ghost use Rattle.bike_accepted.specs.Effects.{DecidesOn};
 ghost use Rattle.bike_accepted.specs.Found.{FindsOn};
 
-use crate::{is_depot, is_retired, put_from, standing_of};
-use bike_accepted::{Accepted, BikeStatus, Change, Decision, Movement};
+use bike_accepted::{
+    Accepted, BikeStatus, Change, Decision, Movement, is_depot, is_retired, put_from, standing_of,
+};
 use bike_commands::Refusal;
 use bike_fields::{BicycleNumber, Ident};
 use bike_operator::{BikeState, View};

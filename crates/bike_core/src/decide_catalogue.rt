@@ -5,8 +5,7 @@ ghost use Rattle.bike_commands.specs.declared.command.Command.TheVariants as com
 ghost use Rattle.bike_accepted.specs.Effects.{DecidesAt, DecidesOn};
 ghost use Rattle.bike_accepted.specs.Found.{FindsAt, FindsOn};
 
-use crate::held_in;
-use bike_accepted::{Accepted, Change, Decision, DockAt, Movement};
+use bike_accepted::{Accepted, Change, Decision, DockAt, Movement, held_in};
 use bike_catalogue::{Plan, Settings, Station, System, VehicleType};
 use bike_commands::Refusal;
 use bike_fields::{DockCount, DockNumber, Ident, MOST_DOCKS, Position};

@@ -7,11 +7,10 @@ ghost use Rattle.bike_operator.specs.Changes.{refusal_in};
 ghost use Rattle.bike_accepted.specs.Effects.{DecidesOn};
 ghost use Rattle.bike_accepted.specs.Found.{FindsOn};
 
-use crate::{
-    end_at, ends_apart, is_at_end, is_loaded, is_retired, is_same_end, next_number, put_at_end,
-    put_from, standing_of,
+use bike_accepted::{
+    Accepted, BikeStatus, Change, Decision, end_at, ends_apart, is_at_end, is_loaded, is_retired,
+    is_same_end, next_number, put_at_end, put_from, standing_of,
 };
-use bike_accepted::{Accepted, BikeStatus, Change, Decision};
 use bike_commands::{Refusal, Reply};
 use bike_fields::{BicycleNumber, Ident, OrderNumber, OrderQuantity, TruckCapacity, TruckNumber};
 use bike_operator::{Bike, MOST_ORDERS, NewPlace, Order, View};

@@ -2,31 +2,39 @@
 
 ghost use Rattle.std.specs.Prelude.{◌≡◌, ◌+ℤ◌, ℕ, List, pos, Some, IfOk, IfSome, IsSome, true, false};
 ghost use Rattle.bike_commands.specs.declared.command.Command.TheVariants as command;
-ghost use Rattle.bike_operator.specs.Steps.{first, tests};
+ghost use Rattle.bike_operator.specs.Steps.{first, tests, plan_for};
 ghost use Rattle.bike_operator.specs.Changes.{refusal_in};
 ghost use Rattle.bike_operator.specs.Counts.{is_open};
 ghost use Rattle.bike_operator.specs.Bounds.{IsRefundable, IsBounded};
 ghost use Rattle.bike_accepted.specs.Effects.{DecidesAt};
 ghost use Rattle.bike_accepted.specs.Found.{FindsAt};
-ghost use Rattle.bike_core.specs.Moves.{IsRecovered};
+ghost use Rattle.bike_core.specs.Recovered.{IsRecovered};
 
-use crate::{
-    balance_reply, booked, closing, ended_reply, fare_booked, is_fit, is_too_much, next_entry,
-    next_number, standing_of, sum_within,
+use bike_accepted::{
+    Accepted, BikeStatus, Change, Decision, DockAt, Movement, balance_reply, booked, closing,
+    ended_reply, fare_booked, is_fit, is_too_much, next_entry, next_number, standing_of,
+    sum_within,
 };
-use bike_accepted::{Accepted, BikeStatus, Change, Decision, DockAt, Movement};
 use bike_commands::{Refusal, Reply};
 use bike_fields::{BicycleNumber, DockNumber, Ident, Payment, RentalNumber, RiderNumber};
 use bike_fixed::{Cents, Moment};
 use bike_ledger::Entry;
-use bike_operator::{Bike, BikeState, DockedBike, NewPlace, RentalView, View};
+use bike_operator::{Bike, BikeState, DockedBike, NewPlace, RentalView, RiderView, View};
 
-/// The bicycle that a rental takes from its dock, or the first refusal of a start.
-fn check_start(view: &View, dock: DockNumber) -> Result<&DockedBike, Refusal>
+/// A rental that starts: its rider, and the bicycle that it takes from its dock.
+#[derive(Clone, Copy)]
+struct Starting<'a> {
+    rider: &'a RiderView,
+    docked: &'a DockedBike,
+}
+
+/// The rental that starts with the bicycle in a dock, or the first refusal of a start.
+fn check_start(view: &View, dock: DockNumber) -> Result<Starting<'_>, Refusal>
     ensures tests { (rider : ℕ) (station : List ℕ)
         → refusal_in result ≡ first (tests view.now (command.Start rider station dock)) }
-    ensures docked { IfOk result (λ b. view.now.docked ≡ Some b.now) }
-    ensures room { IfOk result (λ b. view.now.is_ledger_full ≡ false) }
+    ensures rider { IfOk result (λ x. view.now.rider ≡ Some x.rider.now) }
+    ensures docked { IfOk result (λ x. view.now.docked ≡ Some x.docked.now) }
+    ensures room { IfOk result (λ x. view.now.is_ledger_full ≡ false) }
 {
     let Some(rider) = &view.rider else {
         return Err(Refusal::UnknownRider);
@@ -61,11 +69,21 @@ fn check_start(view: &View, dock: DockNumber) -> Result<&DockedBike, Refusal>
     if view.is_ledger_full {
         return Err(Refusal::LimitReached);
     }
-    Ok(docked)
+    Ok(Starting { rider, docked })
 }
 
-/// Decides on the start of a rental of the bicycle in a dock. By the rental-plan rule it keeps the plan of the
+/// The plan that a rental keeps, by the rental-plan rule: its rider's own or, where the rider has none, that of the
 /// bicycle's type.
+fn plan_for<'a>(own: &'a Option<Ident>, default: &'a Ident) -> &'a Ident
+    ensures { result.now ≡ plan_for own.now default.now }
+{
+    match own {
+        None => default,
+        Some(plan) => plan,
+    }
+}
+
+/// Decides on the start of a rental of the bicycle in a dock.
 pub(crate) fn decide_start<'a>(
     view: &'a View,
     now: Moment,
@@ -77,10 +95,11 @@ pub(crate) fn decide_start<'a>(
     ensures decides { DecidesAt now view.now (command.Start rider station.now dock) result }
     ensures found { IfOk result (FindsAt now view.now (command.Start rider station.now dock)) }
 {
-    let docked = match check_start(view, dock) {
-        Ok(docked) => docked,
+    let starting = match check_start(view, dock) {
+        Ok(starting) => starting,
         Err(refusal) => return Err(refusal),
     };
+    let docked = starting.docked;
     let rental = next_number(view.rentals);
     let bike = docked.bike;
     let dock = dock.get();
@@ -110,7 +129,7 @@ pub(crate) fn decide_start<'a>(
         rental: rental.get(),
         rider: rider.get(),
         bike: bike.get(),
-        plan: &docked.plan,
+        plan: plan_for(&starting.rider.plan, &docked.plan),
         from_station: station,
         start: now,
     };

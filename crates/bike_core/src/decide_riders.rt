@@ -6,8 +6,7 @@ ghost use Rattle.bike_accepted.specs.Effects.{DecidesAt, DecidesOn};
 ghost use Rattle.bike_operator.specs.Bounds.{IsBounded};
 ghost use Rattle.bike_accepted.specs.Found.{FindsAt, FindsOn};
 
-use crate::{balance_reply, booked, next_entry};
-use bike_accepted::{Accepted, Change, Decision};
+use bike_accepted::{Accepted, Change, Decision, balance_reply, booked, next_entry};
 use bike_commands::Refusal;
 use bike_fields::{Payment, RiderNumber};
 use bike_fixed::Moment;

@@ -1,5 +1,5 @@
 -- No accepted request takes it from an operator that each open rental is its rider's newest.
-use Rattle.std.proofs.Common.{◌≡◌, ◌⊎◌, ℕ, zero, suc, ◌+◌, ◌≤◌, List, [], ◌∷◌, ◌++◌, length, Bool, true, false, ◌&&◌, ◌==◌, Option, Some, None, refl, sym, ap, subst, ◌∙◌, arith, inl, inr}
+use Rattle.std.proofs.Common.{◌≡◌, ◌⊎◌, ℕ, zero, suc, ◌+◌, ◌-◌, ◌≤◌, List, [], ◌∷◌, Bool, true, false, ◌&&◌, ◌==◌, Option, Some, None, refl, sym, ap, subst, ◌∙◌, arith, inl, inr}
 use Rattle.std.specs.Prelude.{max}
 use Rattle.std.specs.List.{list_any}
 use Rattle.std.specs.FinMap as map
@@ -14,10 +14,10 @@ use Rattle.bike_operator.specs.declared.records.Rental.{Rental}
 use Rattle.bike_operator.specs.declared.records.Closing.{Closing}
 use Rattle.bike_operator.specs.declared.view.DockedBike.{DockedBike}
 use Rattle.bike_operator.specs.declared.view.RentalView.{RentalView}
-use Rattle.bike_operator.specs.Operator.{Operator, AcceptedRequest, item_at, item_numbered, number_changed, key_in, kept_under}
+use Rattle.bike_operator.specs.Operator.{Operator, AcceptedRequest, Numbered, item_at, item_in, item_numbered, number_changed, last_number, with_item, key_in, kept_under}
 use Rattle.bike_operator.specs.Counts.{is_open, is_riding, docked_at}
 use Rattle.bike_operator.specs.View.{view_of, docked_view, rental_view, rental_of}
-use Rattle.bike_operator.specs.Steps.{tests, refusal_of, after_start, after_end, after_recovery, refunded_by, effect}
+use Rattle.bike_operator.specs.Steps.{tests, refusal_of, plan_for, own_plan, after_start, after_end, after_recovery, refunded_by, effect}
 use Rattle.bike_operator.specs.Runs.{step, outcome, outcome_with_kept}
 use Rattle.bike_laws.proofs.SingleSteps.ItemLemmas.{number_or_last, number_within, IsTurned, Here, Elsewhere, number_turned}
 use Rattle.bike_laws.proofs.SingleSteps.TestLemmas.{none_holds}
@@ -30,7 +30,7 @@ use Rattle.bike_office_reads.specs.Newest.{NewestTells}
 same_tell : (s next : Operator) → next.rentals ≡ s.rentals → NewestTells s → NewestTells next
 same_tell s next same tells a b q r i j = tells a b q r (before a q i) (before b r j) where
   before : (n : ℕ) (x : Rental) → item_numbered n next.rentals ≡ Some x → item_numbered n s.rentals ≡ Some x
-  before n x i = ap (λ (rs : List Rental). item_numbered n rs) (sym same) ∙ i
+  before n x i = ap (λ (rs : Numbered Rental). item_numbered n rs) (sym same) ∙ i
 
 -- ---- a rental begins
 
@@ -41,15 +41,17 @@ not_any test (suc n) (y ∷ ys) x none i = not_any test n ys x (or_parts (test y
 
 -- a rider who isn't riding has no open rental
 none_open : (s : Operator) (rider n : ℕ) (x : Rental) → is_riding s rider ≡ false → item_numbered n s.rentals ≡ Some x → is_open x ≡ true → x.rider ≡ rider → ⊥
-none_open s rider zero x idle i ongoing his = absurd cc
-none_open s rider (suc n) x idle i ongoing his =
-    let test = not_any (λ r. (r.rider == rider) && is_open r) n s.rentals x idle i in
-    let equal : (x.rider == rider) ≡ true = elim (eqb_tells x.rider rider) [ inl w ↦ w.0 | inr w ↦ absurd (w.1 his) ] in
-    let holds : ((x.rider == rider) && is_open x) ≡ true = ap (λ (b : Bool). b && is_open x) equal ∙ ongoing in
-    absurd cc
+none_open s rider n x idle i ongoing his = at (n - s.rentals.archived) i where
+  at : (k : ℕ) → item_in k s.rentals.items ≡ Some x → ⊥
+  at zero found = absurd cc
+  at (suc k) found =
+      let test = not_any (λ r. (r.rider == rider) && is_open r) k s.rentals.items x idle found in
+      let equal : (x.rider == rider) ≡ true = elim (eqb_tells x.rider rider) [ inl w ↦ w.0 | inr w ↦ absurd (w.1 his) ] in
+      let holds : ((x.rider == rider) && is_open x) ≡ true = ap (λ (b : Bool). b && is_open x) equal ∙ ongoing in
+      absurd cc
 
 -- the new rental is the last, and the rider has no other that is open
-added_tell : (s next : Operator) (x : Rental) → next.rentals ≡ s.rentals ++ x ∷ [] → is_riding s x.rider ≡ false → NewestTells s → NewestTells next
+added_tell : (s next : Operator) (x : Rental) → next.rentals ≡ with_item x s.rentals → is_riding s x.rider ≡ false → NewestTells s → NewestTells next
 added_tell s next x is idle tells a b q r i j ongoing same = elim (now a q i) [
   | inl old ↦ elim (now b r j) [
     | inl also ↦ tells a b q r old also ongoing same
@@ -60,8 +62,8 @@ added_tell s next x is idle tells a b q r i j ongoing same = elim (now a q i) [
     | inr new ↦ omega (arith, last.0, new.0)
   ]
 ] where
-  now : (n : ℕ) (y : Rental) → item_numbered n next.rentals ≡ Some y → (item_numbered n s.rentals ≡ Some y) ⊎ (n ≡ length s.rentals + 1) × (y ≡ x)
-  now n y k = number_or_last n s.rentals x y (ap (λ (rs : List Rental). item_numbered n rs) (sym is) ∙ k)
+  now : (n : ℕ) (y : Rental) → item_numbered n next.rentals ≡ Some y → (item_numbered n s.rentals ≡ Some y) ⊎ (n ≡ last_number s.rentals + 1) × (y ≡ x)
+  now n y k = number_or_last n s.rentals x y (ap (λ (rs : Numbered Rental). item_numbered n rs) (sym is) ∙ k)
 
 -- ---- a rental ends
 
@@ -70,7 +72,7 @@ closed_tell : (s next : Operator) (n : ℕ) (c : Closing) → next.rentals ≡ n
 closed_tell s next n c is tells a b q r i j ongoing same = by (number_turned n (closed_by c) s.rentals a q (now a q i)) (number_turned n (closed_by c) s.rentals b r (now b r j))
   where
     now : (k : ℕ) (y : Rental) → item_numbered k next.rentals ≡ Some y → item_numbered k (number_changed n (closed_by c) s.rentals) ≡ Some y
-    now k y h = ap (λ (rs : List Rental). item_numbered k rs) (sym is) ∙ h
+    now k y h = ap (λ (rs : Numbered Rental). item_numbered k rs) (sym is) ∙ h
 
     by : IsTurned (closed_by c) n a (item_numbered n s.rentals) (item_numbered a s.rentals) q → IsTurned (closed_by c) n b (item_numbered n s.rentals) (item_numbered b s.rentals) r → b ≤ a
     by (Here x at found turned) other = absurd (let shut : is_open q ≡ false = ap (λ (z : Rental). is_open z) turned in cc)
@@ -85,7 +87,8 @@ closed_tell s next n c is tells a b q r i j ongoing same = by (number_turned n (
 started : (s : Operator) (now rider : ℕ) (station : List ℕ) (o : Option DockedBike) → is_riding s rider ≡ false → NewestTells s → NewestTells (after_start rider station now o s)
 started s now rider station None idle tells = tells
 started s now rider station (Some b) idle tells =
-    added_tell s (after_start rider station now (Some b) s) (record { rider = rider; bike = b.bike; plan = b.plan; from_station = station; start = now; closing = None }) refl idle tells
+    added_tell s (after_start rider station now (Some b) s)
+    (record { rider = rider; bike = b.bike; plan = plan_for (own_plan (map.get s.riders rider)) b.plan; from_station = station; start = now; closing = None }) refl idle tells
 
 ended : (s : Operator) (now bike : ℕ) (station : List ℕ) (dock : ℕ) (o : Option RentalView) → NewestTells s → NewestTells (after_end bike station dock now o s)
 ended s now bike station dock None tells = tells
@@ -121,4 +124,4 @@ answered s t q None tells = decided s (max t s.now) q (refusal_of s q.command) r
 
 -- A request leaves each open rental its rider's newest.
 pub step_tells : (s : Operator) (t : ℕ) (q : Request) → NewestTells s → NewestTells (step s t q).1
-step_tells s t q tells = answered s t q (kept_under (key_in q) s.history) tells
+step_tells s t q tells = answered s t q (kept_under (key_in q) s.history.items) tells

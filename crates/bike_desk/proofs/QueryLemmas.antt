@@ -1,5 +1,5 @@
 -- What a query owes, from what its one read tells.
-use Rattle.std.proofs.Common.{◌≡◌, Bool, ◌||◌, true, false, IsTrue, Option, Some, Result, Ok, Err, refl, sym, ap, subst, ◌∙◌, arith}
+use Rattle.std.proofs.Common.{◌≡◌, ℕ, IfOk, Bool, ◌||◌, true, false, IsTrue, Option, Some, Result, Ok, Err, refl, sym, ap, subst, ◌∙◌, arith}
 use Rattle.sqlite_trees.specs.declared.store.Store.{Ghosts}
 use Rattle.sqlite.specs.Held.{Held, state}
 use Rattle.bike_operator.specs.Operator.{Operator}
@@ -17,7 +17,8 @@ use Rattle.bike_desk.specs.declared.remembered.DeskMemory.{DeskMemory}
 use Rattle.bike_desk.specs.Desk.{DeskValue, desk_state, IsAt, IsRemembered}
 use Rattle.bike_desk.specs.Newest.{knows_newest}
 use Rattle.bike_desk.specs.declared.newest.Newest.{Newest}
-use Rattle.bike_desk.specs.Queries.{Queries, TellsOf}
+use Rattle.bike_queries.specs.Requests.{history_begin}
+use Rattle.bike_desk.specs.Queries.{BeginsAt, Queries, TellsOf}
 use Rattle.bike_desk.proofs.KeepLemmas.{kept_ours, kept_stores, quiet, still, still_going}
 
 going_stays : (stopped before after : Bool) → (stopped || before) ≡ false → (before ≡ false → after ≡ false) → (stopped || after) ≡ false
@@ -127,6 +128,14 @@ module _ {S : Type 0} (g : Ghosts S) (conn next : Held S) (stopped : Bool) (newe
   pub queries : (read : Result A StatementFault) (new : DeskValue S) (result : Result A DeskFault) → Answers g conn next read (λ s m. says s) → TellsOf read after new result
       → Queries g before new result says
   queries read new result reads tells = queries_knowing read new result (reads_weaker reads (λ db y is s h known. is s h)) tells
+
+  -- what was read of the history's begin is so of each way in which the operator's tables stand there
+  pub begins : (read : Result ℕ StatementFault) (new : DeskValue S) (result : Result ℕ DeskFault) → Answers g conn next read (λ s m number. number ≡ history_begin m.since s)
+      → TellsOf read after new result → HasCleanDisk (desk_state g new) → (s : Operator) → IsAt g before s → IfOk result (BeginsAt (state g conn).now s)
+  begins (Ok x) new result reads tells clean s at =
+      subst (λ (r : Result ℕ DeskFault). IfOk r (BeginsAt (state g conn).now s)) (sym tells.0)
+      (λ h. reads.found (subst (λ (d : DeskValue S). HasCleanDisk (desk_state g d)) tells.1 clean) (kept_ours (state g conn) s at.keeps) s h)
+  begins (Err e) new result reads tells clean s at = subst (λ (r : Result ℕ DeskFault). IfOk r (BeginsAt (state g conn).now s)) (sym tells.0) tt
 
 -- what is remembered is told, and nothing is read
 pub told_now : {S : Type 0} (g : Ghosts S) (desk : DeskValue S) (figures : Figures) → desk.is_stopped ≡ false → desk.remembered.figures ≡ Some figures

@@ -37,7 +37,7 @@ module _ {S : Type 0} (g : Ghosts S) (old mid new : Held S) (s : Operator) (mome
   pub both_read : (command : Command) → command ≡ q.command → Keeps (state g old) s → HasCleanDisk (state g new)
       → AnswersOpen g old mid {E = StatementFault} (Ok figures) (λ s m x. AreFigures r.figures s → x ≡ figures_of s)
       → Answers g mid new {E = StatementFault} (Ok x) (λ s m x. IsKnown s known → IsFoundFor s m command x)
-      → IsRemembered s r → moment ≤ last_moment → now ≡ max moment figures.now → kept_under (key_in q) s.history ≡ None → Keeps (state g new) s × IsReadFor (state g new).now s moment now q figures x
+      → IsRemembered s r → moment ≤ last_moment → now ≡ max moment figures.now → kept_under (key_in q) s.history.items ≡ None → Keeps (state g new) s × IsReadFor (state g new).now s moment now q figures x
   both_read command is keeps clean one seen remembers in_time later anew =
       let two = subst (λ (c : Command). Answers g mid new {E = StatementFault} (Ok x) (λ s m x. IsKnown s known → IsFoundFor s m c x)) is seen in
       let first = one.answers keeps.is_open in

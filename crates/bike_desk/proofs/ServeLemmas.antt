@@ -49,7 +49,7 @@ use Rattle.bike_desk.proofs.KeepLemmas.{kept_ours, still}
 
 module _ (s : Operator) (t : ℕ) (q : Request) where
   -- a kept key
-  pub step_kept : (o : Option AcceptedRequest) (row : KeptRow) (text : List ℕ) → kept_under (key_in q) s.history ≡ o → KeepsSame o (Some row) → text ≡ text_of q.command
+  pub step_kept : (o : Option AcceptedRequest) (row : KeptRow) (text : List ℕ) → kept_under (key_in q) s.history.items ≡ o → KeepsSame o (Some row) → text ≡ text_of q.command
       → (cond (bytes_eq (string_bytes row.command) text) row.reply (Refused refusal.KeyReused) ≡ (step s t q).0) × (s ≡ (step s t q).1)
   step_kept None row text found same is = absurd same
   step_kept (Some k) row text found same is =
@@ -59,11 +59,11 @@ module _ (s : Operator) (t : ℕ) (q : Request) where
         sym (ap (λ (p : Reply × Operator). p.1) is_step),
       )
 
-  pub none_kept : (o : Option AcceptedRequest) → kept_under (key_in q) s.history ≡ o → KeepsSame o None → kept_under (key_in q) s.history ≡ None
+  pub none_kept : (o : Option AcceptedRequest) → kept_under (key_in q) s.history.items ≡ o → KeepsSame o None → kept_under (key_in q) s.history.items ≡ None
   none_kept None found same = found
   none_kept (Some k) found same = absurd same
 
-  module _ (now : ℕ) (later : now ≡ max t s.now) (anew : kept_under (key_in q) s.history ≡ None) where
+  module _ (now : ℕ) (later : now ≡ max t s.now) (anew : kept_under (key_in q) s.history.items ≡ None) where
     -- a refusal
     pub step_refused : (r : Refusal) → Decides s now q.command (Err r) → step s t q ≡ (Refused r, s)
     step_refused r decides = ap (outcome_with_kept s t q) anew ∙ ap (outcome s (max t s.now) q) decides
@@ -78,10 +78,10 @@ module _ (s : Operator) (t : ℕ) (q : Request) where
     accepted_sound moment good order free = subst (λ (p : Reply × Operator). IsSound p.1) (step_accepted free) (step_sound s t q moment good order)
 
 -- an accepted request keeps its key, so it doesn't leave the operator as it was
-pub acceptance_moves : (s : Operator) (t : ℕ) (q : Request) → kept_under (key_in q) s.history ≡ None → refusal_of s q.command ≡ None → (step s t q).1 ≡ s → ⊥
+pub acceptance_moves : (s : Operator) (t : ℕ) (q : Request) → kept_under (key_in q) s.history.items ≡ None → refusal_of s q.command ≡ None → (step s t q).1 ≡ s → ⊥
 acceptance_moves s t q anew free same =
     let kept = first_kept s t q (ap₂ (λ k r. is_none k && is_none r) anew free) in
-    let none : kept_under (key_in q) (step s t q).1.history ≡ None = ap (λ (o : Operator). kept_under (key_in q) o.history) same ∙ anew in cc
+    let none : kept_under (key_in q) (step s t q).1.history.items ≡ None = ap (λ (o : Operator). kept_under (key_in q) o.history.items) same ∙ anew in cc
 
 -- what is booked leads on
 pub booked_next : (c : State) (s : Operator) (now : ℕ) (q : Request) (h : Stores c.now s) (rows : List RowChange) → Keeps c s → IsSound (after_acceptance s now q) → Books rows s h.listed now q

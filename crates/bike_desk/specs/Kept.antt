@@ -44,7 +44,7 @@ ForEachStored g old new now a n number texts says =
 
 -- nothing is kept under the request's key
 abbrev pub IsAnew : Operator → RequestTexts → Type 0
-IsAnew s asked = kept_under (key_in asked.request.now) s.history ≡ None
+IsAnew s asked = kept_under (key_in asked.request.now) s.history.items ≡ None
 
 -- The database stays as it was where the operator does.
 abbrev pub StaysWith : {S A E : Type 0} → Ghosts S → Held S → Held S → Operator → Operator → Result A E → Type 0

@@ -1,5 +1,5 @@
 -- What serving one request rests on.
-use Rattle.std.specs.Prelude.{◌≡◌, ◌≤◌, ◌+◌, ℕ, max, List, length, Option, None, Ok}
+use Rattle.std.specs.Prelude.{◌≡◌, ◌≤◌, ◌+◌, ℕ, max, List, Option, None, Ok}
 use Rattle.std.specs.FinMap as map
 use Rattle.sqlite.specs.Effect.{Database}
 use Rattle.sqlite.specs.State.{State}
@@ -9,7 +9,7 @@ use Rattle.bike_commands.specs.declared.command.Command.{Command}
 use Rattle.bike_commands.specs.declared.reply.Reply.{Reply}
 use Rattle.bike_commands.specs.declared.request.Request.{Request}
 use Rattle.bike_commands.specs.Commands.{text_of}
-use Rattle.bike_operator.specs.Operator.{Operator, key_in, kept_under}
+use Rattle.bike_operator.specs.Operator.{Operator, key_in, kept_under, last_number}
 use Rattle.bike_operator.specs.View.{view_of}
 use Rattle.bike_operator.specs.Runs.{after_acceptance}
 use Rattle.bike_operator.specs.Sound.{IsSound}
@@ -60,7 +60,7 @@ pub record IsReadFor (db : Database) (s : Operator) (moment now : ℕ) (q : Requ
     (x : ViewAndDocks) : Type 0 where
   pub in_time : moment ≤ last_moment
   pub later : now ≡ max moment s.now
-  pub anew : kept_under (key_in q) s.history ≡ None
+  pub anew : kept_under (key_in q) s.history.items ≡ None
   pub figures_are : figures ≡ figures_of s
   pub view_is : x.view ≡ view_of s q.command
   pub found_for : IsFoundIn db s q.command x
@@ -72,7 +72,7 @@ pub record Accepts (s : Operator) (now : ℕ) (q : Request) (a : Accepted) (afte
   pub later : s.now ≤ now
   pub decides : Decides s now q.command (Ok a)
   pub found : AreFound now s a
-  pub number_is : after.requests ≡ length s.history + 1
+  pub number_is : after.requests ≡ last_number s.history + 1
   pub sound_after : IsSound (after_acceptance s now q)
   pub texts_are : AreTexts s now q texts
 

@@ -16,7 +16,7 @@ use Rattle.bike_book.proofs.MapRows.{both, below_has, has_get}
 
 -- numbers that rise from above a least one are at most as many as the last is above it
 rising : (least : ℕ) (e : ℕ × Bike) (es : List (ℕ × Bike)) → least < e.0 → T (is_sorted nat_cmp (e ∷ es))
-    → (n : ℕ) × IsLast n (slice_get (last_of (map stored_bike (e ∷ es))) 0) × (least + length (e ∷ es) ≤ n)
+    → (n : ℕ) × IsLast 0 n (slice_get (last_of (map stored_bike (e ∷ es))) 0) × (least + length (e ∷ es) ≤ n)
 rising least e [] above sorted = (e.0, refl, omega (arith, above))
 rising least e (f ∷ es) above sorted =
     let parts = both (below_all nat_cmp e.0 (f ∷ es)) (is_sorted nat_cmp (f ∷ es)) sorted in
@@ -24,12 +24,12 @@ rising least e (f ∷ es) above sorted =
     let rest = rising e.0 f es next parts.1 in
     (rest.0, rest.1, omega (arith, above, rest.2))
 
-pub bikes_at_most : WhereListed (λ s m. (n : ℕ) × IsLast n (last_row s m Bikes) × (fin.len s.bikes ≤ n))
+pub bikes_at_most : WhereListed (λ s m. (n : ℕ) × IsLast 0 n (last_row s m Bikes) × (fin.len s.bikes ≤ n))
 bikes_at_most s m sound listing =
     let it = at_most (fin.entries s.bikes) (λ e has. (sound.bikes.bikes e.0 e.1 (has_get numbers.total s.bikes e has)).low) (fin.entries_sorted s.bikes) in
     (it.0, it.1, omega (arith, it.2, fin.len-entries s.bikes))
   where
-    at_most : (es : List (ℕ × Bike)) → ((e : ℕ × Bike) → Has es e → 1 ≤ e.0) → T (is_sorted nat_cmp es) → (n : ℕ) × IsLast n (slice_get (last_of (map stored_bike es)) 0) × (length es ≤ n)
+    at_most : (es : List (ℕ × Bike)) → ((e : ℕ × Bike) → Has es e → 1 ≤ e.0) → T (is_sorted nat_cmp es) → (n : ℕ) × IsLast 0 n (slice_get (last_of (map stored_bike es)) 0) × (length es ≤ n)
     at_most [] low sorted = (0, refl, omega arith)
     at_most (e ∷ es) low sorted = let it = rising 0 e es (omega (arith, low e (inl refl))) sorted in (it.0, it.1, omega (arith, it.2))
 

@@ -38,7 +38,7 @@ pub fn no_docks() -> DockTotal
 
 /// The number with which the last row begins, 0 where there is none.
 pub(crate) fn last_of(row: &Option<Row>) -> Result<u32, StatementFault>
-    ensures { IfOk result (λ n. (last : ℕ) → IsLast last row.now → n ≡ last) }
+    ensures { IfOk result (λ n. (last : ℕ) → IsLast 0 last row.now → n ≡ last) }
 {
     match row {
         Some(row) => whole_at(row, 0),

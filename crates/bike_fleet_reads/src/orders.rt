@@ -1,9 +1,9 @@
 //! The statements on `orders`.
 
-ghost use Rattle.std.specs.Prelude.{◌≡◌, [], ◌∷◌, true, IfOk, codes, length};
+ghost use Rattle.std.specs.Prelude.{◌≡◌, [], ◌∷◌, true, IfOk, codes};
 ghost use Rattle.sqlite.specs.declared.types.Value.TheVariants.{Text};
 ghost use Rattle.sqlite.specs.Order.{column};
-ghost use Rattle.bike_operator.specs.Operator.{item_numbered};
+ghost use Rattle.bike_operator.specs.Operator.{item_numbered, last_number};
 ghost use Rattle.bike_book.specs.Tables.{Orders};
 ghost use Rattle.bike_book.specs.Rows.{number_value};
 ghost use Rattle.bike_book.specs.Found.{row_under, last_row};
@@ -136,7 +136,7 @@ pub fn find_order<S: Alter>(
 
 /// How many orders there are, by the last one's number.
 pub fn order_count<S: Alter>(conn: &mut Connection<S>) -> Result<u32, StatementFault>
-    ensures { Answers S.Store conn.old conn.new result (λ s m x. x ≡ length s.orders) }
+    ensures { Answers S.Store conn.old conn.new result (λ s m x. x ≡ last_number s.orders) }
 {
     let row = select_last_order(conn)?;
     last_of(&row)

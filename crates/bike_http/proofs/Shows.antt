@@ -28,7 +28,7 @@ pub order_shown : (n : ℕ) (o : Option Order) → order_answer n o ≡ shown_or
 order_shown n None = refl
 order_shown n (Some order) = refl
 
-pub rental_shown : (s : Operator) (n : ℕ) (o : Option Rental) → rental_answer n (option_map (rental_info (refunded_of n s.entries)) o) ≡ shown_or_not_found (shown_rental s n) o
+pub rental_shown : (s : Operator) (n : ℕ) (o : Option Rental) → rental_answer n (option_map (rental_info (refunded_of n s.entries.items)) o) ≡ shown_or_not_found (shown_rental s n) o
 rental_shown s n None = refl
 rental_shown s n (Some r) = refl
 

@@ -1,9 +1,10 @@
 -- What an operator shows: the row that is asked for, or a page of its history.
 use Rattle.std.specs.Prelude.{ℕ, Option, Some, None}
 use Rattle.std.specs.FinMap as map
-use Rattle.bike_ledger.specs.Ledger.{balance_of, refunded_of}
+use Rattle.bike_ledger.specs.Ledger.{refunded_of}
 use Rattle.bike_operator.specs.declared.records.Rental.{Rental}
 use Rattle.bike_operator.specs.Operator.{Operator, Rider, item_numbered}
+use Rattle.bike_operator.specs.View.{rider_balance}
 use Rattle.bike_office_reads.specs.Newest.{open_number}
 use Rattle.bike_queries.specs.Infos.{rental_info}
 use Rattle.bike_queries.specs.Requests.{request_page}
@@ -26,13 +27,13 @@ shown_rider s n r =
     answer.Rider (record {
       rider = n;
       blocked = r.is_blocked;
-      balance = balance_of n s.entries;
+      balance = rider_balance s n;
       rental = open_number s n;
     })
 
 -- a closed rental is shown with its refunds
 abbrev pub shown_rental : Operator → ℕ → Rental → Answer
-shown_rental s n r = answer.Rental n (rental_info (refunded_of n s.entries) r)
+shown_rental s n r = answer.Rental n (rental_info (refunded_of n s.entries.items) r)
 
 -- what is shown of an operator; a page without a request is one too
 abbrev pub shown_of : Operator → RowKey → Answer

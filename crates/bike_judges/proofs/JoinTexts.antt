@@ -1,7 +1,7 @@
 -- The queries that answer each row of a table with its partner in another.
 use Rattle.std.proofs.Common.{ℕ, List, [], ◌∷◌, ◌++◌, refl}
 use Rattle.bike_sql.proofs.SelectLaws.{rows_joined}
-use Rattle.bike_book.specs.Tables.{Plans, Segments, Types, Regions, Stations, Docks, Bikes, Trucks, Rentals, Entries}
+use Rattle.bike_book.specs.Tables.{Plans, Segments, Types, Regions, Stations, Docks, Bikes, Trucks, Riders, Rentals, Entries}
 use Rattle.bike_book.specs.declared.columns.plans.TheConstants as plans
 use Rattle.bike_book.specs.declared.columns.regions.TheConstants as regions
 use Rattle.bike_book.specs.declared.columns.stations.TheConstants as stations
@@ -35,6 +35,11 @@ docks_lines is db has =
 pub bike_trucks_lines : {text : List ℕ} → IsJoinOf Bikes Trucks (6 ∷ []) text → AsksLines text query.BikeTrucks
 bike_trucks_lines is db has =
     rows_joined (table_key Bikes) (table_key Trucks) (has Bikes) (has Trucks) (6 ∷ []) (columns_in 1 Bikes ++ columns_in 2 Trucks) (with_one trucks.COLUMNS) is refl (λ r. refl) (λ r. refl)
+    (λ r s. refl)
+
+pub rider_rows_lines : {text : List ℕ} → IsJoinOf Riders Plans (4 ∷ []) text → AsksLines text query.RiderRows
+rider_rows_lines is db has =
+    rows_joined (table_key Riders) (table_key Plans) (has Riders) (has Plans) (4 ∷ []) (columns_in 1 Riders ++ columns_in 2 Plans) (with_one plans.COLUMNS) is refl (λ r. refl) (λ r. refl)
     (λ r s. refl)
 
 pub entry_rentals_lines : {text : List ℕ} → IsJoinOf Entries Rentals (3 ∷ []) text → AsksLines text query.EntryRentals

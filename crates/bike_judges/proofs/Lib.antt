@@ -19,4 +19,7 @@ pub mod ApartLines
 pub mod QueryLaws
 pub mod ReadsLaw
 pub mod Lookups
+pub mod SumLaws
+mod OneRow
 mod Moments
+mod ArchivedLaw

@@ -14,7 +14,7 @@ use Rattle.bike_sql.proofs.RowListLemmas.{map_has}
 use Rattle.bike_sql.proofs.OrderLemmas.{order_has}
 use Rattle.bike_sql.proofs.TreeLemmas.{by_key_total}
 use Rattle.bike_book.specs.Tables.{TableName, Tables, rows_in, keys_of, Meta, System, Plans, Segments, Types, Regions, Stations, Docks, Bikes, Trucks, Riders, Rentals, Orders, Entries, History}
-use Rattle.bike_book.specs.Tables.{MoreNames}
+use Rattle.bike_book.specs.Tables.{MoreNames, Books}
 use Rattle.bike_schema.specs.Layouts.{layout_of}
 use Rattle.bike_schema.specs.Tables.{tables_of, HasTables}
 use Rattle.bike_schema.proofs.MakesLemmas.{rows_of_table}
@@ -58,6 +58,7 @@ stored_whole db has name row there = let wide = stored_width db has name row the
     fits Entries = omega arith
     fits History = omega arith
     fits MoreNames = omega arith
+    fits Books = omega arith
 
 -- a line that begins with a stored row begins with its key
 pub joined_key : (db : Database) → HasTables db → (name : TableName) (row : Row) → Has (rows_in (tables_of db) name) row → (more : Row) → take (keys_of name) (row ++ more) ≡ take (keys_of name) row

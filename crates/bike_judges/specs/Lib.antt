@@ -7,3 +7,5 @@ pub mod Texts
 pub mod Closing
 pub mod Least
 pub mod Moments
+pub mod Archived
+pub mod Sums

@@ -115,7 +115,7 @@ lines_of query.BikeUses t =
 lines_of query.BikeTrucks t = left_joined (with_one trucks.COLUMNS) (6 ∷ []) 1 t.trucks t.bikes
 lines_of query.BikeDocks t = merge_of_two 4 dock_line t.docks docked_line t.bikes
 lines_of query.Trucks t = merge_of_two 3 truck_line t.trucks truck_bike_line t.bikes
-lines_of query.RiderRows t = t.riders
+lines_of query.RiderRows t = left_joined (with_one plans.COLUMNS) (4 ∷ []) 1 t.plans t.riders
 lines_of query.Rentals t = t.rentals
 lines_of query.OrderNames t =
     twice_joined (with_two trucks.COLUMNS types.COLUMNS) (1 ∷ []) 1 t.trucks (4 ∷ []) 1 t.types t.orders
@@ -131,3 +131,4 @@ lines_of query.NamePlaces t =
     twice_joined (with_two stations.COLUMNS regions.COLUMNS) (1 ∷ []) 1 t.stations (1 ∷ []) 1 t.regions t.more_names
 lines_of query.NameOffers t =
     twice_joined (with_two types.COLUMNS plans.COLUMNS) (1 ∷ []) 1 t.types (1 ∷ []) 1 t.plans t.more_names
+lines_of query.Books t = t.books

@@ -6,9 +6,11 @@
 //! `StretchJudge` opens an account at each head, adds the lines after it, and names the key of the first head whose
 //! account isn't good. The lemmas `lines_verdict`, `merged_verdict`, `merged_of_three_verdict` and `least_verdict` say
 //! what that is over tables: the least key of which a demand fails. `specs/Verdicts` says what the rules of a table
-//! answer. `find_now` looks up the operator's moment.
+//! answer. `find_now` looks up the operator's moment, `find_archived` how much was archived; `is_sum_of` tells whether
+//! so many entries can come to a sum.
 #![tactic(auto)]
 
+mod archived;
 mod fold;
 mod judge;
 mod key;
@@ -19,8 +21,10 @@ mod moment;
 mod pass;
 mod query;
 mod stretch;
+mod sum;
 mod text;
 
+pub use archived::find_archived;
 pub use fold::{LineFold, fold_lines};
 pub use judge::Judge;
 pub use key::BadKey;
@@ -31,3 +35,4 @@ pub use moment::find_now;
 pub use pass::{Account, LineTest, Opening};
 pub use query::Query;
 pub use stretch::StretchJudge;
+pub use sum::is_sum_of;

@@ -31,7 +31,7 @@ pub enum Query {
     BikeDocks,
     /// Trucks with the bicycles on them.
     Trucks,
-    /// The rows of `riders`.
+    /// Riders, each with its own plan.
     RiderRows,
     /// The rows of `rentals`.
     Rentals,
@@ -55,4 +55,6 @@ pub enum Query {
     NamePlaces,
     /// Names in further languages, each with the vehicle type and the plan of its identifier.
     NameOffers,
+    /// The rows of `books`.
+    Books,
 }

@@ -49,7 +49,9 @@ pub(crate) fn text(query: Query) -> &'static str
             "SELECT truck, 0, 0, trucks.*, NULL, NULL, NULL, NULL, NULL, NULL FROM trucks \
              UNION ALL SELECT truck, 1, bike, bikes.* FROM bikes \
              ORDER BY 1, 2, 3",
-        Query::RiderRows => "SELECT * FROM riders ORDER BY rider",
+        Query::RiderRows => "SELECT riders_4.*, plans.* FROM riders_4 \
+             LEFT JOIN plans ON plans.plan_id = riders_4.plan_id \
+             ORDER BY riders_4.rider",
         Query::Rentals => "SELECT * FROM rentals ORDER BY rental",
         Query::OrderNames => "SELECT orders.*, trucks.*, types.* FROM orders \
              LEFT JOIN trucks ON trucks.truck = orders.truck \
@@ -78,5 +80,6 @@ pub(crate) fn text(query: Query) -> &'static str
              LEFT JOIN types ON types.type_id = more_names.id \
              LEFT JOIN plans ON plans.plan_id = more_names.id \
              ORDER BY more_names.kind, more_names.id, more_names.language",
+        Query::Books => "SELECT * FROM books ORDER BY one",
     }
 }

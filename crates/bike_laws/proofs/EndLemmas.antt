@@ -1,5 +1,5 @@
 -- Rentals that end leave rentals sound.
-use Rattle.std.proofs.Common.{◌≡◌, ℕ, ℤ, ◌+◌, ◌≤◌, ◌+ℤ◌, pos, List, [], ◌∷◌, ◌++◌, length, length-append, map, Bool, true, false, cond, eqb, Option, Some, None, refl, sym, ap, ◌∙◌, subst, arith, inl}
+use Rattle.std.proofs.Common.{◌≡◌, ℕ, ℤ, ◌+◌, ◌≤◌, ◌+ℤ◌, pos, List, [], ◌∷◌, ◌++◌, map, Bool, true, false, cond, eqb, Option, Some, None, refl, sym, ap, ◌∙◌, subst, arith, inl}
 use Rattle.std.proofs.Common.{inr}
 use Rattle.std.specs.FinMap as finmap
 use Rattle.std.specs.Cmp.{nat_cmp_total}
@@ -16,11 +16,11 @@ use Rattle.bike_operator.specs.declared.records.Bike.{Bike}
 use Rattle.bike_operator.specs.declared.records.Rental.{Rental}
 use Rattle.bike_operator.specs.declared.records.Closing.{Closing}
 use Rattle.bike_operator.specs.declared.view.RentalView.{RentalView}
-use Rattle.bike_operator.specs.Operator.{Operator, AcceptedRequest, item_numbered}
+use Rattle.bike_operator.specs.Operator.{Operator, AcceptedRequest, Numbered, item_numbered, last_number}
 use Rattle.bike_operator.specs.Counts.{count, open_rentals, is_open}
 use Rattle.bike_operator.specs.Steps.{fare_now, with_fare, after_end, after_recovery, key_changed}
 use Rattle.bike_operator.specs.Sound.{IsOut, IsStop, IsOpenOrClosed, fares_of, fares_in, most_refunded, IsRentalAt, AreRentalsSound, IsSound}
-use Rattle.bike_laws.proofs.SingleSteps.ItemLemmas.{number_apart, length-number_changed}
+use Rattle.bike_laws.proofs.SingleSteps.ItemLemmas.{number_apart, last_added, last_changed}
 use Rattle.bike_laws.proofs.SingleSteps.Moment.{at_moment}
 use Rattle.bike_laws.proofs.NumberLemmas.{number_same, count_changed}
 use Rattle.bike_laws.proofs.EntryLemmas.{refunded_added, fares_added, fares_apart, same_either, other_number}
@@ -54,14 +54,14 @@ pub record IsClosedIn (s x : Operator) (r : RentalView) (to_station : Option (Li
   pub stop : IsStop x to_station
   pub out : (n bike : ℕ) → (n ≡ r.number → ⊥) → IsOut s n bike → IsOut x n bike
 
-rentals_charged : (s x : Operator) (now : ℕ) (history : List AcceptedRequest) (r : RentalView) (to_station : Option (List ℕ)) → IsSound s → s.now ≤ now → IsViewOf s r → is_open r.rental ≡ true
+rentals_charged : (s x : Operator) (now : ℕ) (history : Numbered AcceptedRequest) (r : RentalView) (to_station : Option (List ℕ)) → IsSound s → s.now ≤ now → IsViewOf s r → is_open r.rental ≡ true
     → IsClosedIn s x r to_station now → AreRentalsSound (at_moment x now history)
 rentals_charged s x now history r to_station order later v ongoing is =
     let few = order.rentals.few_rentals in
-    let count_rentals : length x.rentals ≡ length s.rentals = ap (λ (rs : List Rental). length rs) is.rentals ∙ length-number_changed r.number (closed_by c) s.rentals in
-    let count_entries : length x.entries ≡ length s.entries + 1 = ap (λ (es : List Entry). length es) is.entries ∙ length-append s.entries (e ∷ []) in
+    let count_rentals : last_number x.rentals ≡ last_number s.rentals = ap (λ (rs : Numbered Rental). last_number rs) is.rentals ∙ last_changed r.number (closed_by c) s.rentals in
+    let count_entries : last_number x.entries ≡ last_number s.entries + 1 = ap (λ (es : Numbered Entry). last_number es) is.entries ∙ last_added s.entries e in
     let fewer : open_rentals next + 1 ≡ open_rentals s =
-    ap (λ (rs : List Rental). count is_open rs + 1) is.rentals ∙ count_changed is_open r.number (closed_by c) s.rentals r.rental v.found ongoing refl in
+    ap (λ (rs : Numbered Rental). count is_open rs.items + 1) is.rentals ∙ count_changed is_open r.number (closed_by c) s.rentals r.rental v.found ongoing refl in
     record {
       rentals = λ n y i. each n y i (either n r.number);
       riding = λ a b y z i j p q same. order.rentals.riding a b y z (still a y i p (either a r.number)) (still b z j q (either b r.number)) p q same;
@@ -72,7 +72,7 @@ rentals_charged s x now history r to_station order later v ongoing is =
     c = closing_now r to_station now
 
     e : Entry
-    e = record { number = length s.entries + 1; kind = Fare; rider = r.rental.rider; rental = r.number; amount = fare_now r now; at = now }
+    e = record { number = last_number s.entries + 1; kind = Fare; rider = r.rental.rider; rental = r.number; amount = fare_now r now; at = now }
 
     next : Operator
     next = at_moment x now history
@@ -81,28 +81,28 @@ rentals_charged s x now history r to_station order later v ongoing is =
     keeps = record { riders = is.riders; bikes = is.bikes; plans = is.plans; stations = is.stations; later = later }
 
     before : (n : ℕ) (y : Rental) → item_numbered n x.rentals ≡ Some y → (n ≡ r.number → ⊥) → item_numbered n s.rentals ≡ Some y
-    before n y i apart = sym (ap (λ (rs : List Rental). item_numbered n rs) is.rentals ∙ number_apart r.number (closed_by c) s.rentals n apart) ∙ i
+    before n y i apart = sym (ap (λ (rs : Numbered Rental). item_numbered n rs) is.rentals ∙ number_apart r.number (closed_by c) s.rentals n apart) ∙ i
 
     closed_row : (n : ℕ) (y : Rental) → item_numbered n x.rentals ≡ Some y → n ≡ r.number → closed_by c r.rental ≡ y
     closed_row n y i same =
         same_Some (closed_by c r.rental) y
-        (sym (number_same r.number (closed_by c) s.rentals r.rental v.found) ∙ sym (ap (λ (rs : List Rental). item_numbered r.number rs) is.rentals)
+        (sym (number_same r.number (closed_by c) s.rentals r.rental v.found) ∙ sym (ap (λ (rs : Numbered Rental). item_numbered r.number rs) is.rentals)
         ∙ ap (λ (m : ℕ). item_numbered m x.rentals) (sym same) ∙ i)
 
     still : (n : ℕ) (y : Rental) → item_numbered n x.rentals ≡ Some y → is_open y ≡ true → Either n r.number → item_numbered n s.rentals ≡ Some y
     still n y i p (Same same) = let shut : false ≡ is_open y = ap (λ (z : Rental). is_open z) (closed_row n y i same) in absurd cc
     still n y i p (Other apart) = before n y i apart
 
-    no_refund : (n : ℕ) → refunded_of n x.entries ≡ refunded_of n s.entries
+    no_refund : (n : ℕ) → refunded_of n x.entries.items ≡ refunded_of n s.entries.items
     no_refund n =
-        let all : refunded_of n x.entries ≡ refunded_of n s.entries +ℤ cond (eqb r.number n) (pos 0) (pos 0) = ap (refunded_of n) is.entries ∙ refunded_added n s.entries e in
+        let all : refunded_of n x.entries.items ≡ refunded_of n s.entries.items +ℤ cond (eqb r.number n) (pos 0) (pos 0) = ap (λ (es : Numbered Entry). refunded_of n es.items) is.entries ∙ refunded_added n s.entries.items e in
         let none : cond (eqb r.number n) (pos 0) (pos 0) ≡ pos 0 = same_either (eqb r.number n) (pos 0) refl in
         omega (arith, ints, all, none)
 
-    fares_of_it : IsRentalAt s r.number r.rental → fares_of r.number x.entries ≡ fare_now r now ∷ []
+    fares_of_it : IsRentalAt s r.number r.rental → fares_of r.number x.entries.items ≡ fare_now r now ∷ []
     fares_of_it at =
-        ap (fares_of r.number) is.entries
-        ∙ fares_added r.number s.entries e
+        ap (λ (es : Numbered Entry). fares_of r.number es.items) is.entries
+        ∙ fares_added r.number s.entries.items e
         ∙ ap (λ (zs : List ℤ). zs ++ map (λ (y : Entry). y.amount) (cond (eqb r.number r.number) (e ∷ []) [])) (at.booked ∙ ap fares_in (nothing r.rental.closing ongoing))
         ∙ ap (λ (b : Bool). map (λ (y : Entry). y.amount) (cond b (e ∷ []) [])) (elim (eqb_tells r.number r.number) [ inl w ↦ w.0 | inr w ↦ absurd (w.1 refl) ])
 
@@ -135,12 +135,12 @@ rentals_charged s x now history r to_station order later v ongoing is =
     each n y i (Other apart) =
         let at = order.rentals.rentals n y (before n y i apart) in
         rental_stands s next n y keeps (λ o. out_settled s x now history n y.bike (is.out n y.bike apart o))
-        (ap (fares_of n) is.entries ∙ fares_apart n s.entries e (other_number r.number n apart))
-        (as_refunded n s.entries x.entries (most_refunded y.closing) (no_refund n) at.refunded) at
+        (ap (λ (es : Numbered Entry). fares_of n es.items) is.entries ∙ fares_apart n s.entries.items e (other_number r.number n apart))
+        (as_refunded n s.entries.items x.entries.items (most_refunded y.closing) (no_refund n) at.refunded) at
 
 -- ---- in a dock, or recovered
 
-pub rentals_ended : (s : Operator) (now : ℕ) (history : List AcceptedRequest) (bike : ℕ) (station : List ℕ) (dock : ℕ) (o : Option RentalView) → IsSound s → s.now ≤ now
+pub rentals_ended : (s : Operator) (now : ℕ) (history : Numbered AcceptedRequest) (bike : ℕ) (station : List ℕ) (dock : ℕ) (o : Option RentalView) → IsSound s → s.now ≤ now
     → finmap.contains_key s.stations station ≡ true
     → ((r : RentalView) → o ≡ Some r → IsRentalOf s bike r) → AreRentalsSound (at_moment (after_end bike station dock now o s) now history)
 rentals_ended s now history bike station dock None order later there is = rentals_untouched s now history order later
@@ -166,7 +166,7 @@ rentals_ended s now history bike station dock (Some r) order later there is = go
     };
   })
 
-pub rentals_recovered : (s : Operator) (now : ℕ) (history : List AcceptedRequest) (o : Option RentalView) → IsSound s → s.now ≤ now
+pub rentals_recovered : (s : Operator) (now : ℕ) (history : Numbered AcceptedRequest) (o : Option RentalView) → IsSound s → s.now ≤ now
     → ((r : RentalView) → o ≡ Some r → IsViewOf s r × (is_open r.rental ≡ true)) → AreRentalsSound (at_moment (after_recovery now o s) now history)
 rentals_recovered s now history None order later is = rentals_untouched s now history order later
 rentals_recovered s now history (Some r) order later is = go (is r refl).0 (is r refl).1 where

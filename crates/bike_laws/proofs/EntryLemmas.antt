@@ -1,5 +1,5 @@
 -- Sums over entries: balances, refunds and fares, and one more entry.
-use Rattle.std.proofs.Common.{sym, ◌≡◌, ℕ, ℤ, zero, suc, pos, neg_ℤ, ◌*ℤ◌, ◌+ℤ◌, ◌≤ℤ◌, List, [], ◌∷◌, ◌++◌, length, map, filter, Bool, true, false, cond, eqb, Some, refl, ap, ◌∙◌, arith, inl, inr}
+use Rattle.std.proofs.Common.{sym, ◌≡◌, ℕ, ℤ, zero, suc, ◌+◌, pos, neg_ℤ, ◌*ℤ◌, ◌+ℤ◌, ◌≤ℤ◌, List, [], ◌∷◌, ◌++◌, length, map, filter, Bool, true, false, cond, eqb, Some, refl, ap, ◌∙◌, arith, inl, inr}
 use Rattle.std.specs.Prelude.{◌&&◌}
 use Rattle.std.proofs.lemmas.Bool.Decides.{eqb_tells}
 use Rattle.std.proofs.lemmas.Int.{ints}
@@ -12,7 +12,8 @@ use Rattle.bike_ledger.specs.Ledger.{credit, balance_of, given_back, given_back_
 use Rattle.bike_ledger.specs.Entries.{greatest_amount}
 use Rattle.bike_ledger.proofs.SumLemmas.{total-append}
 use Rattle.bike_operator.specs.Operator.{Operator, item_at}
-use Rattle.bike_operator.specs.Sound.{is_fare, fares_of, IsPayment, IsBooking, IsLedgerSound}
+use Rattle.bike_operator.specs.Sound.{is_fare, fares_of, IsPayment, IsBooking, IsLedgerSound, IsSumOf}
+use Rattle.bike_laws.proofs.SingleSteps.ItemLemmas.{number_of_place}
 
 -- ---- amounts
 
@@ -34,8 +35,9 @@ each_amount : (es : List Entry) → ((n : ℕ) (e : Entry) → item_at n es ≡ 
 each_amount [] each = tt
 each_amount (e ∷ es) each = (each zero e refl, each_amount es (λ n x i. each (suc n) x i))
 
-pub amounts_of : (s : Operator) → IsLedgerSound s → AreAmounts s.entries
-amounts_of s ledger = each_amount s.entries (λ n e i. booking_amount s e e.kind (ledger.entries (suc n) e i).booking)
+pub amounts_of : (s : Operator) → IsLedgerSound s → AreAmounts s.entries.items
+amounts_of s ledger =
+    each_amount s.entries.items (λ n e i. booking_amount s e e.kind (ledger.entries (s.entries.archived + suc n) e (number_of_place n s.entries e i)).booking)
 
 pub amounts_added : (es : List Entry) (e : Entry) → AreAmounts es → IsAmount e.amount → AreAmounts (es ++ e ∷ [])
 amounts_added [] e are is = (is, tt)
@@ -60,13 +62,8 @@ own_share : (own : Bool) (z : ℤ) → IsShare z → IsShare (cond own z (pos 0)
 own_share true z is = is
 own_share false z is = record { low = omega (arith, ints); high = omega (arith, ints) }
 
--- the balance is one that so many entries can come to
-pub record IsWithin (entries : ℕ) (balance : ℤ) : Type 0 where
-  pub low : neg_ℤ (greatest_amount *ℤ pos entries) ≤ℤ balance
-  pub high : balance ≤ℤ (greatest_amount *ℤ pos entries)
-
 -- a balance lies within what so many entries can come to
-pub balance_within : (es : List Entry) (rider : ℕ) → AreAmounts es → IsWithin (length es) (balance_of rider es)
+pub balance_within : (es : List Entry) (rider : ℕ) → AreAmounts es → IsSumOf (length es) (balance_of rider es)
 balance_within [] rider are = record { low = omega (arith, ints); high = omega (arith, ints) }
 balance_within (e ∷ es) rider are =
     let first = own_share (eqb e.rider rider) (credit e.kind e.amount) (credit_share e.kind e.amount are.0) in
@@ -76,6 +73,15 @@ balance_within (e ∷ es) rider are =
     let rest_low = rest.low in
     let rest_high = rest.high in
     record { low = omega (arith, ints, first_low, rest_low); high = omega (arith, ints, first_high, rest_high) }
+
+-- two sums together
+pub both_sums : (m n : ℕ) (y z : ℤ) → IsSumOf m y → IsSumOf n z → IsSumOf (m + n) (y +ℤ z)
+both_sums m n y z one other =
+    let one_low = one.low in
+    let one_high = one.high in
+    let other_low = other.low in
+    let other_high = other.high in
+    record { low = omega (arith, ints, one_low, other_low); high = omega (arith, ints, one_high, other_high) }
 
 -- ---- refunds
 

@@ -10,7 +10,7 @@ use Rattle.std.specs.Cmp.{tied_itself, nat_cmp_total}
 use Rattle.std.proofs.lemmas.Option.{same_Some}
 use Rattle.std.proofs.lemmas.Bool.Decides.{nat_tests}
 use Rattle.bike_catalogue.specs.Rows.{PlanRow}
-use Rattle.bike_ledger.specs.Ledger.{balance_of, refunded_of}
+use Rattle.bike_ledger.specs.Ledger.{refunded_of}
 use Rattle.bike_operator.specs.declared.records.Place.{Place}
 use Rattle.bike_operator.specs.declared.records.Place.TheVariants as place
 use Rattle.bike_operator.specs.declared.records.Bike.{Bike}
@@ -18,7 +18,7 @@ use Rattle.bike_operator.specs.declared.records.Rental.{Rental}
 use Rattle.bike_operator.specs.declared.view.RentalView.{RentalView}
 use Rattle.bike_operator.specs.Operator.{Operator, Station, Rider, item_numbered}
 use Rattle.bike_operator.specs.Counts.{is_dock, docked_at, is_open}
-use Rattle.bike_operator.specs.View.{station_view, rider_view, planned_rental, rental_view, rental_in, rental_of}
+use Rattle.bike_operator.specs.View.{station_view, rider_balance, rider_view, planned_rental, rental_view, rental_in, rental_of}
 use Rattle.bike_operator.specs.Steps.{on, fare_now}
 use Rattle.bike_operator.specs.declared.records.Closing.{Closing}
 use Rattle.bike_operator.specs.Sound.{AreBikesSound, IsPlace}
@@ -100,14 +100,14 @@ docked_is s station dock b is = record {
 pub record IsViewOf (s : Operator) (r : RentalView) : Type 0 where
   pub found : item_numbered r.number s.rentals ≡ Some r.rental
   pub plan_is : finmap.get s.plans r.rental.plan ≡ Some r.plan
-  pub refunded_is : r.refunded ≡ refunded_of r.number s.entries
-  pub balance_is : r.balance ≡ balance_of r.rental.rider s.entries
+  pub refunded_is : r.refunded ≡ refunded_of r.number s.entries.items
+  pub balance_is : r.balance ≡ rider_balance s r.rental.rider
 
 planned_is : (s : Operator) (number : ℕ) (x : Rental) (o : Option PlanRow) (r : RentalView) → item_numbered number s.rentals ≡ Some x → finmap.get s.plans x.plan ≡ o
     → planned_rental s number x o ≡ Some r → IsViewOf s r
 planned_is s number x None r found plan is = absurd cc
 planned_is s number x (Some p) r found plan is =
-    subst (IsViewOf s) (same_Some (record { number = number; rental = x; plan = p; refunded = refunded_of number s.entries; balance = balance_of x.rider s.entries }) r is)
+    subst (IsViewOf s) (same_Some (record { number = number; rental = x; plan = p; refunded = refunded_of number s.entries.items; balance = rider_balance s x.rider }) r is)
     (record { found = found; plan_is = plan; refunded_is = refl; balance_is = refl })
 
 pub view_is : (s : Operator) (number : ℕ) (o : Option Rental) (r : RentalView) → item_numbered number s.rentals ≡ o → rental_view s number o ≡ Some r → IsViewOf s r
@@ -117,7 +117,7 @@ view_is s number (Some x) r found is = planned_is s number x (finmap.get s.plans
 planned_number : (s : Operator) (number : ℕ) (x : Rental) (o : Option PlanRow) (r : RentalView) → planned_rental s number x o ≡ Some r → number ≡ r.number
 planned_number s number x None r is = absurd cc
 planned_number s number x (Some p) r is =
-    ap (λ (v : RentalView). v.number) (same_Some (record { number = number; rental = x; plan = p; refunded = refunded_of number s.entries; balance = balance_of x.rider s.entries }) r is)
+    ap (λ (v : RentalView). v.number) (same_Some (record { number = number; rental = x; plan = p; refunded = refunded_of number s.entries.items; balance = rider_balance s x.rider }) r is)
 
 pub view_number : (s : Operator) (number : ℕ) (o : Option Rental) (r : RentalView) → rental_view s number o ≡ Some r → number ≡ r.number
 view_number s number None r is = absurd cc

@@ -5,7 +5,7 @@ use Rattle.std.specs.Prelude.{length, drop, max, is_none, ◌&&◌, if◌then◌
 use Rattle.bike_commands.specs.declared.reply.Reply.{Reply}
 use Rattle.bike_commands.specs.declared.refusal.Refusal.{Refusal}
 use Rattle.bike_commands.specs.declared.request.Request.{Request}
-use Rattle.bike_operator.specs.Operator.{Operator, AcceptedRequest, key_in, kept_under, no_operator}
+use Rattle.bike_operator.specs.Operator.{Operator, AcceptedRequest, Numbered, key_in, kept_under, no_operator}
 use Rattle.bike_operator.specs.Steps.{refusal_of, reply_of}
 use Rattle.bike_operator.specs.Runs.{Call, step, after, replies, outcome, outcome_with_kept, after_acceptance}
 use Rattle.bike_laws.specs.Retries.{is_accepted, acceptance}
@@ -39,19 +39,19 @@ now_after s t q e = ap (λ (x : Reply × Operator). x.1.now) (accepted_step s t 
 -- THE HISTORY IS THE CITY
 
 -- what a list adds stands behind what was there
-history_after : (s : Operator) (cs : List Call) → (after s cs).history ≡ s.history ++ accepted_of s cs
-history_after s [] = sym (append-nil s.history)
+history_after : (s : Operator) (cs : List Call) → (after s cs).history.items ≡ s.history.items ++ accepted_of s cs
+history_after s [] = sym (append-nil s.history.items)
 history_after s (c ∷ cs) = tells (is_accepted s c.1) refl (history_after (step s c.0 c.1).1 cs) where
   tells : (b : Bool) → is_accepted s c.1 ≡ b
-      → (after (step s c.0 c.1).1 cs).history ≡ (step s c.0 c.1).1.history ++ accepted_of (step s c.0 c.1).1 cs
-      → (after (step s c.0 c.1).1 cs).history ≡ s.history ++ ((if b then acceptance s c.0 c.1 ∷ [] else []) ++ accepted_of (step s c.0 c.1).1 cs)
+      → (after (step s c.0 c.1).1 cs).history.items ≡ (step s c.0 c.1).1.history.items ++ accepted_of (step s c.0 c.1).1 cs
+      → (after (step s c.0 c.1).1 cs).history.items ≡ s.history.items ++ ((if b then acceptance s c.0 c.1 ∷ [] else []) ++ accepted_of (step s c.0 c.1).1 cs)
   tells true e rest =
-      rest ∙ ap (λ (h : List AcceptedRequest). h ++ accepted_of (step s c.0 c.1).1 cs) (accepted_last s c.0 c.1 e)
-      ∙ append_assoc s.history (acceptance s c.0 c.1 ∷ []) (accepted_of (step s c.0 c.1).1 cs)
+      rest ∙ ap (λ (h : Numbered AcceptedRequest). h.items ++ accepted_of (step s c.0 c.1).1 cs) (accepted_last s c.0 c.1 e)
+      ∙ append_assoc s.history.items (acceptance s c.0 c.1 ∷ []) (accepted_of (step s c.0 c.1).1 cs)
   tells false e rest =
       rest
-      ∙ ap (λ (o : Operator). o.history ++ accepted_of (step s c.0 c.1).1 cs)
-      (unaccepted_stays s c.0 c.1 (kept_under (key_in c.1) s.history) e)
+      ∙ ap (λ (o : Operator). o.history.items ++ accepted_of (step s c.0 c.1).1 cs)
+      (unaccepted_stays s c.0 c.1 (kept_under (key_in c.1) s.history.items) e)
 
 -- the history behind the first request, by whether that is accepted
 operator_again : (s : Operator) (cs : List Call) → after s (calls_of (accepted_of s cs)) ≡ after s cs
@@ -64,7 +64,7 @@ operator_again s (c ∷ cs) = tells (is_accepted s c.1) refl (operator_again (st
       ap (λ (x : Reply × Operator). after x.1 (calls_of (accepted_of (step s c.0 c.1).1 cs))) (step_again s c.0 c.1 e) ∙ rest
   tells false e rest =
       ap (λ (o : Operator). after o (calls_of (accepted_of (step s c.0 c.1).1 cs)))
-      (sym (unaccepted_stays s c.0 c.1 (kept_under (key_in c.1) s.history) e)) ∙ rest
+      (sym (unaccepted_stays s c.0 c.1 (kept_under (key_in c.1) s.history.items) e)) ∙ rest
 
 answers_again : (s : Operator) (cs : List Call) → replies s (calls_of (accepted_of s cs)) ≡ replies_of (accepted_of s cs)
 answers_again s [] = refl
@@ -78,14 +78,22 @@ answers_again s (c ∷ cs) = tells (is_accepted s c.1) refl (answers_again (step
       ∙ ap (λ (l : List Reply). (step s c.0 c.1).0 ∷ l) rest
   tells false e rest =
       ap (λ (o : Operator). replies o (calls_of (accepted_of (step s c.0 c.1).1 cs)))
-      (sym (unaccepted_stays s c.0 c.1 (kept_under (key_in c.1) s.history) e)) ∙ rest
+      (sym (unaccepted_stays s c.0 c.1 (kept_under (key_in c.1) s.history.items) e)) ∙ rest
 
 -- it is what stands behind what was there
-behind_are : (s : Operator) (cs : List Call) → drop (length s.history) (after s cs).history ≡ accepted_of s cs
-behind_are s cs = ap (λ (h : List AcceptedRequest). drop (length s.history) h) (history_after s cs) ∙ drop-append_seam s.history (accepted_of s cs)
+-- nothing is archived by requests
+archived_after : (s : Operator) (cs : List Call) → (after s cs).history.archived ≡ s.history.archived
+archived_after s [] = refl
+archived_after s (c ∷ cs) = archived_after (step s c.0 c.1).1 cs ∙ tells (is_accepted s c.1) refl where
+  tells : (b : Bool) → is_accepted s c.1 ≡ b → (step s c.0 c.1).1.history.archived ≡ s.history.archived
+  tells true e = ap (λ (h : Numbered AcceptedRequest). h.archived) (accepted_last s c.0 c.1 e)
+  tells false e = ap (λ (o : Operator). o.history.archived) (unaccepted_stays s c.0 c.1 (kept_under (key_in c.1) s.history.items) e)
+
+behind_are : (s : Operator) (cs : List Call) → drop (length s.history.items) (after s cs).history.items ≡ accepted_of s cs
+behind_are s cs = ap (λ (h : List AcceptedRequest). drop (length s.history.items) h) (history_after s cs) ∙ drop-append_seam s.history.items (accepted_of s cs)
 
 pub served_again : (s : Operator) (cs : List Call) → IsServedAgain s cs
-served_again s cs = record { added = history_after s cs; behind = behind_are s cs; operator = operator_again s cs; answers = answers_again s cs }
+served_again s cs = record { added = history_after s cs; none_archived = archived_after s cs; behind = behind_are s cs; operator = operator_again s cs; answers = answers_again s cs }
 
 pub made_again : (cs : List Call) → IsMadeAgain (after no_operator cs)
 made_again cs = record {
@@ -106,7 +114,7 @@ now_is_last s (c ∷ cs) = tells (is_accepted s c.1) refl (now_is_last (step s c
   tells true e rest = rest ∙ ap (λ (now : ℕ). last_moment_of now (accepted_of (step s c.0 c.1).1 cs)) (now_after s c.0 c.1 e)
   tells false e rest =
       rest ∙ ap (λ (o : Operator). last_moment_of o.now (accepted_of (step s c.0 c.1).1 cs))
-      (unaccepted_stays s c.0 c.1 (kept_under (key_in c.1) s.history) e)
+      (unaccepted_stays s c.0 c.1 (kept_under (key_in c.1) s.history.items) e)
 
 -- no moment of a history lies before the operator's, nor before one that stands earlier
 pub in_order : (s : Operator) (cs : List Call) → IsInOrder s.now (accepted_of s cs)
@@ -119,4 +127,4 @@ in_order s (c ∷ cs) = tells (is_accepted s c.1) refl (in_order (step s c.0 c.1
       (omega (arith), subst (λ (now : ℕ). IsInOrder now (accepted_of (step s c.0 c.1).1 cs)) (now_after s c.0 c.1 e) rest)
   tells false e rest =
       subst (λ (o : Operator). IsInOrder o.now (accepted_of (step s c.0 c.1).1 cs))
-      (unaccepted_stays s c.0 c.1 (kept_under (key_in c.1) s.history) e) rest
+      (unaccepted_stays s c.0 c.1 (kept_under (key_in c.1) s.history.items) e) rest

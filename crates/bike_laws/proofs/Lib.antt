@@ -9,6 +9,7 @@ pub mod ReplyLemmas
 pub mod NameLemmas
 pub mod QuietLemmas
 pub mod QuietLaw
+pub mod PastLemmas
 pub mod LedgerLemmas
 pub mod LedgerLaw
 pub mod RentalLemmas
@@ -21,3 +22,7 @@ pub mod MoneyLemmas
 pub mod SingleSteps
 pub mod SessionLemmas
 pub mod HistoryLemmas
+pub mod FrontLemmas
+pub mod ArchivedRiders
+pub mod ArchivingLaw
+pub mod ArchivedSound

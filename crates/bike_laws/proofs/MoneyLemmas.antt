@@ -1,5 +1,5 @@
 -- Money is conserved in every sound operator.
-use Rattle.std.proofs.Common.{◌≡◌, ℕ, zero, suc, List, [], ◌∷◌, true, false, T, eqb, Some, refl, sym, ap, ap₂, ◌∙◌, inl, inr}
+use Rattle.std.proofs.Common.{◌≡◌, ℕ, ℤ, zero, suc, pos, ◌+◌, ◌+ℤ◌, arith, List, [], ◌∷◌, true, false, T, eqb, Some, refl, sym, ap, ap₂, ◌∙◌, inl, inr}
 use Rattle.std.specs.Prelude.{map, ◌||◌}
 use Rattle.std.specs.List.{list_any}
 use Rattle.std.specs.Ordering.{nat_cmp, eq_by_cmp, is_lt, is_eq}
@@ -10,10 +10,14 @@ use Rattle.std.specs.FinMap as finmap
 use Rattle.std.specs.FinMap.Entries.{is_sorted, below_all}
 use Rattle.std.proofs.lemmas.Bool.Decides.{eqb_tells}
 use Rattle.bike_ledger.specs.Entries.{Entry}
-use Rattle.bike_ledger.specs.Money.{is_among, AreDistinct, AreOf, IsConserved}
+use Rattle.bike_ledger.specs.Ledger.{cash_of, revenue_of}
+use Rattle.bike_ledger.specs.Money.{is_among, AreDistinct, AreOf, balances}
+use Rattle.std.proofs.lemmas.Int.{ints}
 use Rattle.bike_ledger.proofs.SumLemmas.{conserved}
 use Rattle.bike_operator.specs.Operator.{Operator, Rider, item_at}
-use Rattle.bike_operator.specs.Sound.{IsSound}
+use Rattle.bike_operator.specs.Sound.{IsSound, befores}
+use Rattle.bike_laws.specs.Money.{riders_have, KeepsMoney}
+use Rattle.bike_laws.proofs.SingleSteps.ItemLemmas.{number_of_place}
 use Rattle.bike_laws.proofs.FoundLemmas.{both}
 
 -- ---- the keys of a map are distinct
@@ -43,18 +47,27 @@ below_apart x (e ∷ es) h =
     apart Equal is t = absurd t
     apart Greater is t = absurd t
 
-distinct : (es : List (ℕ × Rider)) → T (is_sorted nat_cmp es) → AreDistinct (map (λ e. e.0) es)
+pub distinct : (es : List (ℕ × Rider)) → T (is_sorted nat_cmp es) → AreDistinct (map (λ e. e.0) es)
 distinct [] h = tt
 distinct (e ∷ es) h = let parts = both (below_all nat_cmp e.0 es) (is_sorted nat_cmp es) h in (below_apart e.0 es parts.0, distinct es parts.1)
 
 -- ---- entries are of riders who are there
 
-known_riders : (s : Operator) (es : List Entry) → ((n : ℕ) (e : Entry) → item_at n es ≡ Some e → finmap.contains_key s.riders e.rider ≡ true) → AreOf (finmap.keys s.riders) es
+pub known_riders : (s : Operator) (es : List Entry) → ((n : ℕ) (e : Entry) → item_at n es ≡ Some e → finmap.contains_key s.riders e.rider ≡ true) → AreOf (finmap.keys s.riders) es
 known_riders s [] known = tt
 known_riders s (e ∷ es) known =
     (among_is e.rider (finmap.keys s.riders) ∙ sym (finmap.contains_key-keys s.riders e.rider) ∙ known zero e refl, known_riders s es (λ n x i. known (suc n) x i))
 
-pub money_conserved : (s : Operator) → IsSound s → IsConserved (finmap.keys s.riders) s.entries
+-- what riders have of archived entries, and of these
+have_apart : (rs : List (ℕ × Rider)) (es : List Entry) → riders_have rs es ≡ befores rs +ℤ balances (map (λ r. r.0) rs) es
+have_apart [] es = refl
+have_apart (r ∷ rs) es = let rest = have_apart rs es in omega (arith, ints, rest)
+
+pub money_conserved : (s : Operator) → IsSound s → KeepsMoney s
 money_conserved s order =
-    conserved (finmap.keys s.riders) s.entries (distinct (finmap.entries s.riders) (finmap.entries_sorted s.riders))
-    (known_riders s s.entries (λ n e i. (order.ledger.entries (suc n) e i).rider_is))
+    let now : balances (finmap.keys s.riders) s.entries.items +ℤ revenue_of s.entries.items ≡ cash_of s.entries.items =
+    conserved (finmap.keys s.riders) s.entries.items (distinct (finmap.entries s.riders) (finmap.entries_sorted s.riders))
+    (known_riders s s.entries.items (λ n e i. (order.ledger.entries (s.entries.archived + suc n) e (number_of_place n s.entries e i)).rider_is)) in
+    let before = order.ledger.past.conserved in
+    let apart = have_apart (finmap.entries s.riders) s.entries.items in
+    omega (arith, ints, now, before, apart)

@@ -1,5 +1,5 @@
 -- A step keeps an operator sound, and so does every list of requests.
-use Rattle.std.proofs.Common.{◌≡◌, ℕ, zero, suc, ◌≤◌, List, [], ◌∷◌, ◌++◌, false, Option, Some, None, refl, sym, ap, ◌∙◌, subst, subst₂, arith, inl, inr, le_trans}
+use Rattle.std.proofs.Common.{◌≡◌, ℕ, zero, suc, ◌-◌, ◌≤◌, List, [], ◌∷◌, ◌++◌, false, Option, Some, None, refl, sym, ap, ◌∙◌, subst, subst₂, arith, inl, inr, le_trans}
 use Rattle.std.specs.Prelude.{max}
 use Rattle.std.specs.Ordering.{eq_by_cmp}
 use Rattle.bike_fixed.specs.Whole.{last_moment}
@@ -8,7 +8,7 @@ use Rattle.bike_commands.specs.Replies.{IsReply}
 use Rattle.bike_commands.specs.declared.refusal.Refusal.{Refusal}
 use Rattle.bike_commands.specs.declared.request.Request.{Request}
 use Rattle.bike_commands.specs.Requests.{IsRequest}
-use Rattle.bike_operator.specs.Operator.{Operator, AcceptedRequest, key_in, kept_under, texts_cmp, item_numbered}
+use Rattle.bike_operator.specs.Operator.{Operator, AcceptedRequest, Numbered, key_in, kept_under, texts_cmp, item_in, item_numbered, with_item}
 use Rattle.bike_operator.specs.Steps.{refusal_of, reply_of}
 use Rattle.bike_operator.specs.Runs.{Call, step, after, after_acceptance, outcome, outcome_with_kept}
 use Rattle.bike_operator.specs.Sound.{is_refused, IsAccepted, IsHistory, IsSound, AreCalls}
@@ -24,9 +24,9 @@ use Rattle.bike_laws.proofs.RentalLaw.{rentals_law}
 
 -- ---- an accepted request
 
-history_sound : (s : Operator) (q : Request) (now : ℕ) (reply : Reply) → IsHistory s.now s.history → IsRequest q → kept_under (key_in q) s.history ≡ None
+history_sound : (s : Operator) (q : Request) (now : ℕ) (reply : Reply) → IsHistory s.now s.history → IsRequest q → kept_under (key_in q) s.history.items ≡ None
     → IsReply reply → is_refused reply ≡ false → s.now ≤ now
-    → IsHistory now (s.history ++ record { moment = now; request = q; reply = reply } ∷ [])
+    → IsHistory now (with_item (record { moment = now; request = q; reply = reply }) s.history)
 history_sound s q now reply old good anew is_reply accepted later = record {
   requests = λ n a e. elim (number_or_last n s.history last a e) [
     | inl there ↦ let was = old.requests n a there in record { request = was.request; reply = was.reply; accepted = was.accepted; by_now = le_trans was.by_now later }
@@ -56,13 +56,16 @@ history_sound s q now reply old good anew is_reply accepted later = record {
   last : AcceptedRequest
   last = record { moment = now; request = q; reply = reply }
 
-  apart : (n : ℕ) (a : AcceptedRequest) → item_numbered n s.history ≡ Some a → key_in a.request ≡ key_in q → ⊥
-  apart zero a e same = absurd cc
-  apart (suc n) a e same =
-      let other = none_under (key_in q) s.history n a anew e in
+  apart_in : (n : ℕ) (a : AcceptedRequest) → item_in n s.history.items ≡ Some a → key_in a.request ≡ key_in q → ⊥
+  apart_in zero a e same = absurd cc
+  apart_in (suc n) a e same =
+      let other = none_under (key_in q) s.history.items n a anew e in
       let equal = ap (eq_by_cmp texts_cmp (key_in q)) same ∙ key_itself (key_in q) in cc
 
-accepted_sound : (s : Operator) (now : ℕ) (q : Request) → IsSound s → IsRequest q → kept_under (key_in q) s.history ≡ None → refusal_of s q.command ≡ None
+  apart : (n : ℕ) (a : AcceptedRequest) → item_numbered n s.history ≡ Some a → key_in a.request ≡ key_in q → ⊥
+  apart n a e same = apart_in (n - s.history.archived) a e same
+
+pub accepted_sound : (s : Operator) (now : ℕ) (q : Request) → IsSound s → IsRequest q → kept_under (key_in q) s.history.items ≡ None → refusal_of s q.command ≡ None
     → s.now ≤ now → now ≤ last_moment → IsSound (after_acceptance s now q)
 accepted_sound s now q order good anew none later last =
     let history = (after_acceptance s now q).history in
@@ -83,20 +86,20 @@ accepted_sound s now q order good anew none later last =
 latest : (t now : ℕ) → t ≤ last_moment → now ≤ last_moment → (max t now ≤ last_moment) × (now ≤ max t now)
 latest t now a b = (omega arith, omega arith)
 
-decided_sound : (s : Operator) (t : ℕ) (q : Request) (o : Option Refusal) → t ≤ last_moment → IsRequest q → IsSound s → kept_under (key_in q) s.history ≡ None → refusal_of s q.command ≡ o
+decided_sound : (s : Operator) (t : ℕ) (q : Request) (o : Option Refusal) → t ≤ last_moment → IsRequest q → IsSound s → kept_under (key_in q) s.history.items ≡ None → refusal_of s q.command ≡ o
     → IsSound (outcome s (max t s.now) q o).1
 decided_sound s t q (Some r) moment good order anew e = order
 decided_sound s t q None moment good order anew e =
     let now = latest t s.now moment order.now in
     accepted_sound s (max t s.now) q order good anew e now.1 now.0
 
-answered_sound : (s : Operator) (t : ℕ) (q : Request) (o : Option AcceptedRequest) → t ≤ last_moment → IsRequest q → IsSound s → kept_under (key_in q) s.history ≡ o
+answered_sound : (s : Operator) (t : ℕ) (q : Request) (o : Option AcceptedRequest) → t ≤ last_moment → IsRequest q → IsSound s → kept_under (key_in q) s.history.items ≡ o
     → IsSound (outcome_with_kept s t q o).1
 answered_sound s t q (Some a) moment good order is = order
 answered_sound s t q None moment good order is = decided_sound s t q (refusal_of s q.command) moment good order is refl
 
 pub step_sound : (s : Operator) (t : ℕ) (q : Request) → t ≤ last_moment → IsRequest q → IsSound s → IsSound (step s t q).1
-step_sound s t q moment good order = answered_sound s t q (kept_under (key_in q) s.history) moment good order refl
+step_sound s t q moment good order = answered_sound s t q (kept_under (key_in q) s.history.items) moment good order refl
 
 -- ---- lists
 

@@ -21,9 +21,9 @@ use Rattle.bike_operator.specs.Operator.{Operator, item_numbered}
 use Rattle.bike_operator.specs.Names.{is_own_language}
 use Rattle.bike_operator.specs.View.{end_at, view_of}
 use Rattle.bike_operator.specs.Steps.{new_station, dock_marked, tests, refusal_of, place_reported, bike_reported, bike_placed, bike_marked, placed_at_end, with_delivery, after_unload, own_name_set}
-use Rattle.bike_operator.specs.Steps.{further_name_set, effect}
+use Rattle.bike_operator.specs.Steps.{further_name_set, new_rider, effect}
 use Rattle.bike_laws.proofs.SingleSteps.TestLemmas.{none_holds, none_of}
-use Rattle.bike_laws.proofs.NameLemmas.{insert_keeps}
+use Rattle.bike_laws.proofs.NameLemmas.{insert_keeps, changed_keeps}
 use Rattle.bike_laws.proofs.QuietLemmas.{IsQuiet, quiet_fields, quiet_station, quiet_name, quiet_reported, quiet_bike_reported, quiet_marked, quiet_placed, quiet_added, elsewhere_in, loaded_in}
 use Rattle.bike_laws.proofs.QuietLemmas.{quiet_unloaded}
 
@@ -45,6 +45,7 @@ quiet_kind s now (command.Refund rental amount) free none = absurd cc
 quiet_kind s now (command.AddPlan p) free none = record {
   rentals = refl;
   entries = refl;
+  past = refl;
   riders = λ id h. h;
   bikes = λ id h. h;
   stations = λ id h. h;
@@ -54,6 +55,7 @@ quiet_kind s now (command.AddPlan p) free none = record {
 quiet_kind s now (command.AddStation x) free none = record {
   rentals = refl;
   entries = refl;
+  past = refl;
   riders = λ id h. h;
   bikes = λ id h. h;
   plans = λ id h. h;
@@ -63,7 +65,7 @@ quiet_kind s now (command.AddStation x) free none = record {
 quiet_kind s now (command.SetStation station installed renting returning) free none =
     quiet_station s station (λ x. record x { is_installed = installed; is_renting = renting; is_returning = returning; reported = now })
 quiet_kind s now (command.MarkDock station dock broken) free none =
-    quiet_reported s (dock_marked station dock broken s) station now (quiet_fields s (dock_marked station dock broken s) refl refl refl refl refl refl)
+    quiet_reported s (dock_marked station dock broken s) station now (quiet_fields s (dock_marked station dock broken s) refl refl refl refl refl refl refl)
 quiet_kind s now (command.AddBike bike type_id) free none =
     let tests_free = none_holds (tests (view_of s (command.AddBike bike type_id)) (command.AddBike bike type_id)) none in
     quiet_added s bike (record { type_id = type_id; state = Fit; place = place.Depot }) (none_of (finmap.get s.bikes bike) tests_free.0)
@@ -73,19 +75,21 @@ quiet_kind s now (command.RetireBike bike) free none = quiet_marked s bike Retir
 quiet_kind s now (command.AddRider rider) free none = record {
   rentals = refl;
   entries = refl;
+  past = refl;
   bikes = λ id h. h;
   plans = λ id h. h;
   stations = λ id h. h;
-  riders = λ id h. insert_keeps nat_cmp_total s.riders rider (record { is_blocked = false }) id h;
+  riders = λ id h. insert_keeps nat_cmp_total s.riders rider new_rider id h;
   out = λ number bike o. record { row = o.row; found = o.found; place_is = o.place_is };
 }
 quiet_kind s now (command.SetRider rider blocked) free none = record {
   rentals = refl;
   entries = refl;
+  past = refl;
   bikes = λ id h. h;
   plans = λ id h. h;
   stations = λ id h. h;
-  riders = λ id h. insert_keeps nat_cmp_total s.riders rider (record { is_blocked = blocked }) id h;
+  riders = λ id h. changed_keeps nat_cmp_total s.riders rider (λ r. record r { is_blocked = blocked }) id h;
   out = λ number bike o. record { row = o.row; found = o.found; place_is = o.place_is };
 }
 quiet_kind s now (command.Load truck order bike) free none =
@@ -99,7 +103,7 @@ quiet_kind s now (command.SetRegion station region) free none = quiet_station s 
 quiet_kind s now (command.SetName kind id language name) free none = quiet_name s kind id language name (is_own_language s.system language)
 quiet_kind s now (command.MoveStation station p) free none = quiet_station s station (λ x. record x { row = moved_to p x.row })
 quiet_kind s now (command.AddDocks station count) free none = quiet_station s station (λ x. record x { row = more_docks count x.row })
-quiet_kind s now c free none = quiet_fields s (effect s now c) refl refl refl refl refl refl
+quiet_kind s now c free none = quiet_fields s (effect s now c) refl refl refl refl refl refl refl
 
 -- ---- riders
 

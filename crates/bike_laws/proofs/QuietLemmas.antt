@@ -30,6 +30,7 @@ use Rattle.bike_laws.proofs.NameLemmas.Either.{Same, Other}
 pub record IsQuiet (s x : Operator) : Type 0 where
   pub rentals : x.rentals ≡ s.rentals
   pub entries : x.entries ≡ s.entries
+  pub past : x.past ≡ s.past
   pub riders : (id : ℕ) → finmap.contains_key s.riders id ≡ true → finmap.contains_key x.riders id ≡ true
   pub bikes : (id : ℕ) → finmap.contains_key s.bikes id ≡ true → finmap.contains_key x.bikes id ≡ true
   pub plans : (id : List ℕ) → finmap.contains_key s.plans id ≡ true → finmap.contains_key x.plans id ≡ true
@@ -37,10 +38,11 @@ pub record IsQuiet (s x : Operator) : Type 0 where
   pub out : (number bike : ℕ) → IsOut s number bike → IsOut x number bike
 
 -- nothing of all this is touched
-pub quiet_fields : (s x : Operator) → x.rentals ≡ s.rentals → x.entries ≡ s.entries → x.riders ≡ s.riders → x.bikes ≡ s.bikes → x.plans ≡ s.plans → x.stations ≡ s.stations → IsQuiet s x
-quiet_fields s x rentals entries riders bikes plans stations = record {
+pub quiet_fields : (s x : Operator) → x.rentals ≡ s.rentals → x.entries ≡ s.entries → x.past ≡ s.past → x.riders ≡ s.riders → x.bikes ≡ s.bikes → x.plans ≡ s.plans → x.stations ≡ s.stations → IsQuiet s x
+quiet_fields s x rentals entries past riders bikes plans stations = record {
   rentals = rentals;
   entries = entries;
+  past = past;
   riders = λ id h. ap (λ m. finmap.contains_key m id) riders ∙ h;
   bikes = λ id h. ap (λ m. finmap.contains_key m id) bikes ∙ h;
   plans = λ id h. ap (λ m. finmap.contains_key m id) plans ∙ h;
@@ -54,6 +56,7 @@ quiet_plan : (s : Operator) (plan : List ℕ) (f : PlanRow → PlanRow) → IsQu
 quiet_plan s plan f = record {
   rentals = refl;
   entries = refl;
+  past = refl;
   riders = λ id h. h;
   bikes = λ id h. h;
   plans = λ id h. changed_keeps nat_list_cmp_total s.plans plan f id h;
@@ -65,6 +68,7 @@ pub quiet_station : (s : Operator) (station : List ℕ) (f : Station → Station
 quiet_station s station f = record {
   rentals = refl;
   entries = refl;
+  past = refl;
   riders = λ id h. h;
   bikes = λ id h. h;
   plans = λ id h. h;
@@ -73,17 +77,17 @@ quiet_station s station f = record {
 }
 
 quiet_own_name : (s : Operator) (kind : NameKind) (id name : List ℕ) → IsQuiet s (own_name_set kind id name s)
-quiet_own_name s named.System id name = quiet_fields s (own_name_set named.System id name s) refl refl refl refl refl refl
+quiet_own_name s named.System id name = quiet_fields s (own_name_set named.System id name s) refl refl refl refl refl refl refl
 quiet_own_name s named.Station id name = quiet_station s id (λ x. record x { row = record x.row { name = name } })
-quiet_own_name s named.Type id name = quiet_fields s (own_name_set named.Type id name s) refl refl refl refl refl refl
+quiet_own_name s named.Type id name = quiet_fields s (own_name_set named.Type id name s) refl refl refl refl refl refl refl
 quiet_own_name s named.Plan id name = quiet_plan s id (λ p. record p { name = name })
 quiet_own_name s named.Description id name = quiet_plan s id (λ p. record p { description = name })
-quiet_own_name s named.Region id name = quiet_fields s (own_name_set named.Region id name s) refl refl refl refl refl refl
+quiet_own_name s named.Region id name = quiet_fields s (own_name_set named.Region id name s) refl refl refl refl refl refl refl
 
 -- a name in the system's language, or in a further one
 pub quiet_name : (s : Operator) (kind : NameKind) (id language name : List ℕ) (own : Bool) → IsQuiet s (cond own (own_name_set kind id name s) (further_name_set kind id language name s))
 quiet_name s kind id language name true = quiet_own_name s kind id name
-quiet_name s kind id language name false = quiet_fields s (further_name_set kind id language name s) refl refl refl refl refl refl
+quiet_name s kind id language name false = quiet_fields s (further_name_set kind id language name s) refl refl refl refl refl refl refl
 
 -- ---- stations that report
 
@@ -91,6 +95,7 @@ pub quiet_reported : (s x : Operator) (station : List ℕ) (now : ℕ) → IsQui
 quiet_reported s x station now q = record {
   rentals = q.rentals;
   entries = q.entries;
+  past = q.past;
   riders = q.riders;
   bikes = q.bikes;
   plans = q.plans;
@@ -115,6 +120,7 @@ pub quiet_marked : (s : Operator) (bike : ℕ) (state : BikeState) → IsQuiet s
 quiet_marked s bike state = record {
   rentals = refl;
   entries = refl;
+  past = refl;
   riders = λ id h. h;
   bikes = λ id h. changed_keeps nat_cmp_total s.bikes bike (λ b. record b { state = state }) id h;
   plans = λ id h. h;
@@ -139,6 +145,7 @@ pub quiet_placed : (s : Operator) (bike : ℕ) (p : Place) → IsIn s bike → I
 quiet_placed s bike p is = record {
   rentals = refl;
   entries = refl;
+  past = refl;
   riders = λ id h. h;
   bikes = λ id h. changed_keeps nat_cmp_total s.bikes bike (λ b. record b { place = p }) id h;
   plans = λ id h. h;
@@ -154,6 +161,7 @@ pub quiet_added : (s : Operator) (bike : ℕ) (b : Bike) → finmap.get s.bikes 
 quiet_added s bike b none = record {
   rentals = refl;
   entries = refl;
+  past = refl;
   riders = λ id h. h;
   bikes = λ id h. insert_keeps nat_cmp_total s.bikes bike b id h;
   plans = λ id h. h;
@@ -200,6 +208,7 @@ quiet_delivered s x order From q = q
 quiet_delivered s x order To q = record {
   rentals = q.rentals;
   entries = q.entries;
+  past = q.past;
   riders = q.riders;
   bikes = q.bikes;
   plans = q.plans;
@@ -208,5 +217,5 @@ quiet_delivered s x order To q = record {
 }
 
 pub quiet_unloaded : (s : Operator) (order bike : ℕ) (side : Side) (dock now : ℕ) (o : Option Order) → IsIn s bike → IsQuiet s (after_unload order bike side dock now o s)
-quiet_unloaded s order bike side dock now None is = quiet_fields s s refl refl refl refl refl refl
+quiet_unloaded s order bike side dock now None is = quiet_fields s s refl refl refl refl refl refl refl
 quiet_unloaded s order bike side dock now (Some o) is = quiet_delivered s (placed_at_end bike (end_at side o) dock now s) order side (quiet_at_end s bike (end_at side o) dock now is)

@@ -1,5 +1,5 @@
 -- Rentals stay sound.
-use Rattle.std.proofs.Common.{◌≡◌, ℕ, ℤ, ◌+◌, ◌≤◌, ◌+ℤ◌, ◌-ℤ◌, ◌≤ℤ◌, pos, List, [], ◌∷◌, ◌++◌, length, length-append, Bool, true, false, cond, eqb, Option, Some, None, refl, sym, ap, ◌∙◌, subst}
+use Rattle.std.proofs.Common.{◌≡◌, ℕ, ℤ, ◌+◌, ◌≤◌, ◌+ℤ◌, ◌-ℤ◌, ◌≤ℤ◌, pos, List, Bool, true, false, cond, eqb, Option, Some, None, refl, sym, ap, ◌∙◌, subst}
 use Rattle.std.proofs.Common.{arith}
 use Rattle.std.specs.Prelude.{is_none, ◌&&◌, int_lt}
 use Rattle.std.specs.FinMap as finmap
@@ -11,7 +11,8 @@ use Rattle.bike_ledger.specs.Ledger.{given_back_of, refunded_of}
 use Rattle.bike_operator.specs.declared.records.Rental.{Rental}
 use Rattle.bike_operator.specs.declared.records.Closing.{Closing}
 use Rattle.bike_operator.specs.declared.view.RentalView.{RentalView}
-use Rattle.bike_operator.specs.Operator.{Operator, AcceptedRequest, item_numbered}
+use Rattle.bike_operator.specs.Operator.{Operator, AcceptedRequest, Numbered, item_numbered, last_number, with_item}
+use Rattle.bike_laws.proofs.SingleSteps.ItemLemmas.{last_added}
 use Rattle.bike_operator.specs.Counts.{count, open_rentals, is_open}
 use Rattle.bike_operator.specs.Steps.{on, with_entry, refunded_by}
 use Rattle.bike_operator.specs.Sound.{IsOut, IsStop, IsOpenOrClosed, is_fare, fares_of, most_refunded, IsRentalAt, AreRentalsSound, IsSound}
@@ -44,8 +45,8 @@ closing_stands s next number x (Some c) k out is =
     let later = k.later in
     record { stop = stop_stands s next c.to_station k is.stop; after = is.after; by_now = omega (arith, by_now, later); low = is.low; high = is.high }
 
-pub rental_stands : (s next : Operator) (number : ℕ) (x : Rental) → KeepsNames s next → (IsOut s number x.bike → IsOut next number x.bike) → fares_of number next.entries ≡ fares_of number s.entries
-    → refunded_of number next.entries ≤ℤ most_refunded x.closing → IsRentalAt s number x → IsRentalAt next number x
+pub rental_stands : (s next : Operator) (number : ℕ) (x : Rental) → KeepsNames s next → (IsOut s number x.bike → IsOut next number x.bike) → fares_of number next.entries.items ≡ fares_of number s.entries.items
+    → refunded_of number next.entries.items ≤ℤ most_refunded x.closing → IsRentalAt s number x → IsRentalAt next number x
 rental_stands s next number x k out fares refunded at =
     let by_now = at.by_now in
     let later = k.later in
@@ -64,58 +65,58 @@ rental_stands s next number x k out fares refunded at =
 pub as_refunded : (number : ℕ) (es fs : List Entry) (z : ℤ) → refunded_of number fs ≡ refunded_of number es → refunded_of number es ≤ℤ z → refunded_of number fs ≤ℤ z
 as_refunded number es fs z same high = subst (λ (y : ℤ). y ≤ℤ z) (sym same) high
 
-pub out_settled : (s x : Operator) (now : ℕ) (history : List AcceptedRequest) (number bike : ℕ) → IsOut x number bike → IsOut (at_moment x now history) number bike
+pub out_settled : (s x : Operator) (now : ℕ) (history : Numbered AcceptedRequest) (number bike : ℕ) → IsOut x number bike → IsOut (at_moment x now history) number bike
 out_settled s x now history number bike o = record { row = o.row; found = o.found; place_is = o.place_is }
 
 -- ---- quiet commands
 
-pub rentals_quiet : (s x : Operator) (now : ℕ) (history : List AcceptedRequest) → IsSound s → s.now ≤ now → IsQuiet s x → AreRentalsSound (at_moment x now history)
+pub rentals_quiet : (s x : Operator) (now : ℕ) (history : Numbered AcceptedRequest) → IsSound s → s.now ≤ now → IsQuiet s x → AreRentalsSound (at_moment x now history)
 rentals_quiet s x now history order later q =
     let few = order.rentals.few_rentals in
-    let count_rentals : length x.rentals ≡ length s.rentals = ap (λ (rs : List Rental). length rs) q.rentals in
-    let count_entries : length x.entries ≡ length s.entries = ap (λ (es : List Entry). length es) q.entries in
-    let count_open : open_rentals x ≡ open_rentals s = ap (λ (rs : List Rental). count is_open rs) q.rentals in
+    let count_rentals : last_number x.rentals ≡ last_number s.rentals = ap (λ (rs : Numbered Rental). last_number rs) q.rentals in
+    let count_entries : last_number x.entries ≡ last_number s.entries = ap (λ (es : Numbered Entry). last_number es) q.entries in
+    let count_open : open_rentals x ≡ open_rentals s = ap (λ (rs : Numbered Rental). count is_open rs.items) q.rentals in
     record {
       rentals = λ number r i.
           let at = order.rentals.rentals number r (before number r i) in
           rental_stands s (at_moment x now history) number r (record { riders = q.riders; bikes = q.bikes; plans = q.plans; stations = q.stations; later = later })
-          (λ o. out_settled s x now history number r.bike (q.out number r.bike o)) (ap (fares_of number) q.entries)
-          (as_refunded number s.entries x.entries (most_refunded r.closing) (ap (refunded_of number) q.entries) at.refunded) at;
+          (λ o. out_settled s x now history number r.bike (q.out number r.bike o)) (ap (λ (es : Numbered Entry). fares_of number es.items) q.entries)
+          (as_refunded number s.entries.items x.entries.items (most_refunded r.closing) (ap (λ (es : Numbered Entry). refunded_of number es.items) q.entries) at.refunded) at;
       riding = λ a b y z i j. order.rentals.riding a b y z (before a y i) (before b z j);
       few_rentals = omega (arith, few, count_rentals, count_entries, count_open);
     }
   where
     before : (number : ℕ) (r : Rental) → item_numbered number x.rentals ≡ Some r → item_numbered number s.rentals ≡ Some r
-    before number r i = ap (λ (rs : List Rental). item_numbered number rs) (sym q.rentals) ∙ i
+    before number r i = ap (λ (rs : Numbered Rental). item_numbered number rs) (sym q.rentals) ∙ i
 
-pub rentals_untouched : (s : Operator) (now : ℕ) (history : List AcceptedRequest) → IsSound s → s.now ≤ now → AreRentalsSound (at_moment s now history)
-rentals_untouched s now history order later = rentals_quiet s s now history order later (quiet_fields s s refl refl refl refl refl refl)
+pub rentals_untouched : (s : Operator) (now : ℕ) (history : Numbered AcceptedRequest) → IsSound s → s.now ≤ now → AreRentalsSound (at_moment s now history)
+rentals_untouched s now history order later = rentals_quiet s s now history order later (quiet_fields s s refl refl refl refl refl refl refl)
 
 -- ---- payments
 
 -- an entry that is no fare
-rentals_paid : (s : Operator) (now : ℕ) (history : List AcceptedRequest) (e : Entry) → IsSound s → s.now ≤ now → is_fare e.kind ≡ false
-    → ((number : ℕ) (x : Rental) → item_numbered number s.rentals ≡ Some x → (refunded_of number s.entries +ℤ given_back_of number e) ≤ℤ most_refunded x.closing)
-    → AreRentalsSound (at_moment (record s { entries = s.entries ++ e ∷ [] }) now history)
+rentals_paid : (s : Operator) (now : ℕ) (history : Numbered AcceptedRequest) (e : Entry) → IsSound s → s.now ≤ now → is_fare e.kind ≡ false
+    → ((number : ℕ) (x : Rental) → item_numbered number s.rentals ≡ Some x → (refunded_of number s.entries.items +ℤ given_back_of number e) ≤ℤ most_refunded x.closing)
+    → AreRentalsSound (at_moment (record s { entries = with_item e s.entries }) now history)
 rentals_paid s now history e order later no_fare refunded =
     let few = order.rentals.few_rentals in
-    let more = length-append s.entries (e ∷ []) in
+    let more = last_added s.entries e in
     record {
       rentals = λ number r i.
-          rental_stands s (at_moment (record s { entries = s.entries ++ e ∷ [] }) now history) number r
+          rental_stands s (at_moment (record s { entries = with_item e s.entries }) now history) number r
           (record { riders = λ id h. h; bikes = λ id h. h; plans = λ id h. h; stations = λ id h. h; later = later })
           (λ o. record { row = o.row; found = o.found; place_is = o.place_is })
-          (fares_apart number s.entries e (ap (λ (b : Bool). b && eqb e.rental number) no_fare))
-          (subst (λ (z : ℤ). z ≤ℤ most_refunded r.closing) (sym (refunded_added number s.entries e)) (refunded number r i))
+          (fares_apart number s.entries.items e (ap (λ (b : Bool). b && eqb e.rental number) no_fare))
+          (subst (λ (z : ℤ). z ≤ℤ most_refunded r.closing) (sym (refunded_added number s.entries.items e)) (refunded number r i))
           (order.rentals.rentals number r i);
       riding = order.rentals.riding;
       few_rentals = omega (arith, few, more);
     }
 
-pub rentals_topped_up : (s : Operator) (now : ℕ) (history : List AcceptedRequest) (rider amount : ℕ) → IsSound s → s.now ≤ now
+pub rentals_topped_up : (s : Operator) (now : ℕ) (history : Numbered AcceptedRequest) (rider amount : ℕ) → IsSound s → s.now ≤ now
     → AreRentalsSound (at_moment (with_entry TopUp rider 0 (pos amount) now s) now history)
 rentals_topped_up s now history rider amount order later =
-    rentals_paid s now history (record { number = length s.entries + 1; kind = TopUp; rider = rider; rental = 0; amount = pos amount; at = now }) order later refl
+    rentals_paid s now history (record { number = last_number s.entries + 1; kind = TopUp; rider = rider; rental = 0; amount = pos amount; at = now }) order later refl
     (λ number x i.
     let none : cond (eqb 0 number) (pos 0) (pos 0) ≡ pos 0 = same_either (eqb 0 number) (pos 0) refl in
     let high = (order.rentals.rentals number x i).refunded in
@@ -124,13 +125,13 @@ rentals_topped_up s now history rider amount order later =
 not_more : (fare refunded amount : ℤ) → int_lt (fare -ℤ refunded) amount ≡ false → (refunded +ℤ amount) ≤ℤ fare
 not_more fare refunded amount e = grind (arith, ints)
 
-pub rentals_refunded : (s : Operator) (now : ℕ) (history : List AcceptedRequest) (amount : ℕ) (o : Option RentalView) → IsSound s → s.now ≤ now
+pub rentals_refunded : (s : Operator) (now : ℕ) (history : Numbered AcceptedRequest) (amount : ℕ) (o : Option RentalView) → IsSound s → s.now ≤ now
     → ((r : RentalView) → o ≡ Some r → IsViewOf s r × (on r.rental.closing (λ c. int_lt (c.fare -ℤ r.refunded) (pos amount)) ≡ false) × (is_open r.rental ≡ false))
     → AreRentalsSound (at_moment (refunded_by amount now o s) now history)
 rentals_refunded s now history amount None order later is = rentals_untouched s now history order later
 rentals_refunded s now history amount (Some r) order later is =
     let facts = is r refl in
-    rentals_paid s now history (record { number = length s.entries + 1; kind = Refund; rider = r.rental.rider; rental = r.number; amount = pos amount; at = now }) order later refl
+    rentals_paid s now history (record { number = last_number s.entries + 1; kind = Refund; rider = r.rental.rider; rental = r.number; amount = pos amount; at = now }) order later refl
     (λ number x i. within facts.0 facts.1 facts.2 number x i (either number r.number))
   where
     enough : (c : Option Closing) → on c (λ d. int_lt (d.fare -ℤ r.refunded) (pos amount)) ≡ false → is_none c ≡ false → (r.refunded +ℤ pos amount) ≤ℤ most_refunded c
@@ -143,11 +144,11 @@ rentals_refunded s now history amount (Some r) order later is =
 
     within : IsViewOf s r → on r.rental.closing (λ c. int_lt (c.fare -ℤ r.refunded) (pos amount)) ≡ false → is_open r.rental ≡ false → (number : ℕ) (x : Rental)
         → item_numbered number s.rentals ≡ Some x → Either number r.number
-        → (refunded_of number s.entries +ℤ cond (eqb r.number number) (pos amount) (pos 0)) ≤ℤ most_refunded x.closing
+        → (refunded_of number s.entries.items +ℤ cond (eqb r.number number) (pos amount) (pos 0)) ≤ℤ most_refunded x.closing
     within v e shut number x i (Same same) =
         let is_row : r.rental ≡ x = same_Some r.rental x (sym v.found ∙ ap (λ (n : ℕ). item_numbered n s.rentals) (sym same) ∙ i) in
-        let total : r.refunded ≡ refunded_of number s.entries = v.refunded_is ∙ ap (λ (n : ℕ). refunded_of n s.entries) (sym same) in
-        at_most (eqb r.number number) (refunded_of number s.entries) (most_refunded x.closing)
+        let total : r.refunded ≡ refunded_of number s.entries.items = v.refunded_is ∙ ap (λ (n : ℕ). refunded_of n s.entries.items) (sym same) in
+        at_most (eqb r.number number) (refunded_of number s.entries.items) (most_refunded x.closing)
         (subst (λ (z : ℤ). (z +ℤ pos amount) ≤ℤ most_refunded x.closing) total (subst (λ (y : Rental). (r.refunded +ℤ pos amount) ≤ℤ most_refunded y.closing) is_row (enough r.rental.closing e shut)))
     within v e shut number x i (Other apart) =
         let none : cond (eqb r.number number) (pos amount) (pos 0) ≡ pos 0 = ap (λ (b : Bool). cond b (pos amount) (pos 0)) (other_number r.number number apart) in

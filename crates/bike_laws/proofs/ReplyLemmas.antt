@@ -1,5 +1,5 @@
 -- An accepted command is answered by a reply of the program.
-use Rattle.std.proofs.Common.{◌≡◌, ℕ, ℤ, ◌+◌, ◌<◌, ◌≤◌, pos, List, [], ◌∷◌, ◌++◌, length, length-append, true, false, Option, Some, None, refl, sym, subst, arith}
+use Rattle.std.proofs.Common.{◌≡◌, ℕ, ℤ, ◌+◌, ◌+ℤ◌, ◌<◌, ◌≤◌, pos, List, [], ◌∷◌, ◌++◌, length, length-append, true, false, Option, Some, None, refl, sym, subst, arith}
 use Rattle.std.specs.FinMap as finmap
 use Rattle.std.proofs.lemmas.Int.{ints}
 use Rattle.bike_fields.specs.Values.{SegmentRow}
@@ -19,15 +19,16 @@ use Rattle.bike_commands.specs.Replies.{Any, IsReply}
 use Rattle.bike_operator.specs.declared.records.Bike.{Bike}
 use Rattle.bike_operator.specs.declared.records.Rental.{Rental}
 use Rattle.bike_operator.specs.declared.view.RentalView.{RentalView}
-use Rattle.bike_operator.specs.Operator.{Operator, item_numbered}
+use Rattle.bike_operator.specs.Operator.{Operator, Rider, item_numbered, last_number}
 use Rattle.bike_operator.specs.Counts.{docked_at, open_rentals, is_open}
-use Rattle.bike_operator.specs.View.{docked_view, typed_bike, rental_view, rental_of, view_of}
+use Rattle.bike_operator.specs.View.{before_of, docked_view, typed_bike, rental_view, rental_of, view_of}
 use Rattle.bike_operator.specs.declared.limits.TheConstants.{MOST_ENTRIES, MOST_ORDERS}
 use Rattle.bike_operator.specs.Steps.{tests, refusal_of, fare_now, after_end, after_recovery, refunded_by, started_reply, ended_reply, refunded_reply, reply_of}
-use Rattle.bike_operator.specs.Sound.{IsSound, is_refused}
+use Rattle.bike_operator.specs.Sound.{IsSound, IsLedgerSound, IsSumOf, is_refused}
+use Rattle.bike_laws.proofs.PastLemmas.{none_before}
 use Rattle.bike_laws.proofs.SingleSteps.TestLemmas.{none_holds}
 use Rattle.bike_laws.proofs.NumberLemmas.{count_some}
-use Rattle.bike_laws.proofs.EntryLemmas.{amounts_of, amounts_added, IsWithin, balance_within}
+use Rattle.bike_laws.proofs.EntryLemmas.{amounts_of, amounts_added, balance_within, both_sums}
 use Rattle.bike_laws.proofs.FoundLemmas.{below_of, docked_is, IsViewOf, view_is, IsRentalOf, rental_is, open_of}
 
 -- a reply of the program that isn't a refusal
@@ -56,27 +57,35 @@ fare_amount s now r order v =
 
 -- ---- balances
 
-good_balance : (n : ℕ) (balance : ℤ) → n ≤ MOST_ENTRIES → IsWithin n balance → IsGood (Any balance)
+good_balance : (n : ℕ) (balance : ℤ) → n ≤ MOST_ENTRIES → IsSumOf n balance → IsGood (Any balance)
 good_balance n balance few within =
     let low = within.low in
     let high = within.high in
     (omega (arith, ints, few, low), omega (arith, ints, few, high), omega (arith, ints), omega (arith, ints))
 
+-- what a rider has of the archived entries
+pub before_within : (s : Operator) (rider : ℕ) (o : Option Rider) → finmap.get s.riders rider ≡ o → IsLedgerSound s → IsSumOf s.entries.archived (before_of o)
+before_within s rider None e ledger = none_before s.entries.archived
+before_within s rider (Some r) e ledger = (ledger.riders rider r e).before
+
 -- the balance after one more entry
-balance_after : (s : Operator) (rider : ℕ) (e : Entry) → IsSound s → length s.entries < MOST_ENTRIES → IsAmount e.amount → IsGood (Any (balance_of rider (s.entries ++ e ∷ [])))
+balance_after : (s : Operator) (rider : ℕ) (e : Entry) → IsSound s → last_number s.entries < MOST_ENTRIES → IsAmount e.amount
+    → IsGood (Any (before_of (finmap.get s.riders rider) +ℤ balance_of rider (s.entries.items ++ e ∷ [])))
 balance_after s rider e order few is =
-    let size = length-append s.entries (e ∷ []) in
-    good_balance (length (s.entries ++ e ∷ [])) (balance_of rider (s.entries ++ e ∷ [])) (omega (arith, size, few))
-    (balance_within (s.entries ++ e ∷ []) rider (amounts_added s.entries e (amounts_of s order.ledger) is))
+    let size = length-append s.entries.items (e ∷ []) in
+    good_balance (s.entries.archived + length (s.entries.items ++ e ∷ [])) (before_of (finmap.get s.riders rider) +ℤ balance_of rider (s.entries.items ++ e ∷ [])) (omega (arith, size, few))
+    (both_sums s.entries.archived (length (s.entries.items ++ e ∷ [])) (before_of (finmap.get s.riders rider)) (balance_of rider (s.entries.items ++ e ∷ []))
+    (before_within s rider (finmap.get s.riders rider) refl order.ledger)
+    (balance_within (s.entries.items ++ e ∷ []) rider (amounts_added s.entries.items e (amounts_of s order.ledger) is)))
 
 -- ---- each kind
 
 -- entries and open rentals are fewer than there may be
 pub record HasRoom (s : Operator) : Type 0 where
-  pub room : length s.entries + open_rentals s < MOST_ENTRIES
+  pub room : last_number s.entries + open_rentals s < MOST_ENTRIES
 
 -- where a rental is open there is room for its fare
-pub room_for_fare : (s : Operator) (number : ℕ) (x : Rental) → IsSound s → item_numbered number s.rentals ≡ Some x → is_open x ≡ true → length s.entries < MOST_ENTRIES
+pub room_for_fare : (s : Operator) (number : ℕ) (x : Rental) → IsSound s → item_numbered number s.rentals ≡ Some x → is_open x ≡ true → last_number s.entries < MOST_ENTRIES
 room_for_fare s number x order found now =
     let one = count_some (λ r. is_open r) number s.rentals x found now in
     let few = order.ledger.few_entries in
@@ -96,7 +105,7 @@ started_good s station dock (Some b) order has is = started_typed s b (finmap.ge
 
 -- the entries of the next operator have one more, which is the fare
 fare_good : (s : Operator) (now : ℕ) (r : RentalView) (e : Entry) → IsSound s → IsViewOf s r → is_open r.rental ≡ true → e.amount ≡ fare_now r now
-    → IsAnswer (Ended (fare_now r now) (balance_of r.rental.rider (s.entries ++ e ∷ [])))
+    → IsAnswer (Ended (fare_now r now) (before_of (finmap.get s.riders r.rental.rider) +ℤ balance_of r.rental.rider (s.entries.items ++ e ∷ [])))
 fare_good s now r e order v now_open is =
     let amount = fare_amount s now r order v in
     let low = amount.low in
@@ -134,11 +143,11 @@ done = (tt, refl)
 pub reply_good : (s : Operator) (now : ℕ) (c : Command) → IsSound s → IsCommand c → refusal_of s c ≡ None → s.now ≤ now → IsAnswer (reply_of s now c)
 reply_good s now (command.TopUp rider amount) order good none later =
     let free = none_holds (tests (view_of s (command.TopUp rider amount)) (command.TopUp rider amount)) none in
-    let room = below_of MOST_ENTRIES (length s.entries + open_rentals s) free.1.0 in
+    let room = below_of MOST_ENTRIES (last_number s.entries + open_rentals s) free.1.0 in
     ((balance_after s rider _ order (omega (arith, room)) (paid_amount amount (record { low = good.1.0.0; high = good.1.0.1 })), tt), refl)
 reply_good s now (command.Start rider station dock) order good none later =
     let free = none_holds (tests (view_of s (command.Start rider station dock)) (command.Start rider station dock)) none in
-    started_good s station dock (docked_at s station dock) order (record { room = below_of MOST_ENTRIES (length s.entries + open_rentals s) free.1.1.1.1.1.1.1.1.1.1.0 }) refl
+    started_good s station dock (docked_at s station dock) order (record { room = below_of MOST_ENTRIES (last_number s.entries + open_rentals s) free.1.1.1.1.1.1.1.1.1.1.0 }) refl
 reply_good s now (command.End bike station dock) order good none later =
     ended_good s now bike station dock (rental_of s (finmap.get s.bikes bike)) order (λ r i. rental_is s bike (finmap.get s.bikes bike) r order.bikes refl i)
 reply_good s now (command.Recover rental) order good none later =
@@ -148,9 +157,9 @@ reply_good s now (command.Recover rental) order good none later =
 reply_good s now (command.Refund rental amount) order good none later =
     let free = none_holds (tests (view_of s (command.Refund rental amount)) (command.Refund rental amount)) none in
     refunded_good s now amount (rental_view s rental (item_numbered rental s.rentals)) order
-    (record { room = below_of MOST_ENTRIES (length s.entries + open_rentals s) free.1.1.1.0 }) (record { low = good.1.0.0; high = good.1.0.1 })
+    (record { room = below_of MOST_ENTRIES (last_number s.entries + open_rentals s) free.1.1.1.0 }) (record { low = good.1.0.0; high = good.1.0.1 })
 reply_good s now (command.OpenOrder truck from_end to_end type_id count) order good none later =
     let free = none_holds (tests (view_of s (command.OpenOrder truck from_end to_end type_id count)) (command.OpenOrder truck from_end to_end type_id count)) none in
-    let few = below_of MOST_ORDERS (length s.orders) free.1.1.1.1.1.1.0 in
+    let few = below_of MOST_ORDERS (last_number s.orders) free.1.1.1.1.1.1.0 in
     (((omega arith, omega (arith, few), omega arith), tt), refl)
 reply_good s now c order good none later = done

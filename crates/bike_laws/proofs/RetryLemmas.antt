@@ -13,7 +13,7 @@ use Rattle.bike_commands.specs.declared.reply.Reply.TheVariants.{Refused}
 use Rattle.bike_commands.specs.declared.refusal.Refusal.{Refusal}
 use Rattle.bike_commands.specs.declared.refusal.Refusal.TheVariants as refusal
 use Rattle.bike_commands.specs.declared.request.Request.{Request}
-use Rattle.bike_operator.specs.Operator.{Operator, AcceptedRequest, Key, key_in, kept_under, texts_cmp, item_at}
+use Rattle.bike_operator.specs.Operator.{Operator, AcceptedRequest, Key, key_in, kept_under, texts_cmp, item_at, with_item, Numbered}
 use Rattle.bike_operator.specs.Steps.{refusal_of, reply_of}
 use Rattle.bike_operator.specs.Runs.{Call, is_same, step, after, after_acceptance, outcome, outcome_with_kept}
 use Rattle.bike_laws.specs.Retries.{is_kept, is_accepted, acceptance, Keeps, accepts, times_accepted, without_retries}
@@ -73,7 +73,7 @@ none_under key (x ∷ h) n a e found = go (eq_by_cmp texts_cmp key (key_in x.req
 -- ---- one step
 
 -- where the key is kept, nothing changes
-kept_step : (s : Operator) (t : ℕ) (q : Request) (a : AcceptedRequest) → kept_under (key_in q) s.history ≡ Some a → step s t q ≡ outcome_with_kept s t q (Some a)
+kept_step : (s : Operator) (t : ℕ) (q : Request) (a : AcceptedRequest) → kept_under (key_in q) s.history.items ≡ Some a → step s t q ≡ outcome_with_kept s t q (Some a)
 kept_step s t q a e = ap (outcome_with_kept s t q) e
 
 kept_stays_put : (s : Operator) (t : ℕ) (q : Request) (o : Option AcceptedRequest) → is_some o ≡ true → (outcome_with_kept s t q o).1 ≡ s
@@ -83,40 +83,40 @@ kept_stays_put s t q (Some a) e = refl
 -- an accepted request
 pub accepted_step : (s : Operator) (t : ℕ) (q : Request) → is_accepted s q ≡ true → step s t q ≡ (reply_of s (max t s.now) q.command, after_acceptance s (max t s.now) q)
 accepted_step s t q e =
-    let parts = both_true (is_none (kept_under (key_in q) s.history)) (is_none (refusal_of s q.command)) e in
-    ap (outcome_with_kept s t q) (nothing (kept_under (key_in q) s.history) parts.0) ∙ ap (outcome s (max t s.now) q) (nothing (refusal_of s q.command) parts.1)
+    let parts = both_true (is_none (kept_under (key_in q) s.history.items)) (is_none (refusal_of s q.command)) e in
+    ap (outcome_with_kept s t q) (nothing (kept_under (key_in q) s.history.items) parts.0) ∙ ap (outcome s (max t s.now) q) (nothing (refusal_of s q.command) parts.1)
 
 -- it stands at the end of the history
-pub accepted_last : (s : Operator) (t : ℕ) (q : Request) → is_accepted s q ≡ true → (step s t q).1.history ≡ s.history ++ acceptance s t q ∷ []
+pub accepted_last : (s : Operator) (t : ℕ) (q : Request) → is_accepted s q ≡ true → (step s t q).1.history ≡ with_item (acceptance s t q) s.history
 accepted_last s t q e =
     let is = accepted_step s t q e in
     ap (λ (r : Reply × Operator). r.1.history) is
-    ∙ ap (λ (r : Reply × Operator). s.history ++ record { moment = max t s.now; request = q; reply = r.0 } ∷ []) (sym is)
+    ∙ ap (λ (r : Reply × Operator). with_item (record { moment = max t s.now; request = q; reply = r.0 }) s.history) (sym is)
 
 pub first_kept : (s : Operator) (t : ℕ) (q : Request) → is_accepted s q ≡ true → Keeps (step s t q).1 (acceptance s t q)
 first_kept s t q e =
-    let parts = both_true (is_none (kept_under (key_in q) s.history)) (is_none (refusal_of s q.command)) e in
-    ap (kept_under (key_in q)) (accepted_last s t q e)
-    ∙ kept_last (key_in q) s.history (acceptance s t q) (nothing (kept_under (key_in q) s.history) parts.0)
+    let parts = both_true (is_none (kept_under (key_in q) s.history.items)) (is_none (refusal_of s q.command)) e in
+    ap (λ (h : Numbered AcceptedRequest). kept_under (key_in q) h.items) (accepted_last s t q e)
+    ∙ kept_last (key_in q) s.history.items (acceptance s t q) (nothing (kept_under (key_in q) s.history.items) parts.0)
     ∙ ap (λ b. cond b (Some (acceptance s t q)) None) (key_itself (key_in q))
 
 -- what is kept stays so through a step
-decided_keeps : (s : Operator) (now : ℕ) (q : Request) (o : Option Refusal) (key : Key) (a : AcceptedRequest) → kept_under key s.history ≡ Some a
-    → kept_under key (outcome s now q o).1.history ≡ Some a
+decided_keeps : (s : Operator) (now : ℕ) (q : Request) (o : Option Refusal) (key : Key) (a : AcceptedRequest) → kept_under key s.history.items ≡ Some a
+    → kept_under key (outcome s now q o).1.history.items ≡ Some a
 decided_keeps s now q (Some r) key a some = some
-decided_keeps s now q None key a some = kept_on key s.history _ a some
+decided_keeps s now q None key a some = kept_on key s.history.items _ a some
 
-answered_keeps : (s : Operator) (t : ℕ) (q : Request) (o : Option AcceptedRequest) (key : Key) (a : AcceptedRequest) → kept_under key s.history ≡ Some a
-    → kept_under key (outcome_with_kept s t q o).1.history ≡ Some a
+answered_keeps : (s : Operator) (t : ℕ) (q : Request) (o : Option AcceptedRequest) (key : Key) (a : AcceptedRequest) → kept_under key s.history.items ≡ Some a
+    → kept_under key (outcome_with_kept s t q o).1.history.items ≡ Some a
 answered_keeps s t q (Some kept) key a some = some
 answered_keeps s t q None key a some = decided_keeps s (max t s.now) q (refusal_of s q.command) key a some
 
-step_keeps : (s : Operator) (t : ℕ) (q : Request) (key : Key) (a : AcceptedRequest) → kept_under key s.history ≡ Some a → kept_under key (step s t q).1.history ≡ Some a
-step_keeps s t q key a some = answered_keeps s t q (kept_under (key_in q) s.history) key a some
+step_keeps : (s : Operator) (t : ℕ) (q : Request) (key : Key) (a : AcceptedRequest) → kept_under key s.history.items ≡ Some a → kept_under key (step s t q).1.history.items ≡ Some a
+step_keeps s t q key a some = answered_keeps s t q (kept_under (key_in q) s.history.items) key a some
 
 -- ---- lists
 
-keeps_on : (s : Operator) (cs : List Call) (key : Key) (a : AcceptedRequest) → kept_under key s.history ≡ Some a → kept_under key (after s cs).history ≡ Some a
+keeps_on : (s : Operator) (cs : List Call) (key : Key) (a : AcceptedRequest) → kept_under key s.history.items ≡ Some a → kept_under key (after s cs).history.items ≡ Some a
 keeps_on s [] key a some = some
 keeps_on s (c ∷ cs) key a some = keeps_on (step s c.0 c.1).1 cs key a (step_keeps s c.0 c.1 key a some)
 
@@ -125,9 +125,9 @@ stays_kept s cs a some = keeps_on s cs (key_in a.request) a some
 
 -- the first request is still kept when a request with its caller and key comes
 kept_later : (s : Operator) (t : ℕ) (q p : Request) (cs : List Call) → is_accepted s q ≡ true → key_in p ≡ key_in q
-    → kept_under (key_in p) (after (step s t q).1 cs).history ≡ Some (acceptance s t q)
+    → kept_under (key_in p) (after (step s t q).1 cs).history.items ≡ Some (acceptance s t q)
 kept_later s t q p cs e i =
-    ap (λ (k : Key). kept_under k (after (step s t q).1 cs).history) i
+    ap (λ (k : Key). kept_under k (after (step s t q).1 cs).history.items) i
     ∙ stays_kept (step s t q).1 cs (acceptance s t q) (first_kept s t q e)
 
 pub answered_again : (s : Operator) (t u : ℕ) (q p : Request) (cs : List Call) → is_accepted s q ≡ true → key_in p ≡ key_in q → is_same q.command p.command ≡ true
@@ -144,13 +144,13 @@ refused_again s t u q p cs e i other =
 
 -- ---- acceptance
 
-none_accepted : (s : Operator) (key : Key) (q : Request) (k : AcceptedRequest) → kept_under key s.history ≡ Some k → accepts s key q ≡ false
+none_accepted : (s : Operator) (key : Key) (q : Request) (k : AcceptedRequest) → kept_under key s.history.items ≡ Some k → accepts s key q ≡ false
 none_accepted s key q k some = tells (eq_by_cmp texts_cmp key (key_in q)) refl where
   tells : (b : Bool) → eq_by_cmp texts_cmp key (key_in q) ≡ b → (b && is_accepted s q) ≡ false
-  tells true e = ap (λ (o : Option AcceptedRequest). is_none o && is_none (refusal_of s q.command)) (ap (λ (z : Key). kept_under z s.history) (sym (same_key key (key_in q) e)) ∙ some)
+  tells true e = ap (λ (o : Option AcceptedRequest). is_none o && is_none (refusal_of s q.command)) (ap (λ (z : Key). kept_under z s.history.items) (sym (same_key key (key_in q) e)) ∙ some)
   tells false e = refl
 
-no_times : (s : Operator) (key : Key) (k : AcceptedRequest) (cs : List Call) → kept_under key s.history ≡ Some k → times_accepted s key cs ≡ 0
+no_times : (s : Operator) (key : Key) (k : AcceptedRequest) (cs : List Call) → kept_under key s.history.items ≡ Some k → times_accepted s key cs ≡ 0
 no_times s key k [] some = refl
 no_times s key k (c ∷ cs) some =
     let later = no_times (step s c.0 c.1).1 key k cs (step_keeps s c.0 c.1 key k some) in
@@ -164,7 +164,7 @@ at_most_once s key (c ∷ cs) = tells (accepts s key c.1) refl (at_most_once (st
   then_none e =
       let parts = both_true (eq_by_cmp texts_cmp key (key_in c.1)) (is_accepted s c.1) e in
       no_times (step s c.0 c.1).1 key (acceptance s c.0 c.1) cs
-      (ap (λ (z : Key). kept_under z (step s c.0 c.1).1.history) (same_key key (key_in c.1) parts.0) ∙ first_kept s c.0 c.1 parts.1)
+      (ap (λ (z : Key). kept_under z (step s c.0 c.1).1.history.items) (same_key key (key_in c.1) parts.0) ∙ first_kept s c.0 c.1 parts.1)
 
   tells : (b : Bool) → accepts s key c.1 ≡ b → times_accepted (step s c.0 c.1).1 key cs ≤ 1 → cond b 1 0 + times_accepted (step s c.0 c.1).1 key cs ≤ 1
   tells true e later = let none = then_none e in omega (arith, none)
@@ -175,7 +175,7 @@ at_most_once s key (c ∷ cs) = tells (accepts s key c.1) refl (at_most_once (st
 pub one_left_out : (s : Operator) (cs ds : List Call) (c : Call) → is_kept (after s cs) c.1 ≡ true → after s (cs ++ c ∷ ds) ≡ after s (cs ++ ds)
 one_left_out s cs ds c kept =
     after-append s cs (c ∷ ds)
-    ∙ ap (λ (r : Operator). after r ds) (kept_stays_put (after s cs) c.0 c.1 (kept_under (key_in c.1) (after s cs).history) kept)
+    ∙ ap (λ (r : Operator). after r ds) (kept_stays_put (after s cs) c.0 c.1 (kept_under (key_in c.1) (after s cs).history.items) kept)
     ∙ sym (after-append s cs ds)
 
 pub all_left_out : (s : Operator) (cs : List Call) → after s (without_retries s cs) ≡ after s cs
@@ -183,5 +183,5 @@ all_left_out s [] = refl
 all_left_out s (c ∷ cs) = tells (is_kept s c.1) refl (all_left_out s cs) (all_left_out (step s c.0 c.1).1 cs) where
   tells : (b : Bool) → is_kept s c.1 ≡ b → after s (without_retries s cs) ≡ after s cs → after (step s c.0 c.1).1 (without_retries (step s c.0 c.1).1 cs) ≡ after (step s c.0 c.1).1 cs
       → after s (cond b (without_retries s cs) (c ∷ without_retries (step s c.0 c.1).1 cs)) ≡ after s (c ∷ cs)
-  tells true e here later = here ∙ ap (λ (r : Operator). after r cs) (sym (kept_stays_put s c.0 c.1 (kept_under (key_in c.1) s.history) e))
+  tells true e here later = here ∙ ap (λ (r : Operator). after r cs) (sym (kept_stays_put s c.0 c.1 (kept_under (key_in c.1) s.history.items) e))
   tells false e here later = later

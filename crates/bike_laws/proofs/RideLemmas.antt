@@ -1,5 +1,5 @@
 -- Rentals that begin and end leave rentals sound.
-use Rattle.std.proofs.Common.{◌≡◌, ℕ, zero, suc, ◌+◌, ◌≤◌, pos, List, [], ◌∷◌, ◌++◌, length, length-append, Bool, true, false, cond, eqb, Option, Some, None, refl, sym, ap, ◌∙◌, subst, arith, inl}
+use Rattle.std.proofs.Common.{◌≡◌, ℕ, zero, suc, ◌+◌, ◌-◌, ◌≤◌, pos, List, [], ◌∷◌, Bool, true, false, cond, eqb, Option, Some, None, refl, sym, ap, ◌∙◌, subst, arith, inl}
 use Rattle.std.proofs.Common.{inr}
 use Rattle.std.specs.Prelude.{is_some, ◌&&◌, ◌||◌}
 use Rattle.std.specs.List.{list_any}
@@ -19,12 +19,12 @@ use Rattle.bike_operator.specs.declared.records.Place.TheVariants as place
 use Rattle.bike_operator.specs.declared.records.Bike.{Bike}
 use Rattle.bike_operator.specs.declared.records.Rental.{Rental}
 use Rattle.bike_operator.specs.declared.view.DockedBike.{DockedBike}
-use Rattle.bike_operator.specs.Operator.{Operator, AcceptedRequest, item_at, item_numbered}
+use Rattle.bike_operator.specs.Operator.{Operator, Rider, AcceptedRequest, Numbered, item_at, item_in, item_numbered, last_number, with_item}
 use Rattle.bike_operator.specs.Counts.{is_dock, open_rentals, is_open, is_riding, docked_at}
 use Rattle.bike_operator.specs.View.{typed_bike, docked_view}
-use Rattle.bike_operator.specs.Steps.{after_start}
-use Rattle.bike_operator.specs.Sound.{IsOut, is_fare, IsRentalAt, AreRentalsSound, IsOfRental, IsBooking, IsSound}
-use Rattle.bike_laws.proofs.SingleSteps.ItemLemmas.{number_or_last, number_within}
+use Rattle.bike_operator.specs.Steps.{after_start, plan_for, own_plan}
+use Rattle.bike_operator.specs.Sound.{IsOut, is_fare, IsRentalAt, AreRentalsSound, IsOfRental, IsBooking, IsPlanOrNone, IsSound}
+use Rattle.bike_laws.proofs.SingleSteps.ItemLemmas.{number_or_last, number_within, number_of_place, last_added}
 use Rattle.bike_laws.proofs.SingleSteps.Moment.{at_moment}
 use Rattle.bike_laws.proofs.NumberLemmas.{count_added}
 use Rattle.bike_laws.proofs.EntryLemmas.{IsApart, no_fares, no_refunds, same_either}
@@ -56,23 +56,26 @@ docked_view_is s station dock None b at is = absurd cc
 docked_view_is s station dock (Some x) b at is = typed_is s station dock x (finmap.get s.types x.1.type_id) b at refl is
 
 -- no entry is of a rental that isn't there yet
-apart_rental : (s : Operator) (e : Entry) → IsOfRental s e → eqb e.rental (length s.rentals + 1) ≡ false
-apart_rental s e o =
+apart_rental : (s : Operator) (e : Entry) → IsOfRental s e → eqb e.rental (last_number s.rentals + 1) ≡ false
+apart_rental s e (inl old) =
+    let high = old.high in
+    elim (eqb_tells e.rental (last_number s.rentals + 1)) [ inl w ↦ absurd (let same = w.1 in omega (arith, same, high)) | inr w ↦ w.0 ]
+apart_rental s e (inr o) =
     let within = number_within e.rental s.rentals o.row o.found in
-    elim (eqb_tells e.rental (length s.rentals + 1)) [ inl w ↦ absurd (let same = w.1 in omega (arith, same, within)) | inr w ↦ w.0 ]
+    elim (eqb_tells e.rental (last_number s.rentals + 1)) [ inl w ↦ absurd (let same = w.1 in omega (arith, same, within)) | inr w ↦ w.0 ]
 
 apart_booking : (s : Operator) (e : Entry) (k : EntryKind) → IsBooking s e k
-    → ((is_fare k && eqb e.rental (length s.rentals + 1)) ≡ false) × (cond (eqb e.rental (length s.rentals + 1)) (given_back k e.amount) (pos 0) ≡ pos 0)
-apart_booking s e TopUp b = (refl, same_either (eqb e.rental (length s.rentals + 1)) (pos 0) refl)
-apart_booking s e Fare b = (apart_rental s e b.0, same_either (eqb e.rental (length s.rentals + 1)) (pos 0) refl)
+    → ((is_fare k && eqb e.rental (last_number s.rentals + 1)) ≡ false) × (cond (eqb e.rental (last_number s.rentals + 1)) (given_back k e.amount) (pos 0) ≡ pos 0)
+apart_booking s e TopUp b = (refl, same_either (eqb e.rental (last_number s.rentals + 1)) (pos 0) refl)
+apart_booking s e Fare b = (apart_rental s e b.0, same_either (eqb e.rental (last_number s.rentals + 1)) (pos 0) refl)
 apart_booking s e Refund b = (refl, ap (λ (x : Bool). cond x e.amount (pos 0)) (apart_rental s e b.0))
-apart_booking s e Withdrawal b = (refl, same_either (eqb e.rental (length s.rentals + 1)) (pos 0) refl)
-apart_booking s e Charge b = (refl, same_either (eqb e.rental (length s.rentals + 1)) (pos 0) refl)
-apart_booking s e Credit b = (refl, same_either (eqb e.rental (length s.rentals + 1)) (pos 0) refl)
+apart_booking s e Withdrawal b = (refl, same_either (eqb e.rental (last_number s.rentals + 1)) (pos 0) refl)
+apart_booking s e Charge b = (refl, same_either (eqb e.rental (last_number s.rentals + 1)) (pos 0) refl)
+apart_booking s e Credit b = (refl, same_either (eqb e.rental (last_number s.rentals + 1)) (pos 0) refl)
 
-apart_entry : (s : Operator) (n : ℕ) (e : Entry) → IsSound s → item_at n s.entries ≡ Some e → IsApart (length s.rentals + 1) e
+apart_entry : (s : Operator) (n : ℕ) (e : Entry) → IsSound s → item_at n s.entries.items ≡ Some e → IsApart (last_number s.rentals + 1) e
 apart_entry s n e order i =
-    let parts = apart_booking s e e.kind (order.ledger.entries (suc n) e i).booking in
+    let parts = apart_booking s e e.kind (order.ledger.entries (s.entries.archived + suc n) e (number_of_place n s.entries e i)).booking in
     record { no_fare = parts.0; no_refund = parts.1 }
 
 -- a rider who isn't riding has no open rental
@@ -87,10 +90,13 @@ not_any test (suc n) (y ∷ ys) x none i = not_any test n ys x (rest_none (test 
   rest_none true b e = absurd cc
   rest_none false b e = e
 
+not_in : (test : Rental → Bool) (n : ℕ) (xs : List Rental) (x : Rental) → list_any test xs ≡ false → item_in n xs ≡ Some x → test x ≡ false
+not_in test zero xs x none i = absurd cc
+not_in test (suc n) xs x none i = not_any test n xs x none i
+
 none_riding : (s : Operator) (rider n : ℕ) (x : Rental) → is_riding s rider ≡ false → item_numbered n s.rentals ≡ Some x → is_open x ≡ true → x.rider ≡ rider → ⊥
-none_riding s rider zero x none i ongoing same = absurd cc
-none_riding s rider (suc n) x none i ongoing same =
-    let test = not_any (λ r. eqb r.rider rider && is_open r) n s.rentals x none i in
+none_riding s rider n x none i ongoing same =
+    let test = not_in (λ r. eqb r.rider rider && is_open r) (n - s.rentals.archived) s.rentals.items x none i in
     let equal : eqb x.rider rider ≡ true = elim (eqb_tells x.rider rider) [ inl w ↦ w.0 | inr w ↦ absurd (w.1 same) ] in
     let holds : (eqb x.rider rider && is_open x) ≡ true = ap (λ (b : Bool). b && is_open x) equal ∙ ongoing in
     absurd cc
@@ -101,13 +107,13 @@ pub record IsStart (s : Operator) (rider : ℕ) (station : List ℕ) : Type 0 wh
   pub idle : is_riding s rider ≡ false
   pub station_is : finmap.contains_key s.stations station ≡ true
 
-pub rentals_started : (s : Operator) (now : ℕ) (history : List AcceptedRequest) (rider : ℕ) (station : List ℕ) (dock : ℕ) (o : Option DockedBike) → IsSound s → s.now ≤ now → IsStart s rider station
+pub rentals_started : (s : Operator) (now : ℕ) (history : Numbered AcceptedRequest) (rider : ℕ) (station : List ℕ) (dock : ℕ) (o : Option DockedBike) → IsSound s → s.now ≤ now → IsStart s rider station
     → ((b : DockedBike) → o ≡ Some b → IsDockedView s station dock b) → AreRentalsSound (at_moment (after_start rider station now o s) now history)
 rentals_started s now history rider station dock None order later start is = rentals_untouched s now history order later
 rentals_started s now history rider station dock (Some b) order later start is =
     let few = order.rentals.few_rentals in
-    let more : length (s.rentals ++ added ∷ []) ≡ length s.rentals + 1 = length-append s.rentals (added ∷ []) in
-    let ongoing : open_rentals next ≡ open_rentals s + 1 = count_added is_open s.rentals added in
+    let more = last_added s.rentals added in
+    let ongoing : open_rentals next ≡ open_rentals s + 1 = count_added is_open s.rentals.items added in
     record {
       rentals = λ n x i. elim (number_or_last n s.rentals added x i) [
         | inl w ↦ old n x w
@@ -118,13 +124,13 @@ rentals_started s now history rider station dock (Some b) order later start is =
     }
   where
     added : Rental
-    added = record { rider = rider; bike = b.bike; plan = b.plan; from_station = station; start = now; closing = None }
+    added = record { rider = rider; bike = b.bike; plan = plan_for (own_plan (finmap.get s.riders rider)) b.plan; from_station = station; start = now; closing = None }
 
     next : Operator
     next = at_moment (after_start rider station now (Some b) s) now history
 
     rides : Bike → Bike
-    rides x = record x { place = place.Rental (length s.rentals + 1) }
+    rides x = record x { place = place.Rental (last_number s.rentals + 1) }
 
     keeps : KeepsNames s next
     keeps = record {
@@ -150,24 +156,33 @@ rentals_started s now history rider station dock (Some b) order later start is =
       place_is = o.place_is;
     }
 
+    -- the rider's own plan is there, and so is that of the type
+    plan_there : (o : Option Rider) → finmap.get s.riders rider ≡ o → finmap.contains_key s.plans b.plan ≡ true → finmap.contains_key s.plans (plan_for (own_plan o) b.plan) ≡ true
+    plan_there None e default = default
+    plan_there (Some r) e default = by r.plan (order.ledger.riders rider r e).plan where
+      by : (o : Option (List ℕ)) → IsPlanOrNone s o → finmap.contains_key s.plans (plan_for o b.plan) ≡ true
+      by None is = default
+      by (Some plan) is = is
+
     old : (n : ℕ) (x : Rental) → item_numbered n s.rentals ≡ Some x → IsRentalAt next n x
     old n x i = let at = order.rentals.rentals n x i in rental_stands s next n x keeps (out n x.bike) refl at.refunded at
 
-    new : IsDockedView s station dock b → IsRentalAt next (length s.rentals + 1) added
+    new : IsDockedView s station dock b → IsRentalAt next (last_number s.rentals + 1) added
     new d =
-        let none = no_refunds (length s.rentals + 1) s.entries (λ n e i. apart_entry s n e order i) in
+        let none = no_refunds (last_number s.rentals + 1) s.entries.items (λ n e i. apart_entry s n e order i) in
         record {
           rider_is = start.rider_is;
           bike_is = changed_keeps nat_cmp_total s.bikes b.bike rides b.bike (ap (λ (o : Option Bike). is_some o) d.found);
-          plan_is = ap (λ (id : List ℕ). finmap.contains_key s.plans id) (sym d.plan_is) ∙ (order.catalogue.types d.row.type_id d.type d.type_found).plan;
+          plan_is = plan_there (finmap.get s.riders rider) refl
+              (ap (λ (id : List ℕ). finmap.contains_key s.plans id) (sym d.plan_is) ∙ (order.catalogue.types d.row.type_id d.type d.type_found).plan);
           from_is = keeps.stations station start.station_is;
           by_now = omega arith;
           closing = record { row = rides d.row; found = changed_found s.bikes b.bike rides d.row d.found; place_is = refl };
-          booked = no_fares (length s.rentals + 1) s.entries (λ n e i. apart_entry s n e order i);
+          booked = no_fares (last_number s.rentals + 1) s.entries.items (λ n e i. apart_entry s n e order i);
           refunded = omega (arith, ints, none);
         }
 
-    one_open : (a c : ℕ) (x y : Rental) → item_numbered a (s.rentals ++ added ∷ []) ≡ Some x → item_numbered c (s.rentals ++ added ∷ []) ≡ Some y → is_open x ≡ true → is_open y ≡ true
+    one_open : (a c : ℕ) (x y : Rental) → item_numbered a (with_item added s.rentals) ≡ Some x → item_numbered c (with_item added s.rentals) ≡ Some y → is_open x ≡ true → is_open y ≡ true
         → x.rider ≡ y.rider → a ≡ c
     one_open a c x y i j p q same = elim (number_or_last a s.rentals added x i) [
       | inl v ↦ elim (number_or_last c s.rentals added y j) [

@@ -13,7 +13,8 @@ use Rattle.bike_operator.specs.declared.records.Place.TheVariants as place
 use Rattle.bike_operator.specs.declared.records.Bike.{Bike}
 use Rattle.bike_operator.specs.declared.records.Rental.{Rental}
 use Rattle.bike_operator.specs.declared.records.Closing.{Closing}
-use Rattle.bike_operator.specs.Operator.{Operator, item_at}
+use Rattle.bike_operator.specs.Operator.{Operator, item_at, last_number}
+use Rattle.bike_laws.proofs.SingleSteps.ItemLemmas.{number_of_place}
 use Rattle.bike_operator.specs.Counts.{count, open_rentals, is_open}
 use Rattle.bike_operator.specs.View.{has_full_ledger}
 use Rattle.bike_operator.specs.Sound.{IsSound, IsOpenOrClosed}
@@ -88,9 +89,10 @@ out_of s number r None out is now = record { row = out.row; found = out.found; p
 out_of s number r (Some c) out is now = let shut : is_open r ≡ false = ap (λ (o : Option Closing). is_open (record r { closing = o })) is in absurd cc
 
 pub open_within_bikes : (s : Operator) → IsSound s → open_rentals s ≤ finmap.len s.bikes
-open_within_bikes s sound = rentals_fit s.rentals 1 s.bikes (λ i r at now.
-    let number : suc i ≡ 1 + i = omega arith in
-    subst (λ (k : ℕ). IsInRental s.bikes k r.bike) number (out_of s (suc i) r r.closing (sound.rentals.rentals (suc i) r at).closing refl now))
+open_within_bikes s sound = rentals_fit s.rentals.items (s.rentals.archived + 1) s.bikes (λ i r at now.
+    let n = s.rentals.archived + suc i in
+    let number : n ≡ (s.rentals.archived + 1) + i = omega arith in
+    subst (λ (k : ℕ). IsInRental s.bikes k r.bike) number (out_of s n r r.closing (sound.rentals.rentals n r (number_of_place i s.rentals r at)).closing refl now))
 
 pub open_within_limit : (s : Operator) → IsSound s → open_rentals s ≤ MOST_BIKES
 open_within_limit s sound =
@@ -98,8 +100,8 @@ open_within_limit s sound =
     let most = sound.bikes.few in
     omega (arith, few, most)
 
-pub room_left : (s : Operator) → IsSound s → length s.entries + MOST_BIKES < MOST_ENTRIES → has_full_ledger s ≡ false
+pub room_left : (s : Operator) → IsSound s → last_number s.entries + MOST_BIKES < MOST_ENTRIES → has_full_ledger s ≡ false
 room_left s sound room =
     let few = open_within_limit s sound in
-    let left : length s.entries + open_rentals s < MOST_ENTRIES = omega (arith, few, room) in
+    let left : last_number s.entries + open_rentals s < MOST_ENTRIES = omega (arith, few, room) in
     grind (arith, nat_tests, left)

@@ -1,9 +1,9 @@
 -- The numbers of a view are bounded.
-use Rattle.std.proofs.Common.{◌≡◌, ℕ, ℤ, ◌+◌, ◌<◌, ◌≤◌, ◌≤ℤ◌, pos, length, true, false, Option, Some, None, refl, sym, ap, subst, arith}
+use Rattle.std.proofs.Common.{◌≡◌, ℕ, ℤ, ◌+◌, ◌+ℤ◌, ◌<◌, ◌≤◌, ◌≤ℤ◌, pos, length, true, false, Option, Some, None, refl, sym, ap, subst, arith}
 use Rattle.std.specs.Prelude.{IfSome, IfNone, is_none}
 use Rattle.std.specs.FinMap as finmap
 use Rattle.bike_ledger.specs.Ledger.{balance_of, refunded_of, IsBalance}
-use Rattle.bike_ledger.proofs.BoundLemmas.{balance_of-bound}
+use Rattle.std.proofs.lemmas.Int.{ints}
 use Rattle.bike_texts.specs.declared.ends.OrderEnd.{OrderEnd}
 use Rattle.bike_texts.specs.declared.ends.OrderEnd.TheVariants as end
 use Rattle.bike_texts.specs.declared.ends.Side.{Side}
@@ -15,54 +15,62 @@ use Rattle.bike_operator.specs.declared.records.Order.{Order}
 use Rattle.bike_operator.specs.declared.view.RentalView.{RentalView}
 use Rattle.bike_operator.specs.declared.view.StationView.{StationView}
 use Rattle.bike_operator.specs.declared.view.View.{View}
-use Rattle.bike_operator.specs.Operator.{Operator, Rider, item_numbered}
+use Rattle.bike_operator.specs.Operator.{Operator, Rider, item_numbered, last_number}
 use Rattle.bike_operator.specs.Counts.{order_load, open_rentals, is_open}
-use Rattle.bike_operator.specs.View.{has_full_ledger, station_at, rider_view, rental_at, rental_of, end_at, end_view, side_view, view_of}
+use Rattle.bike_operator.specs.View.{before_of, rider_balance, has_full_ledger, station_at, rider_view, rental_at, rental_of, end_at, end_view, side_view, view_of}
 use Rattle.bike_operator.specs.Sound.{IsSound, most_refunded}
 use Rattle.bike_operator.specs.Bounds.{IsChargeable, IsRefundable, IsBounded}
 use Rattle.bike_laws.proofs.NumberLemmas.{count_some}
-use Rattle.bike_laws.proofs.EntryLemmas.{amounts_of, refunded_low}
+use Rattle.bike_laws.proofs.EntryLemmas.{amounts_of, refunded_low, balance_within, both_sums}
+use Rattle.bike_laws.proofs.ReplyLemmas.{before_within}
 use Rattle.bike_laws.proofs.FoundLemmas.{each_some, below_of, IsViewOf, view_is, rental_is}
 
 -- ---- room
 
-room_of : (s : Operator) → has_full_ledger s ≡ false → length s.entries + open_rentals s < MOST_ENTRIES
-room_of s room = below_of MOST_ENTRIES (length s.entries + open_rentals s) room
+room_of : (s : Operator) → has_full_ledger s ≡ false → last_number s.entries + open_rentals s < MOST_ENTRIES
+room_of s room = below_of MOST_ENTRIES (last_number s.entries + open_rentals s) room
 
 -- where there is room for an entry, each balance takes one more
-balance_bounded : (s : Operator) (rider : ℕ) → IsSound s → length s.entries < MOST_ENTRIES → IsBalance (balance_of rider s.entries)
-balance_bounded s rider sound room = balance_of-bound s.entries rider (amounts_of s sound.ledger) (omega (arith, room))
+balance_bounded : (s : Operator) (rider : ℕ) → IsSound s → last_number s.entries < MOST_ENTRIES → IsBalance (rider_balance s rider)
+balance_bounded s rider sound room =
+    let within = both_sums s.entries.archived (length s.entries.items) (before_of (finmap.get s.riders rider)) (balance_of rider s.entries.items)
+    (before_within s rider (finmap.get s.riders rider) refl sound.ledger) (balance_within s.entries.items rider (amounts_of s sound.ledger)) in
+    let low = within.low in
+    let high = within.high in
+    record { low = omega (arith, ints, room, low); high = omega (arith, ints, room, high) }
 
-rentals_bounded : (s : Operator) → IsSound s → has_full_ledger s ≡ false → length s.rentals < MOST_ENTRIES
+rentals_bounded : (s : Operator) → IsSound s → has_full_ledger s ≡ false → last_number s.rentals < MOST_ENTRIES
 rentals_bounded s sound room =
     let left = room_of s room in
     let few = sound.rentals.few_rentals in
     omega (arith, left, few)
 
-rider_bounded : (s : Operator) (rider : ℕ) (o : Option Rider) → IsSound s → has_full_ledger s ≡ false → IfSome (rider_view s rider o) (λ r. IsBalance r.balance)
-rider_bounded s rider None sound room = tt
-rider_bounded s rider (Some r) sound room = let left = room_of s room in balance_bounded s rider sound (omega (arith, left))
+rider_bounded : (s : Operator) (rider : ℕ) (o : Option Rider) → finmap.get s.riders rider ≡ o → IsSound s → has_full_ledger s ≡ false → IfSome (rider_view s rider o) (λ r. IsBalance r.balance)
+rider_bounded s rider None e sound room = tt
+rider_bounded s rider (Some r) e sound room =
+    let left = room_of s room in
+    subst (λ (o : Option Rider). IsBalance (before_of o +ℤ balance_of rider s.entries.items)) e (balance_bounded s rider sound (omega (arith, left)))
 
 -- ---- rentals
 
-viewed_bounded : (s : Operator) (r : RentalView) → IsSound s → IsViewOf s r → length s.entries < MOST_ENTRIES → IsBalance r.balance
+viewed_bounded : (s : Operator) (r : RentalView) → IsSound s → IsViewOf s r → last_number s.entries < MOST_ENTRIES → IsBalance r.balance
 viewed_bounded s r sound v room = subst IsBalance (sym v.balance_is) (balance_bounded s r.rental.rider sound room)
 
-charge_bounded : (s : Operator) (now : ℕ) (r : RentalView) → IsSound s → s.now ≤ now → IsViewOf s r → (o : Option Closing) → r.rental.closing ≡ o → IfNone o (IsChargeable (length s.entries) now r)
+charge_bounded : (s : Operator) (now : ℕ) (r : RentalView) → IsSound s → s.now ≤ now → IsViewOf s r → (o : Option Closing) → r.rental.closing ≡ o → IfNone o (IsChargeable (last_number s.entries) now r)
 charge_bounded s now r sound later v None is =
     let began = (sound.rentals.rentals r.number r.rental v.found).by_now in
     let one : 1 ≤ open_rentals s = count_some (λ x. is_open x) r.number s.rentals r.rental v.found (ap (λ (c : Option Closing). is_none c) is) in
     let few = sound.ledger.few_entries in
-    let room : length s.entries < MOST_ENTRIES = omega (arith, one, few) in
+    let room : last_number s.entries < MOST_ENTRIES = omega (arith, one, few) in
     record { began = omega (arith, began, later); room = room; balance = viewed_bounded s r sound v room }
 charge_bounded s now r sound later v (Some c) is = tt
 
-refund_bounded : (s : Operator) (r : RentalView) → IsSound s → IsViewOf s r → (o : Option Closing) → r.rental.closing ≡ o → IfSome o (λ c. IsRefundable (length s.entries) r c.fare)
+refund_bounded : (s : Operator) (r : RentalView) → IsSound s → IsViewOf s r → (o : Option Closing) → r.rental.closing ≡ o → IfSome o (λ c. IsRefundable (last_number s.entries) r c.fare)
 refund_bounded s r sound v None is = tt
 refund_bounded s r sound v (Some c) is =
     let at = sound.rentals.rentals r.number r.rental v.found in
-    let low : pos 0 ≤ℤ refunded_of r.number s.entries = refunded_low s.entries r.number (amounts_of s sound.ledger) in
-    let high : refunded_of r.number s.entries ≤ℤ c.fare = subst (λ (o : Option Closing). refunded_of r.number s.entries ≤ℤ most_refunded o) is at.refunded in
+    let low : pos 0 ≤ℤ refunded_of r.number s.entries.items = refunded_low s.entries.items r.number (amounts_of s sound.ledger) in
+    let high : refunded_of r.number s.entries.items ≤ℤ c.fare = subst (λ (o : Option Closing). refunded_of r.number s.entries.items ≤ℤ most_refunded o) is at.refunded in
     record {
       low = subst (λ (z : ℤ). pos 0 ≤ℤ z) (sym v.refunded_is) low;
       high = subst (λ (z : ℤ). z ≤ℤ c.fare) (sym v.refunded_is) high;
@@ -71,14 +79,14 @@ refund_bounded s r sound v (Some c) is =
 
 -- a rental in a view: what is booked of it is bounded
 charges_bounded : (s : Operator) (now : ℕ) (o : Option RentalView) → IsSound s → s.now ≤ now → ((r : RentalView) → o ≡ Some r → IsViewOf s r)
-    → IfSome o (λ r. IfNone r.rental.closing (IsChargeable (length s.entries) now r))
+    → IfSome o (λ r. IfNone r.rental.closing (IsChargeable (last_number s.entries) now r))
 charges_bounded s now o sound later viewed =
-    each_some o (λ r. IfNone r.rental.closing (IsChargeable (length s.entries) now r)) (λ r i. charge_bounded s now r sound later (viewed r i) r.rental.closing refl)
+    each_some o (λ r. IfNone r.rental.closing (IsChargeable (last_number s.entries) now r)) (λ r i. charge_bounded s now r sound later (viewed r i) r.rental.closing refl)
 
 refunds_bounded : (s : Operator) (o : Option RentalView) → IsSound s → ((r : RentalView) → o ≡ Some r → IsViewOf s r)
-    → IfSome o (λ r. IfSome r.rental.closing (λ c. IsRefundable (length s.entries) r c.fare))
+    → IfSome o (λ r. IfSome r.rental.closing (λ c. IsRefundable (last_number s.entries) r c.fare))
 refunds_bounded s o sound viewed =
-    each_some o (λ r. IfSome r.rental.closing (λ c. IsRefundable (length s.entries) r c.fare)) (λ r i. refund_bounded s r sound (viewed r i) r.rental.closing refl)
+    each_some o (λ r. IfSome r.rental.closing (λ c. IsRefundable (last_number s.entries) r c.fare)) (λ r i. refund_bounded s r sound (viewed r i) r.rental.closing refl)
 
 -- the rental that ends at a station is open
 ends_open : (s : Operator) (bike : ℕ) (at : Option StationView) → IsSound s → IfSome at (λ x. IfSome (rental_of s (finmap.get s.bikes bike)) (λ r. is_open r.rental ≡ true))
@@ -142,7 +150,7 @@ bike_viewed s bike sound r is = (rental_is s bike (finmap.get s.bikes bike) r so
 pub view_bounded : (s : Operator) (now : ℕ) (c : Command) → IsSound s → s.now ≤ now → IsBounded (view_of s c) now
 view_bounded s now (command.TopUp rider amount) sound later = record {
   few_rentals = λ room. omega arith;
-  rider = λ room. rider_bounded s rider (finmap.get s.riders rider) sound room;
+  rider = λ room. rider_bounded s rider (finmap.get s.riders rider) refl sound room;
   charge = tt;
   refund = tt;
   ends = tt;
@@ -150,7 +158,7 @@ view_bounded s now (command.TopUp rider amount) sound later = record {
 }
 view_bounded s now (command.Start rider station dock) sound later = record {
   few_rentals = λ room. rentals_bounded s sound room;
-  rider = λ room. rider_bounded s rider (finmap.get s.riders rider) sound room;
+  rider = λ room. rider_bounded s rider (finmap.get s.riders rider) refl sound room;
   charge = tt;
   refund = tt;
   ends = none_ends (station_at s station);

@@ -32,12 +32,13 @@ IsInOrder now (a ∷ history) = (now ≤ a.moment) × IsInOrder a.moment history
 -- THE HISTORY IS THE CITY: what a list adds to the history are the requests that are accepted. Served at their moments
 -- they lead to the same operator, and are answered as they were.
 pub record IsServedAgain (s : Operator) (cs : List Call) : Type 0 where
-  pub added : (after s cs).history ≡ s.history ++ accepted_of s cs
-  pub behind : drop (length s.history) (after s cs).history ≡ accepted_of s cs
+  pub added : (after s cs).history.items ≡ s.history.items ++ accepted_of s cs
+  pub none_archived : (after s cs).history.archived ≡ s.history.archived
+  pub behind : drop (length s.history.items) (after s cs).history.items ≡ accepted_of s cs
   pub operator : after s (calls_of (accepted_of s cs)) ≡ after s cs
   pub answers : replies s (calls_of (accepted_of s cs)) ≡ replies_of (accepted_of s cs)
 
 -- the whole history of an operator makes it again from the operator of which nothing was asked
 pub record IsMadeAgain (s : Operator) : Type 0 where
-  pub operator : after no_operator (calls_of s.history) ≡ s
-  pub answers : replies no_operator (calls_of s.history) ≡ replies_of s.history
+  pub operator : after no_operator (calls_of s.history.items) ≡ s
+  pub answers : replies no_operator (calls_of s.history.items) ≡ replies_of s.history.items

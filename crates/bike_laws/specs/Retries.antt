@@ -8,11 +8,11 @@ use Rattle.bike_operator.specs.Runs.{Call, step}
 
 -- a request with this caller and key was accepted
 abbrev pub is_kept : Operator → Request → Bool
-is_kept s q = is_some (kept_under (key_in q) s.history)
+is_kept s q = is_some (kept_under (key_in q) s.history.items)
 
 -- the request is accepted: its caller and key are new, and no test refuses the command
 abbrev pub is_accepted : Operator → Request → Bool
-is_accepted s q = is_none (kept_under (key_in q) s.history) && is_none (refusal_of s q.command)
+is_accepted s q = is_none (kept_under (key_in q) s.history.items) && is_none (refusal_of s q.command)
 
 -- a request as it is accepted: at the greater of its moment and the operator's
 abbrev pub acceptance : Operator → ℕ → Request → AcceptedRequest
@@ -20,7 +20,7 @@ acceptance s t q = record { moment = max t s.now; request = q; reply = (step s t
 
 -- the history keeps this accepted request under its caller and key
 abbrev pub Keeps : Operator → AcceptedRequest → Type 0
-Keeps s a = kept_under (key_in a.request) s.history ≡ Some a
+Keeps s a = kept_under (key_in a.request) s.history.items ≡ Some a
 
 -- the request has this caller and key, and is accepted
 abbrev pub accepts : Operator → Key → Request → Bool

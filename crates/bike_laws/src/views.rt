@@ -1,11 +1,11 @@
 //! Laws of views, of the ledger's room and of replies.
 
-ghost use Rattle.std.specs.Prelude.{◌≡◌, ◌≤◌, ◌<◌, ◌+◌, ℕ, None, false, length};
+ghost use Rattle.std.specs.Prelude.{◌≡◌, ◌≤◌, ◌<◌, ◌+◌, ℕ, None, false};
 ghost use Rattle.std.specs.FinMap.{len};
 ghost use Rattle.bike_commands.specs.declared.command.Command.{Command};
 ghost use Rattle.bike_commands.specs.Commands.{IsCommand};
 ghost use Rattle.bike_operator.specs.declared.limits.TheConstants.{MOST_BIKES, MOST_ENTRIES};
-ghost use Rattle.bike_operator.specs.Operator.{Operator};
+ghost use Rattle.bike_operator.specs.Operator.{Operator, last_number};
 ghost use Rattle.bike_operator.specs.Counts.{open_rentals};
 ghost use Rattle.bike_operator.specs.View.{view_of, has_full_ledger};
 ghost use Rattle.bike_operator.specs.Steps.{refusal_of, reply_of};
@@ -24,7 +24,7 @@ pub fn view_law()
 pub fn ledger_room_law()
     ensures bikes { (s : Operator) → IsSound s → open_rentals s ≤ len s.bikes }
     ensures few { (s : Operator) → IsSound s → open_rentals s ≤ MOST_BIKES }
-    ensures room { (s : Operator) → IsSound s → length s.entries + MOST_BIKES < MOST_ENTRIES
+    ensures room { (s : Operator) → IsSound s → last_number s.entries + MOST_BIKES < MOST_ENTRIES
         → has_full_ledger s ≡ false }
 {}
 

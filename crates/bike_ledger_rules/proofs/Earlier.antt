@@ -1,7 +1,8 @@
 -- Tables that are judged before: all their rows are good, so what they have under a key is what the operator has.
-use Rattle.std.proofs.Common.{◌≡◌, ℕ, ℤ, ◌<◌, List, take, Option, Some, None, refl, sym, ap, subst, ◌∙◌}
+use Rattle.std.proofs.Common.{◌≡◌, ℕ, ◌<◌, List, take, Option, Some, None, refl, sym, ap, subst, ◌∙◌}
 use Rattle.std.specs.Prelude.{option_map, option_and_then, is_some}
 use Rattle.std.specs.FinMap as fin
+use Rattle.std.specs.List.{filter_map}
 use Rattle.sqlite_value.specs.Order.{Row}
 use Rattle.sqlite_rules.specs.Lists.{Has}
 use Rattle.bike_sql.specs.View.{row_with}
@@ -54,18 +55,22 @@ module _ (t : Tables) (up : AreInOrder t) where
   -- ---- riders
 
   module _ (good : AreGood Riders) where
-    stored_riders : (r : Row) → Has t.riders r → IsStored rider_in (stored_rider s.entries) r
+    stored_riders : (r : Row) → Has t.riders r → IsStored rider_in (stored_rider s.entries.items) r
     stored_riders r has =
-        stored_part rider_reading (λ e. (e.0, e.1)) (stored_rider s.entries) (IsGoodRider s (below_of Riders r)) r (good r has)
-        (λ a is fact. ap (λ (z : ℤ). rider_row a.0 a.1.is_blocked z) fact.balance_is)
+        stored_part rider_reading (λ e. (e.0, e.1)) (stored_rider s.entries.items) (IsGoodRider s (below_of Riders r)) r (good r has)
+        (λ a is fact. ap (rider_row a.0 a.1) fact.balance_is)
 
-    riders_are : AreRowsOf numbers (stored_rider s.entries) (λ e. refl) rider_in t.riders s.riders
-    riders_are = read_map numbers (stored_rider s.entries) (λ e. refl) rider_in t.riders (up Riders) stored_riders (λ r e has is. tt)
+    riders_are : AreRowsOf numbers (stored_rider s.entries.items) (λ e. refl) rider_in t.riders s.riders
+    riders_are = read_map numbers (stored_rider s.entries.items) (λ e. refl) rider_in t.riders (up Riders) stored_riders (λ r e has is. tt)
+
+    -- the riders of the operator are those of the rows
+    pub riders_listed : fin.entries s.riders ≡ filter_map rider_in t.riders
+    riders_listed = riders_are.entries_are
 
     pub rider_under : (k : ℕ) → has_rider t k ≡ fin.contains_key s.riders k
     rider_under k =
         there_under rider_read (λ e. (e.0, e.1)) (row_with 1 (number_key k) t.riders)
-        ∙ ap (λ (o : Option _). is_some o) (reads_under numbers (λ q. tt) (stored_rider s.entries) (λ e. refl) rider_in t.riders s.riders riders_are stored_riders rider_in (λ r has. refl) k)
+        ∙ ap (λ (o : Option _). is_some o) (reads_under numbers (λ q. tt) (stored_rider s.entries.items) (λ e. refl) rider_in t.riders s.riders riders_are stored_riders rider_in (λ r has. refl) k)
         ∙ mapped_some (λ v. (k, v)) (fin.get s.riders k)
 
   -- ---- bicycles

@@ -1,12 +1,12 @@
 -- The lines of an entry pass exactly where what they are asked holds of the entry.
-use Rattle.std.proofs.Common.{◌≡◌, ℕ, ℤ, ◌+◌, ◌<◌, ◌≤◌, ◌==◌, ◌&&◌, List, [], ◌∷◌, length, take, Bool, true, false, Option, Some, None, refl, sym, ap, subst, ◌∙◌, arith}
+use Rattle.std.proofs.Common.{◌≡◌, ◌⊎◌, ℕ, ℤ, ◌+◌, ◌<◌, ◌≤◌, ◌==◌, ◌&&◌, List, [], ◌∷◌, length, take, Bool, true, false, Option, Some, None, refl, sym, ap, subst, ◌∙◌, arith}
 use Rattle.std.specs.Prelude.{option_map, option_and_then, nat_lt, nat_le}
 use Rattle.std.specs.Bool.{Decides}
 use Rattle.std.specs.FinMap as fin
 use Rattle.std.specs.List.{fold, filter_map}
 use Rattle.std.specs.Option.{IsSomeAnd}
-use Rattle.std.proofs.lemmas.Bool.{le-leb, leb-true, and_right}
-use Rattle.std.proofs.lemmas.Bool.Decides.{Decides-eqb, Decides-int_eq, Decides-ltb, Decides-and, Decides-like}
+use Rattle.std.proofs.lemmas.Bool.{and_right}
+use Rattle.std.proofs.lemmas.Bool.Decides.{Decides-eqb, Decides-int_eq, Decides-ltb, Decides-and, Decides-or, Decides-like}
 use Rattle.std.proofs.lemmas.Option.{same_Some}
 use Rattle.sqlite_value.specs.Order.{Row, column}
 use Rattle.bike_sql.specs.View.{partner, row_with}
@@ -33,8 +33,10 @@ use Rattle.bike_readings.proofs.ReadRows.{stored_part, AreRowsOfList, read_list}
 use Rattle.bike_readings.proofs.RowRules.{some_with}
 use Rattle.bike_judges.specs.Lines.{part, or_nulls}
 use Rattle.bike_ledger_rules.specs.declared.open_rentals.RentalCount.{RentalCount}
-use Rattle.bike_ledger_rules.specs.Entries.{one_open, one_rental_more, IsRentalCount, is_paid, is_closed_for, is_of, is_booked, line_rental, is_next, is_first, passes, entry_holds, entry_line}
+use Rattle.bike_ledger_rules.specs.Entries.{one_open, one_rental_more, IsRentalCount, is_paid, is_closed_for, is_of, is_of_rental}
+use Rattle.bike_ledger_rules.specs.Entries.{is_booked, line_rental, is_next, is_first, passes, entry_holds, entry_line}
 use Rattle.bike_ledger_rules.specs.Known.{has_rider}
+use Rattle.bike_ledger_rules.proofs.Tests.{at_most, is_true}
 use Rattle.bike_ledger_rules.proofs.Earlier.{AreGood, rider_under}
 use Rattle.bike_ledger_rules.proofs.Folds.{rental_of_row, rentals_read}
 use Rattle.bike_ledger_rules.proofs.Parts.{partner_wide, own_of_one, partner_of_one}
@@ -113,18 +115,29 @@ of_decides s k e = go (item_numbered e.rental s.rentals) refl where
   go None is = (λ h. absurd cc, λ h. absurd (let f = sym is ∙ h.found in cc))
   go (Some r) is = closes r is r.closing refl
 
+-- .. or an archived one
+abbrev pub OfAny : Operator → EntryKind → Entry → Type 0
+OfAny s k e = (e.rental ≤ s.rentals.archived) ⊎ OfRental s k e
+
+any_decides : (s : Operator) (k : EntryKind) (e : Entry)
+    → Decides (is_of_rental s.rentals.archived k e (item_numbered e.rental s.rentals)) (OfAny s k e)
+any_decides s k e =
+    Decides-or (nat_le e.rental s.rentals.archived) (is_of k e (item_numbered e.rental s.rentals)) (at_most e.rental s.rentals.archived)
+    (of_decides s k e)
+
 abbrev pub Booked : Operator → EntryKind → Entry → Type 0
 Booked s TopUp e = Unit {0}
-Booked s Fare e = OfRental s Fare e
-Booked s Refund e = OfRental s Refund e
+Booked s Fare e = OfAny s Fare e
+Booked s Refund e = OfAny s Refund e
 Booked s Withdrawal e = Unit {0}
 Booked s Charge e = Unit {0}
 Booked s Credit e = Unit {0}
 
-booked_decides : (s : Operator) (k : EntryKind) (e : Entry) → Decides (is_booked k e (item_numbered e.rental s.rentals)) (Booked s k e)
+booked_decides : (s : Operator) (k : EntryKind) (e : Entry)
+    → Decides (is_booked s.rentals.archived k e (item_numbered e.rental s.rentals)) (Booked s k e)
 booked_decides s TopUp e = (λ h. tt, λ h. refl)
-booked_decides s Fare e = of_decides s Fare e
-booked_decides s Refund e = of_decides s Refund e
+booked_decides s Fare e = any_decides s Fare e
+booked_decides s Refund e = any_decides s Refund e
 booked_decides s Withdrawal e = (λ h. tt, λ h. refl)
 booked_decides s Charge e = (λ h. tt, λ h. refl)
 booked_decides s Credit e = (λ h. tt, λ h. refl)
@@ -137,17 +150,11 @@ pub record NumberGood (s : Operator) (before : ℕ) (e : Entry) : Type 0 where
   pub rider_is : fin.contains_key s.riders e.rider ≡ true
   pub by_now : e.at ≤ s.now
 
-at_most : (a b : ℕ) → Decides (nat_le a b) (a ≤ b)
-at_most a b = (λ e. leb-true a b e, λ h. le-leb a b h)
-
-is_true : (b c : Bool) → b ≡ c → Decides b (c ≡ true)
-is_true b c e = (λ h. sym e ∙ h, λ h. e ∙ h)
-
 -- all that an entry is asked, where the entries before it have these fares
 pub record EntryGood (s : Operator) (before : ℕ) (fares : List ℤ) (e : Entry) : Type 0 where
   pub number : NumberGood s before e
   pub booked : Booked s e.kind e
-  pub first : is_first fares e ≡ true
+  pub first : is_first s.rentals.archived fares e ≡ true
 
 -- a line holds its entry in front
 pub own : (t : Tables) → AreWide 10 t.rentals → (r : Row) → length r ≡ 6 → part 0 6 (entry_line t r) ≡ r
@@ -163,23 +170,23 @@ module _ (t : Tables) (up : AreInOrder t) (good : AreGood t up Riders) (good_ren
       let next = e.number == n + 1 in
       let room = nat_lt (n + open_rentals s) MOST_ENTRIES in
       let rider = has_rider t e.rider in
-      let past = nat_le e.at s.now in
-      Decides-like (next && (room && (rider && past)))
+      let by_now = nat_le e.at s.now in
+      Decides-like (next && (room && (rider && by_now)))
       (λ h. record { number_is = h.0; room = h.1.0; rider_is = h.1.1.0; by_now = h.1.1.1 })
       (λ (g : NumberGood s n e). (g.number_is, (g.room, (g.rider_is, g.by_now))))
-      (Decides-and next (room && (rider && past)) (Decides-eqb e.number (n + 1))
-      (Decides-and room (rider && past) (Decides-ltb (n + open_rentals s) MOST_ENTRIES)
-      (Decides-and rider past (is_true rider (fin.contains_key s.riders e.rider) (rider_under t up good e.rider)) (at_most e.at s.now))))
+      (Decides-and next (room && (rider && by_now)) (Decides-eqb e.number (n + 1))
+      (Decides-and room (rider && by_now) (Decides-ltb (n + open_rentals s) MOST_ENTRIES)
+      (Decides-and rider by_now (is_true rider (fin.contains_key s.riders e.rider) (rider_under t up good e.rider)) (at_most e.at s.now))))
 
   -- ---- with its rental
 
   abbrev below : Row → ℕ
   below r = rows_below t Rentals (take 1 r)
 
-  rentals_are : AreRowsOfList (stored_rental s.entries) rental_in t.rentals s.rentals
+  rentals_are : AreRowsOfList (stored_rental s.entries.items) rental_in t.rentals s.rentals
   rentals_are =
-      read_list (stored_rental s.entries) rental_in t.rentals (up Rentals)
-      (λ r has. stored_part rental_reading (λ e. (e.0, e.1)) (stored_rental s.entries) (IsGoodRental s (below r)) r (good_rentals r has)
+      read_list (stored_rental s.entries.items) rental_in t.rentals s.rentals.archived (up Rentals)
+      (λ r has. stored_part rental_reading (λ e. (e.0, e.1)) (stored_rental s.entries.items) (IsGoodRental s (below r)) r (good_rentals r has)
       (λ a is fact. ap (λ (z : ℤ). rental_row a.0 a.1 z) fact.refunded_is))
       (λ r has.
       let it = some_with (IsGoodRental s (below r)) (rental_read r) (good_rentals r has) in
@@ -194,7 +201,7 @@ module _ (t : Tables) (up : AreInOrder t) (good : AreGood t up Riders) (good_ren
   rental_partner : (k : ℕ) → rental_of (row_with 1 (number_key k) t.rentals) ≡ item_numbered k s.rentals
   rental_partner k =
       read (row_with 1 (number_key k) t.rentals)
-      ∙ at_number (stored_rental s.entries) (λ e. refl) rental_in t.rentals s.rentals rentals_are.rows_are rentals_are.back k
+      ∙ at_number (stored_rental s.entries.items) (λ e. refl) rental_in t.rentals s.rentals rentals_are.rows_are rentals_are.back k
     where
       parts : (o : Option (ℕ × Rental × ℤ))
           → option_map (λ (e : ℕ × Rental × ℤ). e.1) o ≡ option_map (λ (e : ℕ × Rental). e.1) (option_map (λ (e : ℕ × Rental × ℤ). (e.0, e.1)) o)
@@ -221,23 +228,23 @@ module _ (t : Tables) (up : AreInOrder t) (good : AreGood t up Riders) (good_ren
 
     module _ (n : ℕ) (fares : List ℤ) where
       abbrev passing : Option Entry → Bool
-      passing = passes (has_rider t) s.now (open_rentals s) fares n (entry_line t r)
+      passing = passes (has_rider t) s.now (open_rentals s) s.rentals.archived fares n (entry_line t r)
 
       passing_decides : (o : Option Entry) → entry_read r ≡ o → Decides (passing o) (IsSomeAnd o (EntryGood s n fares))
       passing_decides None is = (λ e. absurd cc, λ h. absurd h)
       passing_decides (Some e) is =
           let next = is_next (has_rider t) s.now (open_rentals s) n e in
-          let booked = is_booked e.kind e (line_rental (entry_line t r)) in
-          let first = is_first fares e in
+          let booked = is_booked s.rentals.archived e.kind e (line_rental (entry_line t r)) in
+          let first = is_first s.rentals.archived fares e in
           Decides-like (next && (booked && first))
           (λ h. record { number = h.0; booked = h.1.0; first = h.1.1 })
           (λ (g : EntryGood s n fares e). (g.number, (g.booked, g.first)))
           (Decides-and next (booked && first) (next_decides n e)
           (Decides-and booked first
-          (subst (λ (o : Option Rental). Decides (is_booked e.kind e o) (Booked s e.kind e)) (sym (rental_there e is)) (booked_decides s e.kind e))
+          (subst (λ (o : Option Rental). Decides (is_booked s.rentals.archived e.kind e o) (Booked s e.kind e)) (sym (rental_there e is)) (booked_decides s e.kind e))
           (is_true first first refl)))
 
-      pub entry_decides : Decides (entry_holds (has_rider t) s.now (open_rentals s) fares n (entry_line t r)) (IsSomeAnd (entry_read r) (EntryGood s n fares))
+      pub entry_decides : Decides (entry_holds (has_rider t) s.now (open_rentals s) s.rentals.archived fares n (entry_line t r)) (IsSomeAnd (entry_read r) (EntryGood s n fares))
       entry_decides =
           subst (λ (x : Row). Decides (passing (entry_read x)) (IsSomeAnd (entry_read r) (EntryGood s n fares))) (sym (own t rentals r wide))
           (passing_decides (entry_read r) refl)

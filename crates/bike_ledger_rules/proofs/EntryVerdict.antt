@@ -1,5 +1,6 @@
 -- What the pass over the lines of entries finds is the verdict on the table.
-use Rattle.std.proofs.Common.{◌≡◌, inl, inr, ℕ, zero, suc, ℤ, pos, ◌+◌, ◌<◌, ◌==◌, List, [], ◌∷◌, ◌++◌, length, map, take, Bool, true, Option, Some, None, refl, sym, ap, subst, ◌∙◌, arith, replicate}
+use Rattle.std.proofs.Common.{◌≡◌, inl, inr, ℕ, zero, suc, ℤ, pos, ◌+◌, ◌-◌, ◌<◌, ◌≤◌, ◌==◌, List, [], ◌∷◌}
+use Rattle.std.proofs.Common.{◌++◌, length, map, take, Bool, true, Option, Some, None, refl, sym, ap, subst, ◌∙◌, arith, replicate}
 use Rattle.std.specs.Prelude.{option_map}
 use Rattle.std.specs.Bool.{Decides}
 use Rattle.std.specs.List.{filter_map}
@@ -19,19 +20,21 @@ use Rattle.bike_ledger.specs.declared.entry.EntryKind.{EntryKind}
 use Rattle.bike_ledger.specs.declared.entry.EntryKind.TheVariants.{TopUp, Fare, Refund, Withdrawal, Charge, Credit}
 use Rattle.bike_operator.specs.declared.records.Rental.{Rental}
 use Rattle.bike_operator.specs.declared.records.Closing.{Closing}
-use Rattle.bike_operator.specs.Operator.{Operator, item_numbered}
+use Rattle.bike_operator.specs.Operator.{Operator, item_at, item_in, item_numbered}
 use Rattle.bike_operator.specs.Counts.{open_rentals, count}
-use Rattle.bike_operator.specs.Sound.{IsBooking, IsOfRental, is_fare}
+use Rattle.bike_operator.specs.Sound.{IsBooking, IsArchived, IsOfClosed, IsOfRental, is_fare}
+use Rattle.bike_laws.proofs.SingleSteps.ItemLemmas.{number_of_place}
 use Rattle.bike_sql.specs.View.{by_key}
 use Rattle.bike_sql.proofs.OrderLemmas.{Rises, all_has}
 use Rattle.bike_sql.proofs.TreeLemmas.{by_key_total}
 use Rattle.bike_book.specs.Tables.{Tables, Riders, Rentals, Entries}
 use Rattle.bike_schema.specs.Tables.{tables_of, IsOurs}
-use Rattle.bike_readings.specs.Bounds.{IsStoredRentalOf, IsStoredAmount}
+use Rattle.bike_readings.specs.Bounds.{IsSerial, IsStoredRentalOf, IsStoredAmount}
 use Rattle.bike_readings.specs.Readings.{entry_read}
 use Rattle.bike_readings.proofs.LedgerRows.{entry_reading}
 use Rattle.bike_readings.specs.ReadOff.{operator_of}
-use Rattle.bike_readings.specs.Demands.{IsGoodEntry, IsOneFare, IsFirstFare, IsFareOf}
+use Rattle.bike_readings.specs.ReadOff.{archived_of as archived_in}
+use Rattle.bike_readings.specs.Demands.{IsGoodEntry, IsOneFare, IsFirstFare}
 use Rattle.bike_readings.specs.Rules.{AreInOrder, IsGoodKey, IsGoodAt, rows_below, row_under}
 use Rattle.bike_readings.proofs.Places.{has_under, under_has, has_between, lesser_before}
 use Rattle.bike_readings.proofs.RowRules.{some_with, some_and}
@@ -47,9 +50,9 @@ use Rattle.bike_ledger_rules.specs.Entries.{entry_line, entry_test, with_fares, 
 use Rattle.bike_ledger_rules.specs.Known.{has_rider, is_listed}
 use Rattle.bike_ledger_rules.specs.declared.open_rentals.RentalCount.{RentalCount}
 use Rattle.bike_ledger_rules.proofs.Earlier.{earlier_good}
-use Rattle.bike_ledger_rules.proofs.EntryRules.{OfRental, Booked, EntryGood, entry_decides, own}
-use Rattle.bike_ledger_rules.proofs.FirstItems.{front_item, item_low, numbered_front, numbered_low, split, has_front, read_append, read_few, read_all}
-use Rattle.bike_ledger_rules.proofs.FirstFares.{of_all, entries_pass, is_fare_of, fares_counted, first_finds, finds_first, kind_of_fare}
+use Rattle.bike_ledger_rules.proofs.EntryRules.{OfRental, OfAny, Booked, EntryGood, entry_decides, own}
+use Rattle.bike_ledger_rules.proofs.FirstItems.{front_item, item_low, place_front, place_of, split, has_front, read_append, read_few, read_all}
+use Rattle.bike_ledger_rules.proofs.FirstFares.{of_all, entries_pass, is_fare_of, fares_counted, IsFirst, first_finds, finds_first, kind_of_fare}
 use Rattle.bike_ledger_rules.proofs.Folds.{entries_read, rentals_read, rental_of_row}
 use Rattle.bike_ledger_rules.proofs.Once.{passing_counts, counted_passes}
 use Rattle.bike_ledger_rules.proofs.RiderFolds.{AreWide}
@@ -59,64 +62,75 @@ use Rattle.bike_ledger_rules.proofs.Widths.{rentals_wide, entries_wide}
 -- ---- one entry
 
 module _ (s : Operator) (e : Entry) where
-  of_rental : (k : EntryKind) → OfRental s k e → IsOfRental s e
-  of_rental k it = record { row = it.row; closing = it.closing; found = it.found; closed = it.closed; rider_is = it.rider_is }
+  of_closed : (k : EntryKind) → OfRental s k e → IsOfClosed s e
+  of_closed k it = record { row = it.row; closing = it.closing; found = it.found; closed = it.closed; rider_is = it.rider_is }
+
+  archived_of : IsSerial e.rental → e.rental ≤ s.rentals.archived → IsArchived e.rental s.rentals
+  archived_of serial high = record { low = serial.0; high = high }
+
+  of_rental : (k : EntryKind) → IsSerial e.rental → OfAny s k e → IsOfRental s e
+  of_rental k serial (inl high) = inl (archived_of serial high)
+  of_rental k serial (inr it) = inr (of_closed k it)
 
   booking : (k : EntryKind) → IsStoredRentalOf k e.rental → IsStoredAmount k e.amount → Booked s k e → IsBooking s e k
   booking TopUp rental amount it = (rental, amount)
-  booking Fare rental amount it = (of_rental Fare it, amount.0, amount.1)
-  booking Refund rental amount it = (of_rental Refund it, amount)
+  booking Fare rental amount it = (of_rental Fare rental it, amount.0, amount.1)
+  booking Refund rental amount it = (of_rental Refund rental it, amount)
   booking Withdrawal rental amount it = (rental, amount)
   booking Charge rental amount it = (rental, amount)
   booking Credit rental amount it = (rental, amount)
 
-  one_fare : (k : EntryKind) → Booked s k e → (k ≡ Fare → IsFirstFare s e.number e.rental) → IsOneFare s e k
-  one_fare TopUp it first = tt
-  one_fare Fare it first =
-      (record { row = it.row; closing = it.closing; found = it.found; closed = it.closed; fare_is = it.paid }, first refl)
-  one_fare Refund it first = tt
-  one_fare Withdrawal it first = tt
-  one_fare Charge it first = tt
-  one_fare Credit it first = tt
+  -- it is the first fare, where it is one of a rental that is there
+  abbrev IsFirstThere : EntryKind → Type 0
+  IsFirstThere k = k ≡ Fare → OfRental s Fare e → IsFirstFare s e.number e.rental
 
-  booked_of : (k : EntryKind) → IsBooking s e k → IsOneFare s e k → Booked s k e
-  booked_of TopUp book one = tt
-  booked_of Fare book one =
-      let of = book.0 in
+  one_fare : (k : EntryKind) → IsStoredRentalOf k e.rental → Booked s k e → IsFirstThere k → IsOneFare s e k
+  one_fare TopUp rental it first = tt
+  one_fare Fare rental (inl high) first = inl (archived_of rental high)
+  one_fare Fare rental (inr it) first =
+      inr (record { row = it.row; closing = it.closing; found = it.found; closed = it.closed; fare_is = it.paid }, first refl it)
+  one_fare Refund rental it first = tt
+  one_fare Withdrawal rental it first = tt
+  one_fare Charge rental it first = tt
+  one_fare Credit rental it first = tt
+
+  paid_of : IsOfRental s e → IsOneFare s e Fare → OfAny s Fare e
+  paid_of (inl at) one = inl at.high
+  paid_of (inr of) (inl at) = inl at.high
+  paid_of (inr of) (inr one) =
       let at = one.0 in
       let row = same_Some at.row of.row (sym at.found ∙ of.found) in
       let closing = same_Some at.closing of.closing (sym at.closed ∙ ap (λ (r : Rental). r.closing) row ∙ of.closed) in
-      record {
+      inr (record {
         row = of.row;
         closing = of.closing;
         found = of.found;
         closed = of.closed;
         rider_is = of.rider_is;
         paid = at.fare_is ∙ ap (λ (c : Closing). c.fare) closing;
-      }
-  booked_of Refund book one =
-      let of = book.0 in
-      record { row = of.row; closing = of.closing; found = of.found; closed = of.closed; rider_is = of.rider_is; paid = tt }
+      })
+
+  refunded_of : IsOfRental s e → OfAny s Refund e
+  refunded_of (inl at) = inl at.high
+  refunded_of (inr of) =
+      inr (record { row = of.row; closing = of.closing; found = of.found; closed = of.closed; rider_is = of.rider_is; paid = tt })
+
+  booked_of : (k : EntryKind) → IsBooking s e k → IsOneFare s e k → Booked s k e
+  booked_of TopUp book one = tt
+  booked_of Fare book one = paid_of book.0 one
+  booked_of Refund book one = refunded_of book.0
   booked_of Withdrawal book one = tt
   booked_of Charge book one = tt
   booked_of Credit book one = tt
 
-  -- a fare has its rental, and is the first of it
-  first_of : (k : EntryKind) → IsOneFare s e k → k ≡ Fare → IsFareOf s e.rental e.amount × IsFirstFare s e.number e.rental
+  -- a fare has its rental, and is the first of it, or that was archived
+  first_of : (k : EntryKind) → IsOneFare s e k → k ≡ Fare → IsOneFare s e Fare
   first_of TopUp one is = absurd cc
-  first_of Fare one is = (one.0, one.1)
+  first_of Fare one is = one
   first_of Refund one is = absurd cc
   first_of Withdrawal one is = absurd cc
   first_of Charge one is = absurd cc
   first_of Credit one is = absurd cc
-
-  booked_rental : (k : EntryKind) → Booked s k e → k ≡ Fare → (r : Rental) × (item_numbered e.rental s.rentals ≡ Some r)
-  booked_rental TopUp it is = absurd cc
-  booked_rental Fare it is = (it.row, it.found)
-  booked_rental Refund it is = absurd cc
-  booked_rental Withdrawal it is = absurd cc
-  booked_rental Charge it is = absurd cc
-  booked_rental Credit it is = absurd cc
 
 same_pos : (a b : ℕ) → pos a ≡ pos b → a ≡ b
 same_pos a b e = cc
@@ -136,9 +150,12 @@ module _ (t : Tables) (up : AreInOrder t) (rentals : AreWide 10 t.rentals) (entr
 
   -- ---- what is asked of each row
 
-  -- rentals are numbered from 1
+  -- places of rentals are numbered from 1
   abbrev rental_end : ℕ
   rental_end = length t.rentals + 1
+
+  abbrev archived : ℕ
+  archived = s.rentals.archived
 
   abbrev none : List ℤ
   none = replicate rental_end (pos 0)
@@ -151,28 +168,38 @@ module _ (t : Tables) (up : AreInOrder t) (rentals : AreWide 10 t.rentals) (entr
 
   -- how many fares each rental has before a key
   abbrev sums : Row → List ℤ
-  sums key = with_fares none (take (below key) t.entries)
+  sums key = with_fares archived none (take (below key) t.entries)
+
+  -- how many entries stand before it, archived ones included
+  abbrev before_of : Row → ℕ
+  before_of key = s.entries.archived + below key
 
   abbrev AsksOf : Row → Entry → Type 0
-  AsksOf key = EntryGood s (below key) (sums key)
+  AsksOf key = EntryGood s (before_of key) (sums key)
 
   decides_at : (key r : Row) → Has t.entries r → Decides (test (below key) r) (IsSomeAnd (entry_read r) (AsksOf key))
   decides_at key r has =
       entry_decides t up (earlier_good t up Entries earlier Riders (omega arith)) (earlier_good t up Entries earlier Rentals (omega arith))
-      rentals r (entries r has) (below key) (sums key)
+      rentals r (entries r has) (before_of key) (sums key)
 
   -- what holds of a row under a key of which it was asked
   asked_good : (key r : Row) → under key ≡ Some r → Has t.entries r → Asked key → IsSomeAnd (entry_read r) (AsksOf key)
   asked_good key r is has p = (decides_at key r has).0 (demanded t Entries test key r is p)
 
-  -- a rental that is there has a number below the end
-  low_rental : (n : ℕ) (r : Rental) → item_numbered n s.rentals ≡ Some r → n < rental_end
-  low_rental n r found =
-      let low = numbered_low n s.rentals r found in
-      let read : length s.rentals ≡ length (filter_map rental_of_row t.rentals) =
+  -- a rental that is there has a place below the end
+  record HasRental (n : ℕ) : Type 0 where
+    place : ℕ
+    number_is : n ≡ archived + suc place
+    low : suc place < rental_end
+
+  rental_there : (n : ℕ) (r : Rental) → item_numbered n s.rentals ≡ Some r → HasRental n
+  rental_there n r found =
+      let at = place_of archived n s.rentals.items r found in
+      let low = at.low in
+      let read : length s.rentals.items ≡ length (filter_map rental_of_row t.rentals) =
       ap (λ (rs : List Rental). length rs) (rentals_read t.rentals) in
       let rows = read_few rental_of_row t.rentals in
-      omega (arith, low, read, rows)
+      record { place = at.below; number_is = at.number_is; low = omega (arith, low, read, rows) }
 
   -- ---- a row among those before and behind it
 
@@ -200,7 +227,7 @@ module _ (t : Tables) (up : AreInOrder t) (rentals : AreWide 10 t.rentals) (entr
     abbrev back : List Entry
     back = filter_map entry_read (r ∷ behind)
 
-    entries_are : s.entries ≡ front ++ back
+    entries_are : s.entries.items ≡ front ++ back
     entries_are = entries_read t.entries ∙ ap (filter_map entry_read) parts ∙ read_append entry_read before (r ∷ behind)
 
     -- where all before it are asked, so many are read
@@ -222,38 +249,45 @@ module _ (t : Tables) (up : AreInOrder t) (rentals : AreWide 10 t.rentals) (entr
     rows_before : take (below key) t.entries ≡ before
     rows_before = (λ i. take (so_many i) (parts i)) ∙ take_at before (r ∷ behind) (length before) refl
 
-    sum_is : (n : ℕ) → n < rental_end → sum_at (sums key) n ≡ pos (count (is_fare_of n) front)
-    sum_is n low =
-        ap (λ (rows : List Row). sum_at (with_fares none rows) n) rows_before ∙ fares_counted rental_end before n low
+    sum_is : (place : ℕ) → suc place < rental_end → sum_at (sums key) (suc place) ≡ pos (count (is_fare_of (archived + suc place)) front)
+    sum_is place low =
+        ap (λ (rows : List Row). sum_at (with_fares archived none rows) (suc place)) rows_before ∙ fares_counted archived rental_end before place low
 
     -- with no fare of its rental before it it is the first, and the other way round
-    module _ (e : Entry) (number : e.number ≡ below key + 1) (low : e.rental < rental_end) where
-      none_before : ((other : Row) → row_cmp other key ≡ Less → Asked other) → sum_at (sums key) e.rental ≡ pos 0
+    module _ (e : Entry) (number : e.number ≡ before_of key + 1) (there : HasRental e.rental) where
+      abbrev paid : Entry → Bool
+      paid = is_fare_of (archived + suc there.place)
+
+      place_is : e.rental - archived ≡ suc there.place
+      place_is = let is = there.number_is in omega (arith, is)
+
+      none_before : ((other : Row) → row_cmp other key ≡ Less → Asked other) → sum_at (sums key) (e.rental - archived) ≡ pos 0
           → IsFirstFare s e.number e.rental
       none_before all nothing other x less found fare same =
           let few = front_length all in
           let many = so_many in
-          let found_here = sym (ap (item_numbered other) entries_are) ∙ found in
-          let here = numbered_front other front back x found_here (omega (arith, less, number, many, few)) in
-          let passes = and_from (x.rental == e.rental) (is_fare x.kind) ((Decides-eqb x.rental e.rental).1 same) (ap is_fare fare) in
-          let some = passing_counts (is_fare_of e.rental) front here.0 (record { item = x; found = here.1; passes = passes }) in
-          let none = same_pos (count (is_fare_of e.rental) front) 0 (sym (sum_is e.rental low) ∙ nothing) in
+          let found_here = sym (ap (item_in (other - s.entries.archived)) entries_are) ∙ found in
+          let here = place_front (other - s.entries.archived) front back x found_here (omega (arith, less, number, many, few)) in
+          let passes = and_from (x.rental == archived + suc there.place) (is_fare x.kind)
+          ((Decides-eqb x.rental (archived + suc there.place)).1 (same ∙ there.number_is)) (ap is_fare fare) in
+          let some = passing_counts paid front here.0 (record { item = x; found = here.1; passes = passes }) in
+          let none = same_pos (count paid front) 0 (sym (sum_is there.place there.low) ∙ ap (sum_at (sums key)) (sym place_is) ∙ nothing) in
           omega (arith, some, none)
 
-      before_none : IsFirstFare s e.number e.rental → sum_at (sums key) e.rental ≡ pos 0
-      before_none first = sum_is e.rental low ∙ ap pos (go (count (is_fare_of e.rental) front) refl) where
-        go : (n : ℕ) → count (is_fare_of e.rental) front ≡ n → n ≡ 0
+      before_none : IsFirstFare s e.number e.rental → sum_at (sums key) (e.rental - archived) ≡ pos 0
+      before_none first = ap (sum_at (sums key)) place_is ∙ sum_is there.place there.low ∙ ap pos (go (count paid front) refl) where
+        go : (n : ℕ) → count paid front ≡ n → n ≡ 0
         go zero so = refl
         go (suc n) so =
-            let it = counted_passes (is_fare_of e.rental) front (omega (arith, so)) in
+            let it = counted_passes paid front (omega (arith, so)) in
             let x = it.1.item in
-            let tests = and_parts (x.rental == e.rental) (is_fare x.kind) it.1.passes in
+            let tests = and_parts (x.rental == archived + suc there.place) (is_fare x.kind) it.1.passes in
             let place = item_low it.0 front x it.1.found in
             let few = read_few entry_read before in
             let many = so_many in
-            let found = ap (item_numbered (suc it.0)) entries_are ∙ front_item it.0 front back x it.1.found in
-            let same = (Decides-eqb x.rental e.rental).0 tests.0 in
-            absurd (first (suc it.0) x (omega (arith, place, few, many, number)) found (kind_of_fare x.kind tests.1) same)
+            let found = number_of_place it.0 s.entries x (ap (item_at it.0) entries_are ∙ front_item it.0 front back x it.1.found) in
+            let same = (Decides-eqb x.rental (archived + suc there.place)).0 tests.0 in
+            absurd (first (s.entries.archived + suc it.0) x (omega (arith, place, few, many, number)) found (kind_of_fare x.kind tests.1) (same ∙ sym there.number_is))
 
   -- ---- a key
 
@@ -275,11 +309,16 @@ module _ (t : Tables) (up : AreInOrder t) (rentals : AreWide 10 t.rentals) (entr
           booking = booking s e e.kind stored.rental stored.amount it.fact.booked;
           by_now = number.by_now;
         };
-        fare = one_fare s e e.kind it.fact.booked (λ kind.
-            let rental = booked_rental s e e.kind it.fact.booked kind in
-            let low = low_rental e.rental rental.0 rental.1 in
-            none_before key r is parts.0 parts.1 parts.2 e number.number_is low all (first_finds e.kind _ it.fact.first kind));
+        fare = one_fare s e e.kind stored.rental it.fact.booked (λ kind of.
+            let there = rental_there e.rental of.row of.found in
+            none_before key r is parts.0 parts.1 parts.2 e number.number_is there all
+            (nothing e there (first_finds archived e.rental e.kind _ it.fact.first kind)));
       })
+    where
+      nothing : (e : Entry) → HasRental e.rental → IsFirst archived e.rental (sum_at (sums key) (e.rental - archived))
+          → sum_at (sums key) (e.rental - archived) ≡ pos 0
+      nothing e there (inl high) = let is = there.number_is in absurd (omega (arith, is, high))
+      nothing e there (inr none) = none
 
   good_key : (key : Row) → ((other : Row) → row_cmp other key ≡ Less → Asked other) → Asked key → IsGoodKey t Entries key
   good_key key all p = go (under key) refl where
@@ -293,15 +332,19 @@ module _ (t : Tables) (up : AreInOrder t) (rentals : AreWide 10 t.rentals) (entr
       let parts = split t.entries r has in
       let it = some_with (IsGoodEntry s (below key)) (entry_read r) h in
       let e = it.value in
-      let first : is_first (sums key) e ≡ true = finds_first e.kind _ (λ kind.
-      let fare = first_of s e e.kind it.fact.fare kind in
-      let low = low_rental e.rental fare.0.row fare.0.found in
-      before_none key r is parts.0 parts.1 parts.2 e it.fact.number_is low fare.1) in
+      let first : is_first archived (sums key) e ≡ true =
+      finds_first archived e.rental e.kind _ (λ kind. none key r is parts.0 parts.1 parts.2 e it.fact.number_is (first_of s e e.kind it.fact.fare kind)) in
       demands t Entries test key r is ((decides_at key r has).1 (some_and (AsksOf key) (entry_read r) e it.value_is (record {
         number = record { number_is = it.fact.number_is; room = it.fact.room; rider_is = it.fact.good.rider_is; by_now = it.fact.good.by_now };
         booked = booked_of s e e.kind it.fact.good.booking it.fact.fare;
         first = first;
       })))
+    where
+      none : (key r : Row) (is : under key ≡ Some r) (before behind : List Row) (parts : t.entries ≡ before ++ r ∷ behind) (e : Entry)
+          → e.number ≡ before_of key + 1 → IsOneFare s e Fare → IsFirst archived e.rental (sum_at (sums key) (e.rental - archived))
+      none key r is before behind parts e number (inl at) = inl at.high
+      none key r is before behind parts e number (inr one) =
+          inr (before_none key r is before behind parts e number (rental_there e.rental one.0.row one.0.found) one.1)
 
   key_good : (key : Row) → IsGoodKey t Entries key → Asked key
   key_good key good = go (under key) refl good where
@@ -325,7 +368,8 @@ line_begins t (v ∷ r) wide = refl
 
 module _ (db : Database) (ours : IsOurs db) (moment : ℕ) (now : moment ≡ (operator_of (tables_of db)).now)
     (rentals : RentalCount) (are : IsRentalCount (tables_of db) rentals) (fares : List ℤ) (nothing : fares ≡ replicate rentals.next (pos 0))
-    (riders : List (Option (Unit {0}))) (riders_are : is_listed riders ≡ has_rider (tables_of db)) where
+    (riders : List (Option (Unit {0}))) (riders_are : is_listed riders ≡ has_rider (tables_of db))
+    (archived : ℕ × ℕ × ℕ) (told : archived ≡ archived_in (tables_of db).books) where
   abbrev t : Tables
   t = tables_of db
 
@@ -333,8 +377,8 @@ module _ (db : Database) (ours : IsOurs db) (moment : ℕ) (now : moment ≡ (op
   lines = map (entry_line t) t.entries
 
   -- what the judge finds from what it knows
-  abbrev found_by : (ℕ → Bool) → ℕ → ℕ → List ℤ → Option Row
-  found_by riders now riding fares = first_bad riders now riding fares 0 lines
+  abbrev found_by : (ℕ → Bool) → ℕ → ℕ → List ℤ → ℕ × ℕ × ℕ → Option Row
+  found_by riders now riding fares archived = first_bad riders now riding archived.2 fares archived.1 lines
 
   abbrev stored : Operator
   stored = operator_of t
@@ -349,11 +393,11 @@ module _ (db : Database) (ours : IsOurs db) (moment : ℕ) (now : moment ≡ (op
   shows r has = own t (rentals_wide db ours.has) r (entries_wide db ours.has r has)
 
   pub entries_judged : EarlierGood t Entries → (found : Option BadKey)
-      → ((v : Option Row) → found_by (is_listed riders) moment rentals.riding fares ≡ v → option_map key_row found ≡ v)
+      → ((v : Option Row) → found_by (is_listed riders) moment rentals.riding fares archived ≡ v → option_map key_row found ≡ v)
       → IsTableVerdict t Entries (option_map key_row found)
   entries_judged earlier found says =
       entries_verdict t (stored_in_order db) (rentals_wide db ours.has) (entries_wide db ours.has) earlier (option_map key_row found)
-      (lines_failing Entries entry_line (of_all (has_rider t) stored.now (open_rentals stored) nothing_paid (entry_line t) t.entries) 6 line_begins
+      (lines_failing Entries entry_line (of_all (has_rider t) stored.now (open_rentals stored) stored.rentals.archived stored.entries.archived nothing_paid (entry_line t) t.entries) 6 line_begins
       db (entries_wide db ours.has) found (λ v is.
-      says v ((λ i. found_by (riders_are i) (now i) (are.riding_is i) (nothing_is i))
-      ∙ entries_pass (has_rider t) stored.now (open_rentals stored) nothing_paid (entry_line t) t.entries shows ∙ is)))
+      says v ((λ i. found_by (riders_are i) (now i) (are.riding_is i) (nothing_is i) (told i))
+      ∙ entries_pass (has_rider t) stored.now (open_rentals stored) stored.rentals.archived stored.entries.archived nothing_paid (entry_line t) t.entries shows ∙ is)))

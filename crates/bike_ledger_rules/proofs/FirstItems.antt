@@ -1,8 +1,8 @@
 -- Items and rows at the front of a list.
-use Rattle.std.proofs.Common.{◌≡◌, inl, inr, ℕ, zero, suc, ◌<◌, ◌≤◌, List, [], ◌∷◌, ◌++◌, length, Option, Some, None, refl, sym, ap, ◌∙◌, arith}
+use Rattle.std.proofs.Common.{◌≡◌, inl, inr, ℕ, zero, suc, ◌+◌, ◌-◌, ◌<◌, ◌≤◌, List, [], ◌∷◌, ◌++◌, length, Option, Some, None, refl, sym, ap, ◌∙◌, arith}
 use Rattle.std.specs.List.{filter_map, cons_option}
 use Rattle.sqlite_rules.specs.Lists.{Has}
-use Rattle.bike_operator.specs.Operator.{item_at, item_numbered}
+use Rattle.bike_operator.specs.Operator.{item_at, item_in}
 
 module _ {A : Type 0} where
   item_front : (i : ℕ) (xs ys : List A) (x : A) → item_at i (xs ++ ys) ≡ Some x → i < length xs → item_at i xs ≡ Some x
@@ -20,13 +20,21 @@ module _ {A : Type 0} where
   item_low zero (z ∷ xs) x found = omega arith
   item_low (suc i) (z ∷ xs) x found = let rest = item_low i xs x found in omega (arith, rest)
 
-  pub numbered_front : (n : ℕ) (xs ys : List A) (x : A) → item_numbered n (xs ++ ys) ≡ Some x → n ≤ length xs → (i : ℕ) × (item_at i xs ≡ Some x)
-  numbered_front zero xs ys x found low = absurd cc
-  numbered_front (suc n) xs ys x found low = (n, item_front n xs ys x found (omega (arith, low)))
+  pub place_front : (n : ℕ) (xs ys : List A) (x : A) → item_in n (xs ++ ys) ≡ Some x → n ≤ length xs → (i : ℕ) × (item_at i xs ≡ Some x)
+  place_front zero xs ys x found low = absurd cc
+  place_front (suc n) xs ys x found low = (n, item_front n xs ys x found (omega (arith, low)))
 
-  pub numbered_low : (n : ℕ) (xs : List A) (x : A) → item_numbered n xs ≡ Some x → n ≤ length xs
-  numbered_low zero xs x found = absurd cc
-  numbered_low (suc n) xs x found = let low = item_low n xs x found in omega (arith, low)
+  -- an item that is there has a place behind so many that were archived
+  pub record HasPlace (archived n : ℕ) (xs : List A) : Type 0 where
+    pub below : ℕ
+    pub number_is : n ≡ archived + suc below
+    pub low : below < length xs
+
+  pub place_of : (archived n : ℕ) (xs : List A) (x : A) → item_in (n - archived) xs ≡ Some x → HasPlace archived n xs
+  place_of archived n xs x found = go (n - archived) refl found where
+    go : (k : ℕ) → n - archived ≡ k → item_in k xs ≡ Some x → HasPlace archived n xs
+    go zero is found = absurd cc
+    go (suc k) is found = record { below = k; number_is = omega (arith, is); low = item_low k xs x found }
 
   -- an item stands between those before and behind it
   pub split : (xs : List A) (x : A) → Has xs x → (before : List A) × (behind : List A) × (xs ≡ before ++ x ∷ behind)

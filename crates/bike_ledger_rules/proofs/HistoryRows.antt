@@ -7,7 +7,7 @@ use Rattle.std.proofs.lemmas.Bool.{le-leb, leb-true}
 use Rattle.std.proofs.lemmas.List.{take_at}
 use Rattle.sqlite_value.specs.Order.{Row}
 use Rattle.sqlite_rules.specs.Lists.{Has}
-use Rattle.bike_operator.specs.Operator.{AcceptedRequest, item_at, item_numbered}
+use Rattle.bike_operator.specs.Operator.{AcceptedRequest, item_at, item_in}
 use Rattle.bike_readings.specs.Readings.{request_read}
 use Rattle.bike_judges.specs.Passes.{first_failing}
 use Rattle.bike_ledger_rules.specs.History.{is_later, is_next_request, request_passes, next_moment, moment_of, last_moment, first_astray, request_test}
@@ -53,10 +53,13 @@ no_row now before last = refl
 
 -- ---- the pass
 
-module _ (now : ℕ) where
+-- behind so many requests that were archived
+module _ (now archived : ℕ) where
   -- the pass over these rows, which stand behind those
   abbrev Passes : List Row → List Row → Type 0
-  Passes before rows = first_astray now (length before) (last_moment before) rows ≡ first_failing (request_test now (before ++ rows)) (take 1) (length before) rows
+  Passes before rows =
+      first_astray now (archived + length before) (last_moment before) rows
+      ≡ first_failing (request_test now archived (before ++ rows)) (take 1) (length before) rows
 
   passing : (before rows : List Row) → Passes before rows
   unfolding first_astray first_failing
@@ -70,16 +73,18 @@ module _ (now : ℕ) where
         let all = before ++ row ∷ rows in
         let front = before ++ row ∷ [] in
         let long : length front ≡ length before + 1 = length-append before (row ∷ []) in
-        let rest : first_astray now (length before + 1) (moment_of (request_read row)) rows ≡ first_failing (request_test now all) (take 1) (suc (length before)) rows =
-        ap (λ (last : Option ℕ). first_astray now (length before + 1) last rows) (sym (fold_append (λ last r. moment_of (request_read r)) None before (row ∷ [])))
-        ∙ ap (λ (n : ℕ). first_astray now n (last_moment front) rows) (sym long) ∙ later
-        ∙ ap (λ (xs : List Row). first_failing (request_test now xs) (take 1) (length front) rows) (append_assoc before (row ∷ []) rows)
-        ∙ ap (λ (n : ℕ). first_failing (request_test now all) (take 1) n rows) (long ∙ (omega arith)) in
-        λ i. cond (request_passes now (length before) (last_moment (here i)) (request_read row)) (rest i) (Some (take 1 row))
+        let rest : first_astray now (archived + length before + 1) (moment_of (request_read row)) rows ≡ first_failing (request_test now archived all) (take 1) (suc (length before)) rows =
+        ap (λ (last : Option ℕ). first_astray now (archived + length before + 1) last rows) (sym (fold_append (λ last r. moment_of (request_read r)) None before (row ∷ [])))
+        ∙ ap (λ (n : ℕ). first_astray now n (last_moment front) rows) (omega (arith, long)) ∙ later
+        ∙ ap (λ (xs : List Row). first_failing (request_test now archived xs) (take 1) (length front) rows) (append_assoc before (row ∷ []) rows)
+        ∙ ap (λ (n : ℕ). first_failing (request_test now archived all) (take 1) n rows) (long ∙ (omega arith)) in
+        λ i. cond (request_passes now (archived + length before) (last_moment (here i)) (request_read row)) (rest i) (Some (take 1 row))
 
   -- THE PASS over all rows
-  pub rows_pass : (rows : List Row) → first_astray now 0 None rows ≡ first_failing (request_test now rows) (take 1) 0 rows
-  rows_pass rows = passing [] rows
+  pub rows_pass : (rows : List Row) → first_astray now archived None rows ≡ first_failing (request_test now archived rows) (take 1) 0 rows
+  rows_pass rows = ap (λ (n : ℕ). first_astray now n None rows) none ∙ passing [] rows where
+    none : archived ≡ archived + 0
+    none = omega arith
 
 -- ---- the moment of the row before
 
@@ -105,8 +110,8 @@ module _ (more : List AcceptedRequest) where
       ap (λ (last : Option ℕ). fold step last xs) (ap moment_of w.1) ∙ lasting xs w.0 (λ r has. each r (inr has))
       ∙ ap (λ (front : List AcceptedRequest). option_map (λ a. a.moment) (item_at (length xs) (front ++ more))) (sym (one_spelled z xs w.0 w.1))
 
-  -- it is that of the request with the number of so many rows
-  pub last_is : (before : List Row) → EachSpells before → last_moment before ≡ option_map (λ a. a.moment) (item_numbered (length before) (requests before ++ more))
+  -- it is that of the request at the place of so many rows
+  pub last_is : (before : List Row) → EachSpells before → last_moment before ≡ option_map (λ a. a.moment) (item_in (length before) (requests before ++ more))
   last_is [] each = refl
   last_is (x ∷ xs) each =
       let y = each x (inl refl) in

@@ -17,7 +17,7 @@ use Rattle.sqlite_value.proofs.OrderLemmas.{row_cmp_total, value_cmp-Text}
 use Rattle.sqlite_rules.specs.Lists.{Has}
 use Rattle.sqlite.specs.Effect.{Database}
 use Rattle.bike_fields.specs.Caller.{caller_text}
-use Rattle.bike_operator.specs.Operator.{Operator, AcceptedRequest, item_numbered, texts_cmp, key_in, kept_under}
+use Rattle.bike_operator.specs.Operator.{Operator, AcceptedRequest, item_in, texts_cmp, key_in, kept_under}
 use Rattle.bike_sql.specs.View.{by_key}
 use Rattle.bike_sql.proofs.OrderLemmas.{Rises, all_has}
 use Rattle.bike_sql.proofs.TreeLemmas.{by_key_total}
@@ -111,11 +111,15 @@ module _ (t : Tables) (up : AreInOrder t) where
   abbrev below : Row → ℕ
   below = rows_below t History
 
+  -- how many requests stand before it, archived ones included
+  abbrev before_of : Row → ℕ
+  before_of key = s.history.archived + below key
+
   abbrev under : Row → Option Row
   under = row_under t History
 
   abbrev test : ℕ → Row → Bool
-  test = request_test s.now t.history
+  test = request_test s.now s.history.archived t.history
 
   -- what both passes ask of a key
   abbrev Asked : Row → Type 0
@@ -161,10 +165,10 @@ module _ (t : Tables) (up : AreInOrder t) where
         let low : row_cmp (take 1 x) key ≡ Less =
         row_cmp_total.antisymm (take 1 x) key ∙ ap ordering_reverse (sym turned) ∙ sym (row_cmp_total.antisymm (take 1 x) (take 1 r))
         ∙ from_before before rising x has in
-        passing_spells s.now (below (take 1 x)) (last_moment (take (below (take 1 x)) t.history)) (request_read x)
+        passing_spells s.now (before_of (take 1 x)) (last_moment (take (below (take 1 x)) t.history)) (request_read x)
         (demanded t History test (take 1 x) x (has_under 1 t.history x (up History) (in_table x has)) (all (take 1 x) low).0)
 
-    history_are : s.history ≡ requests before ++ requests (r ∷ behind)
+    history_are : s.history.items ≡ requests before ++ requests (r ∷ behind)
     history_are =
         ap requests parts ∙ ap (map (λ (e : ℕ × AcceptedRequest). e.1)) (read_append request_read before (r ∷ behind))
         ∙ map-append (λ (e : ℕ × AcceptedRequest). e.1) (filter_map request_read before) (filter_map request_read (r ∷ behind))
@@ -172,16 +176,16 @@ module _ (t : Tables) (up : AreInOrder t) where
     so_many_requests : length (requests before) ≡ below key
     so_many_requests = length-map (filter_map request_read before) (λ (e : ℕ × AcceptedRequest). e.1) ∙ read_all request_read before each ∙ sym so_many
 
-    taken : take (below key) s.history ≡ requests before
+    taken : take (below key) s.history.items ≡ requests before
     taken = ap (take (below key)) history_are ∙ take_at (requests before) (requests (r ∷ behind)) (below key) so_many_requests
 
     rows_before : take (below key) t.history ≡ before
     rows_before = (λ i. take (so_many i) (parts i)) ∙ take_at before (r ∷ behind) (length before) refl
 
-    last : last_moment (take (below key) t.history) ≡ option_map (λ a. a.moment) (item_numbered (below key) s.history)
+    last : last_moment (take (below key) t.history) ≡ option_map (λ a. a.moment) (item_in (below key) s.history.items)
     last =
         ap last_moment rows_before ∙ last_is (requests (r ∷ behind)) before each
-        ∙ sym (λ i. option_map (λ a. a.moment) (item_numbered (so_many i) (history_are i)))
+        ∙ sym (λ i. option_map (λ a. a.moment) (item_in (so_many i) (history_are i)))
 
     -- ---- what is asked, and what is good
 
@@ -189,14 +193,14 @@ module _ (t : Tables) (up : AreInOrder t) where
     good_row p =
         let moments = last_moment (take (below key) t.history) in
         let passes = demanded t History test key r is p.0 in
-        let it = passing_spells s.now (below key) moments (request_read r) passes in
+        let it = passing_spells s.now (before_of key) moments (request_read r) passes in
         let x = it.0 in
-        let first = and_parts (x.0 == below key + 1) (nat_le x.1.moment s.now && is_later moments x.1.moment) (ap (request_passes s.now (below key) moments) (sym it.1) ∙ passes) in
+        let first = and_parts (x.0 == before_of key + 1) (nat_le x.1.moment s.now && is_later moments x.1.moment) (ap (request_passes s.now (before_of key) moments) (sym it.1) ∙ passes) in
         let second = and_parts (nat_le x.1.moment s.now) (is_later moments x.1.moment) first.1 in
         some_and (IsGoodRequest s (below key)) (request_read r) x it.1 (record {
-          number_is = (Decides-eqb x.0 (below key + 1)).0 first.0;
+          number_is = (Decides-eqb x.0 (before_of key + 1)).0 first.0;
           by_now = leb-true x.1.moment s.now second.0;
-          in_order = later_than (item_numbered (below key) s.history) x.1.moment (ap (λ (o : Option ℕ). is_later o x.1.moment) (sym last) ∙ second.1);
+          in_order = later_than (item_in (below key) s.history.items) x.1.moment (ap (λ (o : Option ℕ). is_later o x.1.moment) (sym last) ∙ second.1);
           anew =
               ap (kept_under (key_in x.1.request)) taken
               ∙ none_kept r x it.1 before each (λ z has same. p.1 r z is (in_table z has) (from_before before rising z has) same);
@@ -208,10 +212,10 @@ module _ (t : Tables) (up : AreInOrder t) where
         let x = it.value in
         let moments = last_moment (take (below key) t.history) in (
           demands t History test key r is
-              (ap (request_passes s.now (below key) moments) it.value_is
-              ∙ and_from (x.0 == below key + 1) (nat_le x.1.moment s.now && is_later moments x.1.moment) ((Decides-eqb x.0 (below key + 1)).1 it.fact.number_is)
+              (ap (request_passes s.now (before_of key) moments) it.value_is
+              ∙ and_from (x.0 == before_of key + 1) (nat_le x.1.moment s.now && is_later moments x.1.moment) ((Decides-eqb x.0 (before_of key + 1)).1 it.fact.number_is)
               (and_from (nat_le x.1.moment s.now) (is_later moments x.1.moment) (le-leb x.1.moment s.now it.fact.by_now)
-              (ap (λ (o : Option ℕ). is_later o x.1.moment) last ∙ than_later (item_numbered (below key) s.history) x.1.moment it.fact.in_order))),
+              (ap (λ (o : Option ℕ). is_later o x.1.moment) last ∙ than_later (item_in (below key) s.history.items) x.1.moment it.fact.in_order))),
           λ q other found has low same.
               let own : q ≡ r = same_Some q r (sym found ∙ is) in
               kept_none r x it.value_is before each (ap (kept_under (key_in x.1.request)) (sym taken) ∙ it.fact.anew) other
@@ -243,21 +247,24 @@ module _ (t : Tables) (up : AreInOrder t) where
 
 -- ---- both passes
 
-module _ (db : Database) (ours : IsOurs db) (moment : ℕ) (now : moment ≡ (operator_of (tables_of db)).now) (by_order by_keys found : Option BadKey)
+module _ (db : Database) (ours : IsOurs db) (moment : ℕ) (now : moment ≡ (operator_of (tables_of db)).now)
+    (archived : ℕ) (told : archived ≡ (operator_of (tables_of db)).history.archived) (by_order by_keys found : Option BadKey)
     (found_is : option_map key_row found ≡ least_key (option_map key_row by_order) (option_map key_row by_keys)) where
   abbrev t : Tables
   t = tables_of db
 
-  pub history_judged : ((v : Option Row) → first_astray moment 0 None (lines_of query.History t) ≡ v → option_map key_row by_order ≡ v)
+  pub history_judged : ((v : Option Row) → first_astray moment archived None (lines_of query.History t) ≡ v → option_map key_row by_order ≡ v)
       → ((v : Option Row) → least_again None None (lines_of query.HistoryKeys t) ≡ v → option_map key_row by_keys ≡ v)
       → IsTableVerdict t History (option_map key_row found)
   history_judged in_order of_keys =
       let up = stored_in_order db in
       let stored = (operator_of t).now in
-      let rows : first_failing (request_test stored t.history) (take 1) 0 t.history ≡ option_map key_row by_order =
-      sym (rows_pass stored t.history) ∙ ap (λ (n : ℕ). first_astray n 0 None t.history) (sym now) ∙ sym (in_order (first_astray moment 0 None t.history) refl) in
-      let first = rows_verdict t History up (request_test stored t.history) (take 1) (λ row has. refl) (option_map key_row by_order) rows in
+      let behind = (operator_of t).history.archived in
+      let rows : first_failing (request_test stored behind t.history) (take 1) 0 t.history ≡ option_map key_row by_order =
+      sym (rows_pass stored behind t.history) ∙ (λ i. first_astray (sym now i) (sym told i) None t.history)
+      ∙ sym (in_order (first_astray moment archived None t.history) refl) in
+      let first = rows_verdict t History up (request_test stored behind t.history) (take 1) (λ row has. refl) (option_map key_row by_order) rows in
       let second = keys_verdict t up (history_wide db ours.has) (option_map key_row by_keys) (sym (of_keys (least_again None None (lines_of query.HistoryKeys t)) refl)) in
       history_verdict t up (option_map key_row found)
-      (subst (IsFirstFailing t History (λ key. Demands t History (request_test stored t.history) key × IsAnew t key)) (sym found_is)
-      (least_verdict t History (Demands t History (request_test stored t.history)) (IsAnew t) (option_map key_row by_order) (option_map key_row by_keys) first second))
+      (subst (IsFirstFailing t History (λ key. Demands t History (request_test stored behind t.history) key × IsAnew t key)) (sym found_is)
+      (least_verdict t History (Demands t History (request_test stored behind t.history)) (IsAnew t) (option_map key_row by_order) (option_map key_row by_keys) first second))

@@ -16,6 +16,7 @@ use Rattle.bike_operator.specs.declared.records.Bike.{Bike}
 use Rattle.bike_operator.specs.Operator.{Rider, Station}
 use Rattle.bike_book.specs.Tables.{Tables, Riders, Bikes, Plans, Stations}
 use Rattle.bike_book.specs.declared.columns.regions.TheConstants as regions
+use Rattle.bike_book.specs.declared.columns.riders.TheConstants as riders
 use Rattle.bike_book.specs.declared.columns.stations.TheConstants as stations
 use Rattle.bike_book.specs.declared.columns.bikes.TheConstants as bikes
 use Rattle.bike_book.specs.declared.columns.trucks.TheConstants as trucks
@@ -34,7 +35,9 @@ use Rattle.bike_ledger_rules.specs.declared.known.StationSet.{StationSet}
 use Rattle.bike_ledger_rules.specs.Known.{value_at, with_value, has_rider, is_listed, with_rider, rental_at, bike_rental, with_bike, has_plan, with_plan, has_station, with_station}
 use Rattle.bike_ledger_rules.proofs.KnownFolds.{Keeps, step, said, fold_shown, known}
 use Rattle.bike_ledger_rules.proofs.IdentSets.{Ids, ident-same, ident-other}
+use Rattle.bike_ledger_rules.specs.Riders.{rider_line}
 use Rattle.bike_ledger_rules.proofs.RiderFolds.{AreWide}
+use Rattle.bike_ledger_rules.proofs.RiderLines.{own_row}
 use Rattle.bike_ledger_rules.proofs.SumLemmas.{fold_held}
 use Rattle.bike_ledger_rules.proofs.Values.{value_at-same, value_at-other}
 
@@ -86,15 +89,29 @@ as_set None = refl
 as_set (Some e) = refl
 
 module _ (t : Tables) (up : AreInOrder t) where
-  pub riders_known : is_listed (fold with_rider (record { numbers = [] }) t.riders).numbers ≡ has_rider t
-  riders_known = λ i n. each n i where
-    each : (n : ℕ) → is_listed (fold with_rider (record { numbers = [] }) t.riders).numbers n ≡ has_rider t n
-    each n =
-        ap (λ (ns : List (Option (Unit {0}))). is_listed ns n)
-        (fold_held (λ (a : RiderSet). a.numbers) with_rider (step with_listed rider_read) (λ a r. refl) t.riders (record { numbers = [] }))
-        ∙ known is_listed with_listed (λ e. e.0) (λ e. true) listed_keeps nat_eq Decides-eqb rider_read numbers
-        (λ r e is. ap (take 1) (rider_reading.sound r e is).0) t.riders (up Riders) [] n
-        ∙ as_set (option_and_then rider_read (row_under t Riders (number_key n)))
+  -- ---- riders, of lines with their plans
+
+  module _ (wide : AreWide riders.COLUMNS t.riders) where
+    abbrev no_riders : RiderSet
+    no_riders = record { numbers = [] }
+
+    -- of a rider's row by itself
+    abbrev more_riders : RiderSet → Row → RiderSet
+    more_riders a row = record a { numbers = step with_listed rider_read a.numbers row }
+
+    pub riders_known : is_listed (fold with_rider no_riders (lines_of query.RiderRows t)).numbers ≡ has_rider t
+    riders_known = λ i n. each n i where
+      front : (a : RiderSet) (r : Row) → Has t.riders r → with_rider a (rider_line t r) ≡ more_riders a r
+      front a r has = ap (more_riders a) (own_row t wide r has)
+
+      each : (n : ℕ) → is_listed (fold with_rider no_riders (lines_of query.RiderRows t)).numbers n ≡ has_rider t n
+      each n =
+          ap (λ (a : RiderSet). is_listed a.numbers n) (fold_shown (rider_line t) with_rider more_riders t.riders front no_riders)
+          ∙ ap (λ (ns : List (Option (Unit {0}))). is_listed ns n)
+          (fold_held (λ (a : RiderSet). a.numbers) more_riders (step with_listed rider_read) (λ a r. refl) t.riders no_riders)
+          ∙ known is_listed with_listed (λ e. e.0) (λ e. true) listed_keeps nat_eq Decides-eqb rider_read numbers
+          (λ r e is. ap (take 1) (rider_reading.sound r e is).0) t.riders (up Riders) [] n
+          ∙ as_set (option_and_then rider_read (row_under t Riders (number_key n)))
 
   -- ---- bicycles, of lines with their trucks
 

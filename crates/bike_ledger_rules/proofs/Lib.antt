@@ -1,9 +1,11 @@
+pub mod Tests
 pub mod SumLemmas
 pub mod Holds
 pub mod Once
 pub mod Folds
 pub mod RiderFolds
 pub mod Rows
+pub mod RiderLines
 pub mod RiderRules
 pub mod Widths
 pub mod Parts
@@ -24,3 +26,5 @@ pub mod EntryVerdict
 pub mod HistoryRows
 pub mod HistoryKeys
 pub mod HistoryVerdict
+pub mod BooksFolds
+pub mod BooksVerdict

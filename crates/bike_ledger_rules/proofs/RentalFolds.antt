@@ -1,5 +1,6 @@
 -- What the entries of rentals come to by their numbers is what the ledger says, and rentals are asked the same by what is held in memory.
-use Rattle.std.proofs.Common.{◌≡◌, ℕ, ℤ, pos, ◌+◌, ◌<◌, ◌≤◌, ◌==◌, ◌&&◌, List, length, filter, replicate, Bool, true, false, cond, Option, Some, None, refl, sym, ap, ap₂, subst, ◌∙◌, arith}
+use Rattle.std.proofs.Common.{◌≡◌, ℕ, ℤ, pos, suc, ◌+◌, ◌-◌, ◌<◌, ◌==◌, ◌&&◌, List, [], ◌∷◌, length}
+use Rattle.std.proofs.Common.{filter, replicate, Bool, true, false, cond, Option, Some, None, refl, sym, ap, ap₂, subst, ◌∙◌, arith}
 use Rattle.std.specs.Prelude.{option_map, take}
 use Rattle.std.specs.List.{fold, filter_map}
 use Rattle.std.proofs.lemmas.Bool.Decides.{Decides-eqb}
@@ -7,13 +8,14 @@ use Rattle.std.proofs.lemmas.List.{length-map}
 use Rattle.sqlite_value.specs.Order.{Row}
 use Rattle.sqlite.specs.Effect.{Database}
 use Rattle.bike_ledger.specs.Entries.{Entry}
-use Rattle.bike_ledger.specs.Ledger.{given_back, refunded_of}
+use Rattle.bike_ledger.specs.Ledger.{given_back, refunded_of, total}
 use Rattle.bike_operator.specs.declared.records.Rental.{Rental}
 use Rattle.bike_operator.specs.Counts.{count}
 use Rattle.bike_operator.specs.Sound.{is_fare, fares_of}
 use Rattle.bike_book.specs.Tables.{Tables, Rentals}
 use Rattle.bike_schema.specs.Tables.{tables_of}
 use Rattle.bike_readings.specs.Readings.{entry_read, rental_read}
+use Rattle.bike_readings.specs.ReadOff.{operator_of}
 use Rattle.bike_readings.specs.Rules.{row_under, rows_below}
 use Rattle.bike_readings.proofs.Fares.{is_fare_of}
 use Rattle.bike_readings.proofs.Places.{under_has, lesser_fewer}
@@ -29,15 +31,12 @@ use Rattle.bike_ledger_rules.specs.declared.rental_entries.RentalEntries.{Rental
 use Rattle.bike_ledger_rules.specs.Lines.{FindsFailing, first_column}
 use Rattle.bike_ledger_rules.specs.Sums.{sum_at, with_added}
 use Rattle.bike_ledger_rules.specs.Known.{Known, has_station, known_in, held_in}
-use Rattle.bike_ledger_rules.specs.Rentals.{names_test, ends_test, is_booked, fare_count, refund_sum, passes, rental_test, held_test, with_entry, with_line, AreSums}
+use Rattle.bike_ledger_rules.specs.Rentals.{names_test, ends_test, is_booked, fare_count, refund_sum, fares_held, refunds_held, passes, rental_test, held_test, with_entry, with_line, AreSums}
 use Rattle.bike_ledger_rules.proofs.Folds.{entries_read}
 use Rattle.bike_ledger_rules.proofs.Rows.{failing_same}
-use Rattle.bike_ledger_rules.proofs.SumLemmas.{with_all, fold_read, fold_held, sum_of_entries, count_of_items}
+use Rattle.bike_ledger_rules.proofs.SumLemmas.{with_all, fold_read, sum_of_entries, count_of_items, place_number}
 
 -- ---- the sums of all entries
-
-abbrev owner : Entry → ℕ
-owner e = e.rental
 
 abbrev fare_in : Entry → ℤ
 fare_in e = cond (is_fare e.kind) (pos 1) (pos 0)
@@ -53,9 +52,9 @@ turned false false = refl
 
 -- so many fares, counted by the owner first
 fares_counted : (number : ℕ) (es : List Entry)
-    → pos (count (λ e. (owner e == number) && is_fare e.kind) es) ≡ pos (length (fares_of number es))
+    → pos (count (λ e. (e.rental == number) && is_fare e.kind) es) ≡ pos (length (fares_of number es))
 fares_counted number es =
-    (λ i. pos (count (λ (e : Entry). turned (owner e == number) (is_fare e.kind) i) es))
+    (λ i. pos (count (λ (e : Entry). turned (e.rental == number) (is_fare e.kind) i) es))
     ∙ ap pos (sym (length-map (filter (is_fare_of number) es) (λ e. e.amount)))
 
 module _ (t : Tables) where
@@ -63,33 +62,59 @@ module _ (t : Tables) where
   es = filter_map entry_read t.entries
 
   -- from nothing on
-  module _ (next : ℕ) (next_is : next ≡ length t.rentals + 1)
-      (none : RentalEntries) (fares : none.fares ≡ replicate next (pos 0)) (refunds : none.refunds ≡ replicate next (pos 0)) where
-    all : fold with_line none t.entries ≡ fold with_entry none es
+  module _ (next : ℕ) (next_is : next ≡ length t.rentals + 1) (none : RentalEntries) (archived_is : none.archived ≡ (operator_of t).rentals.archived)
+      (fares : none.fares ≡ replicate next (pos 0)) (refunds : none.refunds ≡ replicate next (pos 0)) where
+    abbrev all_of : RentalEntries
+    all_of = fold with_entry none es
+
+    -- the place of its rental
+    abbrev owner : Entry → ℕ
+    owner e = e.rental - none.archived
+
+    all : fold with_line none t.entries ≡ all_of
     all = fold_read entry_read with_entry t.entries none
 
-    all_fares : (fold with_entry none es).fares ≡ with_all owner fare_in (replicate next (pos 0)) es
-    all_fares =
-        fold_held (λ (a : RentalEntries). a.fares) with_entry (λ sums e. with_added sums (owner e) (fare_in e)) (λ a e. refl) es none
-        ∙ ap (λ (sums : List ℤ). with_all owner fare_in sums es) fares
+    all_archived : (xs : List Entry) (a : RentalEntries) → (fold with_entry a xs).archived ≡ a.archived
+    all_archived [] a = refl
+    all_archived (x ∷ xs) a = all_archived xs (with_entry a x)
 
-    all_refunds : (fold with_entry none es).refunds ≡ with_all owner refund_in (replicate next (pos 0)) es
-    all_refunds =
-        fold_held (λ (a : RentalEntries). a.refunds) with_entry (λ sums e. with_added sums (owner e) (refund_in e)) (λ a e. refl) es none
-        ∙ ap (λ (sums : List ℤ). with_all owner refund_in sums es) refunds
+    -- with the places behind those that were archived, which stay so many
+    all_fares : (xs : List Entry) (a : RentalEntries) → a.archived ≡ none.archived → (fold with_entry a xs).fares ≡ with_all owner fare_in a.fares xs
+    all_fares [] a is = refl
+    all_fares (x ∷ xs) a is =
+        all_fares xs (with_entry a x) is ∙ ap (λ (n : ℕ). with_all owner fare_in (with_added a.fares (x.rental - n) (fare_in x)) xs) is
+
+    all_refunds : (xs : List Entry) (a : RentalEntries) → a.archived ≡ none.archived → (fold with_entry a xs).refunds ≡ with_all owner refund_in a.refunds xs
+    all_refunds [] a is = refl
+    all_refunds (x ∷ xs) a is =
+        all_refunds xs (with_entry a x) is ∙ ap (λ (n : ℕ). with_all owner refund_in (with_added a.refunds (x.rental - n) (refund_in x)) xs) is
+
+    -- an entry is of the place just where it is of the number there
+    at_place : (below : ℕ) (e : Entry) → (owner e == suc below) ≡ (e.rental == none.archived + suc below)
+    at_place below e = place_number e.rental none.archived below
 
     -- THE SUMS of all entries are those of the ledger
     pub sums_are : AreSums t (fold with_line none t.entries)
     sums_are = record {
-      fares = λ number low.
-          ap (λ (a : RentalEntries). sum_at a.fares number) all ∙ ap (λ (sums : List ℤ). sum_at sums number) all_fares
-          ∙ count_of_items owner (λ e. is_fare e.kind) next es number (omega (arith, low, next_is)) ∙ fares_counted number es
-          ∙ ap (λ (xs : List Entry). pos (length (fares_of number xs))) (sym (entries_read t.entries));
-      refunds = λ number low.
-          ap (λ (a : RentalEntries). sum_at a.refunds number) all ∙ ap (λ (sums : List ℤ). sum_at sums number) all_refunds
-          ∙ sum_of_entries owner refund_in next es number (omega (arith, low, next_is))
-          ∙ ap (refunded_of number) (sym (entries_read t.entries));
-    }
+      archived_is = ap (λ (a : RentalEntries). a.archived) all ∙ all_archived es none ∙ archived_is;
+      fares = λ below low.
+          let number = none.archived + suc below in
+          ap (λ (a : RentalEntries). sum_at a.fares (suc below)) all ∙ ap (λ (sums : List ℤ). sum_at sums (suc below)) (all_fares es none refl)
+          ∙ ap (λ (sums : List ℤ). sum_at (with_all owner fare_in sums es) (suc below)) fares
+          ∙ count_of_items owner (λ e. is_fare e.kind) next es (suc below) (omega (arith, low, next_is))
+          ∙ (λ i. pos (count (λ (e : Entry). at_place below e i && is_fare e.kind) es)) ∙ fares_counted number es
+          ∙ ap (λ (xs : List Entry). pos (length (fares_of number xs))) (sym (entries_read t.entries))
+          ∙ ap (λ (n : ℕ). fare_count t (n + suc below)) (sym held_archived);
+      refunds = λ below low.
+          let number = none.archived + suc below in
+          ap (λ (a : RentalEntries). sum_at a.refunds (suc below)) all ∙ ap (λ (sums : List ℤ). sum_at sums (suc below)) (all_refunds es none refl)
+          ∙ ap (λ (sums : List ℤ). sum_at (with_all owner refund_in sums es) (suc below)) refunds
+          ∙ sum_of_entries owner refund_in next es (suc below) (omega (arith, low, next_is))
+          ∙ (λ i. total (λ (e : Entry). cond (at_place below e i) (refund_in e) (pos 0)) es)
+          ∙ ap (refunded_of number) (sym (entries_read t.entries)) ∙ ap (λ (n : ℕ). refund_sum t (n + suc below)) (sym held_archived);
+    } where
+      held_archived : (fold with_line none t.entries).archived ≡ none.archived
+      held_archived = ap (λ (a : RentalEntries). a.archived) all ∙ all_archived es none
 
   -- ---- what is asked by them
 
@@ -100,22 +125,35 @@ module _ (t : Tables) where
     abbrev rule : ℕ → Row → Bool
     rule = rental_test now t
 
+    -- behind those that were archived stand so many and this one
     same_test : (n : ℕ) (r : Row) → n < length t.rentals → held n r ≡ rule n r
     same_test n r low =
-        ap (λ (k : Known). passes k now (sum_at a.fares) (sum_at a.refunds) n (rental_read r)) known ∙ go (rental_read r)
+        ap (λ (k : Known). passes k now (fares_held a) (refunds_held a) (a.archived + n) (rental_read r)) known ∙ go (rental_read r)
+        ∙ ap (λ (m : ℕ). passes (known_in t) now (fare_count t) (refund_sum t) (m + n) (rental_read r)) are.archived_is
       where
-        by : (e : ℕ × Rental × ℤ) (next : Bool) → (next ≡ true → e.0 ≤ length t.rentals)
-            → (next && is_booked (sum_at a.fares e.0) (sum_at a.refunds e.0) e.1 e.2)
+        place : (e : ℕ × Rental × ℤ) → e.0 ≡ a.archived + n + 1 → e.0 - a.archived ≡ suc n
+        place e is = omega (arith, is)
+
+        number : (e : ℕ × Rental × ℤ) → e.0 ≡ a.archived + n + 1 → a.archived + suc n ≡ e.0
+        number e is = omega (arith, is)
+
+        by : (e : ℕ × Rental × ℤ) (next : Bool) → (next ≡ true → e.0 ≡ a.archived + n + 1)
+            → (next && is_booked (fares_held a e.0) (refunds_held a e.0) e.1 e.2)
             ≡ (next && is_booked (fare_count t e.0) (refund_sum t e.0) e.1 e.2)
         by e false within = refl
-        by e true within = ap₂ (λ (x y : ℤ). is_booked x y e.1 e.2) (are.fares e.0 (within refl)) (are.refunds e.0 (within refl))
+        by e true within =
+            let at = place e (within refl) in
+            let own = number e (within refl) in
+            ap₂ (λ (x y : ℤ). is_booked x y e.1 e.2)
+            (ap (sum_at a.fares) at ∙ are.fares n (omega (arith, low)) ∙ ap (fare_count t) own)
+            (ap (sum_at a.refunds) at ∙ are.refunds n (omega (arith, low)) ∙ ap (refund_sum t) own)
 
-        go : (o : Option (ℕ × Rental × ℤ)) → passes (known_in t) now (sum_at a.fares) (sum_at a.refunds) n o
-            ≡ passes (known_in t) now (fare_count t) (refund_sum t) n o
+        go : (o : Option (ℕ × Rental × ℤ)) → passes (known_in t) now (fares_held a) (refunds_held a) (a.archived + n) o
+            ≡ passes (known_in t) now (fare_count t) (refund_sum t) (a.archived + n) o
         go None = refl
         go (Some e) =
             ap (λ (books : Bool). names_test (known_in t) e && (ends_test (has_station t) now e && books))
-            (by e (e.0 == n + 1) (λ next. let is = (Decides-eqb e.0 (n + 1)).0 next in omega (arith, is, low)))
+            (by e (e.0 == a.archived + n + 1) (λ next. (Decides-eqb e.0 (a.archived + n + 1)).0 next))
 
     below : (key r : Row) → row_under t Rentals key ≡ Some r → rows_below t Rentals key < length t.rentals
     below key r is =

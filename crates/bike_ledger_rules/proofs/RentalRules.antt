@@ -4,7 +4,6 @@ use Rattle.std.specs.Prelude.{option_map, is_some, is_none, nat_le, int_le}
 use Rattle.std.specs.Bool.{Decides}
 use Rattle.std.specs.FinMap as fin
 use Rattle.std.specs.Ordering.{int_eq}
-use Rattle.std.proofs.lemmas.Bool.{le-leb, leb-true}
 use Rattle.std.proofs.lemmas.Bool.Decides.{Decides-eqb, Decides-int_eq, Decides-and, Decides-like}
 use Rattle.std.proofs.lemmas.Int.{ints}
 use Rattle.std.proofs.lemmas.Option.{same_Some}
@@ -22,6 +21,7 @@ use Rattle.bike_readings.specs.ReadOff.{operator_of}
 use Rattle.bike_readings.specs.Rules.{AreInOrder}
 use Rattle.bike_ledger_rules.specs.Known.{has_rider, rental_at, bike_rental, has_plan, has_station, known_in}
 use Rattle.bike_ledger_rules.specs.Rentals.{is_in, is_out, names_test, is_stop, closes, ends_test, books_test, fare_count, refund_sum}
+use Rattle.bike_ledger_rules.proofs.Tests.{at_most, at_most_z, is_true}
 use Rattle.bike_ledger_rules.proofs.Earlier.{AreGood, rider_under, bike_under, plan_under, station_under}
 
 -- ---- what is asked
@@ -50,19 +50,10 @@ pub record EndsGood (s : Operator) (e : ℕ × Rental × ℤ) : Type 0 where
 pub record BooksGood (s : Operator) (before : ℕ) (e : ℕ × Rental × ℤ) : Type 0 where
   pub number_is : e.0 ≡ before + 1
   pub booked : HasFare s e.0 e.1.closing
-  pub refunded_is : e.2 ≡ refunded_of e.0 s.entries
-  pub refunded : refunded_of e.0 s.entries ≤ℤ most_refunded e.1.closing
+  pub refunded_is : e.2 ≡ refunded_of e.0 s.entries.items
+  pub refunded : refunded_of e.0 s.entries.items ≤ℤ most_refunded e.1.closing
 
 -- ---- small tests
-
-at_most : (a b : ℕ) → Decides (nat_le a b) (a ≤ b)
-at_most a b = (λ e. leb-true a b e, λ h. le-leb a b h)
-
-at_most_z : (a b : ℤ) → Decides (int_le a b) (a ≤ℤ b)
-at_most_z a b = (λ e. grind (arith, ints, e), λ h. grind (arith, ints, h))
-
-is_true : (b c : Bool) → b ≡ c → Decides b (c ≡ true)
-is_true b c e = (λ h. sym e ∙ h, λ h. e ∙ h)
 
 in_rental : (number : ℕ) (p : Place) → Decides (is_in number (rental_at p)) (p ≡ place.Rental number)
 in_rental number (place.Dock station dock) = (λ e. absurd cc, λ e. absurd cc)

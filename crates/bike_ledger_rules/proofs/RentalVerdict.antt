@@ -1,5 +1,5 @@
 -- What a pass over rentals finds is the verdict on the table.
-use Rattle.std.proofs.Common.{◌≡◌, ℕ, ℤ, ◌&&◌, Bool, Option, Some, None, refl, subst, arith}
+use Rattle.std.proofs.Common.{◌≡◌, ℕ, ℤ, ◌+◌, ◌&&◌, Bool, Option, Some, None, refl, subst, arith}
 use Rattle.std.specs.Prelude.{option_map}
 use Rattle.std.specs.Bool.{Decides}
 use Rattle.std.specs.Option.{IsSomeAnd}
@@ -49,7 +49,7 @@ closing_ended s e (Some c) good = (good.after, good.by_now, good.stop)
 
 module _ (s : Operator) (n : ℕ) (e : ℕ × Rental × ℤ) where
   abbrev AllGood : Type 0
-  AllGood = NamesGood s e × (EndsGood s e × BooksGood s n e)
+  AllGood = NamesGood s e × (EndsGood s e × BooksGood s (s.rentals.archived + n) e)
 
   good_of : IsOpenOrStored e.1.closing → AllGood → IsGoodRental s n e
   good_of stored all =
@@ -91,15 +91,16 @@ module _ (t : Tables) (up : AreInOrder t) (are : AreNamed t up) where
   rental_decides : (n : ℕ) (r : Row) → Decides (test n r) (IsSomeAnd (rental_read r) (IsGoodRental s n))
   rental_decides n r = go (rental_read r) refl where
     go : (o : Option (ℕ × Rental × ℤ)) → rental_read r ≡ o
-        → Decides (passes (known_in t) s.now (fare_count t) (refund_sum t) n o) (IsSomeAnd o (IsGoodRental s n))
+        → Decides (passes (known_in t) s.now (fare_count t) (refund_sum t) (s.rentals.archived + n) o) (IsSomeAnd o (IsGoodRental s n))
     go None is = (λ e. absurd cc, λ h. absurd h)
     go (Some e) is =
         let names = names_test (known_in t) e in
         let ends = ends_test (has_station t) s.now e in
-        let books = books_test (fare_count t) (refund_sum t) n e in
+        let before = s.rentals.archived + n in
+        let books = books_test (fare_count t) (refund_sum t) before e in
         Decides-like (names && (ends && books)) (good_of s n e (rental_reading.sound r e is).1.closing) (all_of s n e)
         (Decides-and names (ends && books) (names_decide t up are e)
-        (Decides-and ends books (ends_decide t up are e) (books_decide t n e)))
+        (Decides-and ends books (ends_decide t up are e) (books_decide t before e)))
 
   rentals_verdict : (v : Option Row) → IsFirstFailing t Rentals (Demands t Rentals test) v → IsTableVerdict t Rentals v
   rentals_verdict = verdict_of t Rentals (λ key. tt) (Demands t Rentals test) (record {

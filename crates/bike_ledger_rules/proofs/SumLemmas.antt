@@ -1,5 +1,6 @@
 -- Sums by number after amounts were added, each to the number of its owner.
-use Rattle.std.proofs.Common.{◌≡◌, ℕ, ℤ, pos, ◌+ℤ◌, ◌+◌, ◌<◌, ◌==◌, List, [], ◌∷◌, length, Bool, true, false, cond, ◌&&◌, Option, Some, None, refl, sym, ap, ◌∙◌, arith, get_or, set, replicate}
+use Rattle.std.proofs.Common.{◌≡◌, ℕ, suc, ℤ, pos, ◌+ℤ◌, ◌+◌, ◌-◌, ◌<◌, ◌==◌, List, [], ◌∷◌, length, Bool}
+use Rattle.std.proofs.Common.{true, false, cond, ◌&&◌, Option, Some, None, refl, sym, ap, ◌∙◌, arith, get_or, set, replicate}
 use Rattle.std.specs.List.{fold, filter_map, cons_option}
 use Rattle.std.proofs.lemmas.Bool.Decides.{Decides-eqb, not_from_Decides}
 use Rattle.std.proofs.lemmas.Int.{ints}
@@ -9,6 +10,19 @@ use Rattle.bike_ledger.specs.Ledger.{total}
 use Rattle.bike_operator.specs.Counts.{count}
 use Rattle.bike_laws.proofs.SingleSteps.CountLemmas.{count-cons, one}
 use Rattle.bike_ledger_rules.specs.Sums.{sum_at, with_added, with_read}
+
+not_true : (b : Bool) → (b ≡ true → ⊥) → b ≡ false
+not_true true never = absurd (never refl)
+not_true false never = refl
+
+-- a number stands at a place behind so many just where it is so much greater
+pub place_number : (n archived below : ℕ) → (n - archived == suc below) ≡ (n == archived + suc below)
+place_number n archived below = go (n == archived + suc below) refl where
+  go : (b : Bool) → (n == archived + suc below) ≡ b → (n - archived == suc below) ≡ b
+  go true e = let is = (Decides-eqb n (archived + suc below)).0 e in (Decides-eqb (n - archived) (suc below)).1 (omega (arith, is))
+  go false e =
+      let other = not_from_Decides (n == archived + suc below) (Decides-eqb n (archived + suc below)) e in
+      not_true (n - archived == suc below) (λ t. other (let is = (Decides-eqb (n - archived) (suc below)).0 t in omega (arith, is)))
 
 -- there are as many sums as before
 pub length-with_added : (sums : List ℤ) (number : ℕ) (amount : ℤ) → length (with_added sums number amount) ≡ length sums

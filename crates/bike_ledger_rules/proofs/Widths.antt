@@ -10,7 +10,9 @@ use Rattle.bike_sql.proofs.FrameLemmas.{rows_of_is}
 use Rattle.bike_sql.proofs.RowListLemmas.{map_has}
 use Rattle.bike_sql.proofs.OrderLemmas.{order_has}
 use Rattle.bike_sql.proofs.TreeLemmas.{by_key_total}
-use Rattle.bike_book.specs.Tables.{Stations, Bikes, Rentals, Entries, History}
+use Rattle.bike_book.specs.Tables.{Plans, Stations, Bikes, Riders, Rentals, Entries, History}
+use Rattle.bike_book.specs.declared.columns.plans.TheConstants as plans
+use Rattle.bike_book.specs.declared.columns.riders.TheConstants as riders
 use Rattle.bike_book.specs.declared.columns.stations.TheConstants as stations
 use Rattle.bike_book.specs.declared.columns.bikes.TheConstants as bikes
 use Rattle.bike_book.specs.declared.columns.rentals.TheConstants as rentals
@@ -37,6 +39,12 @@ module _ (db : Database) (has : HasTables db) where
 
   pub history_wide : AreWide history.COLUMNS (tables_of db).history
   history_wide = wide history.COLUMNS 1 (layout_of History) db (has History) (λ r. refl)
+
+  pub plans_wide : AreWide plans.COLUMNS (tables_of db).plans
+  plans_wide = wide plans.COLUMNS 1 (layout_of Plans) db (has Plans) (λ r. refl)
+
+  pub riders_wide : AreWide riders.COLUMNS (tables_of db).riders
+  riders_wide = wide riders.COLUMNS 1 (layout_of Riders) db (has Riders) (λ r. refl)
 
   pub stations_wide : AreWide stations.COLUMNS (tables_of db).stations
   stations_wide = wide stations.COLUMNS 1 (layout_of Stations) db (has Stations) (λ r. refl)

@@ -15,7 +15,8 @@ abbrev pub is_later : Option ℕ → ℕ → Bool
 is_later None moment = true
 is_later (Some last) moment = nat_le last moment
 
--- of so many requests before it it is the next one, it is of the past, and it isn't before the last of them
+-- of so many requests before it, archived ones included, it is the next one, and it is neither after now nor before the
+-- last of them
 abbrev pub is_next_request : ℕ → ℕ → Option ℕ → ℕ × AcceptedRequest → Bool
 is_next_request now before last e = (e.0 == before + 1) && (nat_le e.1.moment now && is_later last e.1.moment)
 
@@ -43,9 +44,10 @@ first_astray now before last (row ∷ rows) =
     then first_astray now (before + 1) (moment_of (request_read row)) rows
     else Some (take 1 row)
 
--- THE RULE of a row of the history, before which so many rows stand
-abbrev pub request_test : ℕ → List Row → ℕ → Row → Bool
-request_test now rows before row = request_passes now before (last_moment (take before rows)) (request_read row)
+-- THE RULE of a row of the history, before which so many rows stand, behind so many requests that were archived
+abbrev pub request_test : ℕ → ℕ → List Row → ℕ → Row → Bool
+request_test now archived rows before row =
+    request_passes now (archived + before) (last_moment (take before rows)) (request_read row)
 
 -- ---- callers and keys, of lines in their order
 

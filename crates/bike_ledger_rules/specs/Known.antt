@@ -8,6 +8,7 @@ use Rattle.bike_operator.specs.declared.records.Place.{Place}
 use Rattle.bike_operator.specs.declared.records.Place.TheVariants as place
 use Rattle.bike_book.specs.Tables.{Tables, Riders, Bikes, Plans, Stations}
 use Rattle.bike_book.specs.Rows.{number_value}
+use Rattle.bike_book.specs.declared.columns.riders.TheConstants as riders
 use Rattle.bike_book.specs.declared.columns.stations.TheConstants as stations
 use Rattle.bike_book.specs.declared.columns.bikes.TheConstants as bikes
 use Rattle.bike_readings.specs.Readings.{rider_read, bike_read, plan_read, station_read}
@@ -22,7 +23,7 @@ use Rattle.bike_ledger_rules.specs.Sums.{with_read}
 
 -- ---- values by number: a list has one, or none, for each number below its length
 
--- the value of a number; past the end there is none
+-- the value of a number; beyond the end there is none
 abbrev pub value_at : {V : Type 0} → List (Option V) → ℕ → Option V
 value_at values number = get_or values number None
 
@@ -44,8 +45,13 @@ has_rider t number = is_some (option_and_then rider_read (row_under t Riders (nu
 abbrev pub is_listed : List (Option (Unit {0})) → ℕ → Bool
 is_listed numbers number = is_some (value_at numbers number)
 
+-- of a line with the rider in front
 abbrev pub with_rider : RiderSet → Row → RiderSet
-with_rider a row = record a { numbers = with_read (λ numbers e. with_value numbers e.0 tt) a.numbers (rider_read row) }
+with_rider a line =
+    record a {
+      numbers = with_read (λ numbers e. with_value numbers e.0 tt) a.numbers
+          (rider_read (part 0 riders.COLUMNS line));
+    }
 
 -- ---- bicycles
 

@@ -5,3 +5,4 @@ pub mod Riders
 pub mod Rentals
 pub mod Entries
 pub mod History
+pub mod Books

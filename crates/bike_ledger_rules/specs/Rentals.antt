@@ -1,5 +1,5 @@
 -- What is asked of a rental: of what it names, of how it ended, and of what its entries come to.
-use Rattle.std.specs.Prelude.{◌≡◌, ◌≤◌, ℕ, ℤ, pos, ◌+◌, ◌==◌, ◌&&◌, ◌||◌, nat_le, int_le, Bool, true, false}
+use Rattle.std.specs.Prelude.{◌≡◌, ◌≤◌, ℕ, ℤ, pos, suc, ◌+◌, ◌-◌, ◌==◌, ◌&&◌, ◌||◌, nat_le, int_le, Bool, true, false}
 use Rattle.std.specs.Prelude.{if◌then◌else◌, List, length, Option, Some, None}
 use Rattle.std.specs.Ordering.{int_eq}
 use Rattle.sqlite_value.specs.Order.{Row}
@@ -57,16 +57,17 @@ abbrev pub is_booked : ℤ → ℤ → Rental → ℤ → Bool
 is_booked fares refunded r stored =
     (is_open r || int_le (pos 1) fares) && (int_eq stored refunded && int_le refunded (most_refunded r.closing))
 
--- of so many rentals before it it is the next one, and it is booked with the fares and refunds of its number
+-- of so many rentals before it, archived ones included, it is the next one, and it is booked with the fares and refunds
+-- of its number
 abbrev pub books_test : (ℕ → ℤ) → (ℕ → ℤ) → ℕ → ℕ × Rental × ℤ → Bool
 books_test fares refunds before e = (e.0 == before + 1) && is_booked (fares e.0) (refunds e.0) e.1 e.2
 
 -- how many fares a rental has in the ledger, and what was refunded of it
 abbrev pub fare_count : Tables → ℕ → ℤ
-fare_count t number = pos (length (fares_of number (operator_of t).entries))
+fare_count t number = pos (length (fares_of number (operator_of t).entries.items))
 
 abbrev pub refund_sum : Tables → ℕ → ℤ
-refund_sum t number = refunded_of number (operator_of t).entries
+refund_sum t number = refunded_of number (operator_of t).entries.items
 
 -- ---- all of it
 
@@ -77,20 +78,28 @@ passes known now fares refunds before (Some e) =
 
 -- THE RULE of a row of rentals, before which so many rows stand
 abbrev pub rental_test : ℕ → Tables → ℕ → Row → Bool
-rental_test now t before row = passes (known_in t) now (fare_count t) (refund_sum t) before (rental_read row)
+rental_test now t before row =
+    passes (known_in t) now (fare_count t) (refund_sum t) ((operator_of t).rentals.archived + before) (rental_read row)
+
+-- what is held in memory of a rental's fares and refunds, at its place behind those that were archived
+abbrev pub fares_held : RentalEntries → ℕ → ℤ
+fares_held a number = sum_at a.fares (number - a.archived)
+
+abbrev pub refunds_held : RentalEntries → ℕ → ℤ
+refunds_held a number = sum_at a.refunds (number - a.archived)
 
 -- the same by what is held in memory
 abbrev pub held_test : ℕ → Names → RentalEntries → ℕ → Row → Bool
 held_test now names a before row =
-    passes (held_in names) now (sum_at a.fares) (sum_at a.refunds) before (rental_read row)
+    passes (held_in names) now (fares_held a) (refunds_held a) (a.archived + before) (rental_read row)
 
 -- ---- the sums of entries
 
--- one more entry, in the sums of its rental
+-- one more entry, in the sums of its rental; what was archived stands in place 0
 abbrev pub with_entry : RentalEntries → Entry → RentalEntries
-with_entry a e = record {
-  fares = with_fare a.fares e;
-  refunds = with_added a.refunds e.rental (given_back e.kind e.amount);
+with_entry a e = record a {
+  fares = with_fare a.archived a.fares e;
+  refunds = with_added a.refunds (e.rental - a.archived) (given_back e.kind e.amount);
 }
 
 abbrev pub with_line : RentalEntries → Row → RentalEntries
@@ -98,5 +107,8 @@ with_line a line = with_read with_entry a (entry_read line)
 
 -- the sums are those of the ledger, for each number that a good rental has
 pub record AreSums (t : Tables) (a : RentalEntries) : Type 0 where
-  pub fares : (number : ℕ) → number ≤ length t.rentals → sum_at a.fares number ≡ fare_count t number
-  pub refunds : (number : ℕ) → number ≤ length t.rentals → sum_at a.refunds number ≡ refund_sum t number
+  pub archived_is : a.archived ≡ (operator_of t).rentals.archived
+  pub fares : (below : ℕ) → suc below ≤ length t.rentals
+      → sum_at a.fares (suc below) ≡ fare_count t (a.archived + suc below)
+  pub refunds : (below : ℕ) → suc below ≤ length t.rentals
+      → sum_at a.refunds (suc below) ≡ refund_sum t (a.archived + suc below)

@@ -1,11 +1,11 @@
 -- Sums by number: a list has one for each number below its length.
 use Rattle.std.specs.Prelude.{ℕ, ℤ, pos, ◌+ℤ◌, List, get_or, set, Option, Some, None}
 
--- the sum of a number, and 0 past the end
+-- the sum of a number, and 0 beyond the end
 abbrev pub sum_at : List ℤ → ℕ → ℤ
 sum_at sums number = get_or sums number (pos 0)
 
--- with an amount added to the sum of a number; past the end nothing changes
+-- with an amount added to the sum of a number; beyond the end nothing changes
 abbrev pub with_added : List ℤ → ℕ → ℤ → List ℤ
 with_added sums number amount = set sums number (sum_at sums number +ℤ amount)
 

@@ -14,14 +14,22 @@ ghost use Rattle.bike_ledger_rules.specs.History.{is_next_request, next_moment, 
 ghost use Rattle.bike_ledger_rules.specs.History.{has_same_key, number_again, least_again};
 
 use crate::columns::{number_at, number_key};
+use bike_book::RequestCount;
 use bike_fixed::Moment;
-use bike_judges::{BadKey, Judge, Query, find_now, judge_lines, least};
+use bike_judges::{BadKey, Judge, Query, find_archived, find_now, judge_lines, least};
 use bike_readings::{Part, StoredRequest, read_request};
 use bike_schema::StatementFault;
 use sqlite::types::ValueRef;
 use sqlite::{Alter, Connection, Row};
 use sqlite_value::order::compare;
 use std::alloc::Global;
+
+/// So many requests.
+fn count(requests: RequestCount) -> u64
+    ensures { result ≡ requests }
+{
+    requests.number() as u64
+}
 
 /// Finds the first row that isn't the next request after those before it.
 #[derive(Drop)]
@@ -31,23 +39,23 @@ struct RequestJudge {
     moment: Moment,
     /// The moment of the request before, if there was one.
     last: Option<Moment>,
-    /// How many requests there were so far.
+    /// How many requests there were so far, archived ones included.
     before: u64,
 }
 
 impl RequestJudge {
-    /// Whether it has the next number, is of the past, and isn't before the request before it.
+    /// Whether it has the next number, and is neither after the operator's moment nor before the request before it.
     fn is_next(&self, request: &StoredRequest) -> bool
         ensures { result ≡ is_next_request self.now.moment self.now.before self.now.last (request_of request.now) }
     {
         let number = request.number.number() as u64;
         let is_next = number.checked_sub(1) == Some(self.before);
-        let is_past = request.moment.seconds() <= self.moment.seconds();
+        let by_now = request.moment.seconds() <= self.moment.seconds();
         let is_later = match self.last {
             Some(last) => last.seconds() <= request.moment.seconds(),
             None => true,
         };
-        is_next && is_past && is_later
+        is_next && by_now && is_later
     }
 
     /// The moment of a request, where it is the next one.
@@ -92,7 +100,7 @@ impl Judge for RequestJudge {
     }
 }
 
-/// The value in a column of a line, and NULL past its end.
+/// The value in a column of a line, and NULL beyond its end.
 fn value_in(line: &Row, at: usize) -> ValueRef<'_>
     ensures { owned result ≡ column line.now at }
 {
@@ -155,11 +163,12 @@ pub fn judge_history<S: Alter>(
     ensures { ReadsWhere S.Store IsOurs conn.old conn.new result (JudgesTable History) }
 {
     let moment = find_now(conn)?;
+    let archived = find_archived(conn)?;
     let requests = RequestJudge {
         alloc,
         moment,
         last: None,
-        before: 0,
+        before: count(archived.requests),
     };
     let by_order = judge_lines(conn, Query::History, requests)?;
     let keys = KeyJudge {

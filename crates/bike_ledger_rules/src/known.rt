@@ -11,7 +11,8 @@ ghost use Rattle.bike_ledger_rules.specs.Known.{held_in};
 
 use crate::idents::Idents;
 use crate::numbers::ByNumber;
-use bike_book::columns::{bikes, stations};
+use crate::riders::RIDER_AT;
+use bike_book::columns::{bikes, riders, stations};
 use bike_judges::{LineFold, Query, fold_lines};
 use bike_readings::{Part, StoredPlace, read_bike, read_plan, read_rider, read_station};
 use bike_schema::StatementFault;
@@ -34,7 +35,7 @@ impl LineFold for RiderSet {
     ghost after = { with_rider };
 
     fn add(&mut self, line: &Row) -> Result<(), StatementFault> {
-        if let Some(row) = read_rider(Part::whole(line)) {
+        if let Some(row) = read_rider(Part::of(line, RIDER_AT, riders::COLUMNS)) {
             self.numbers.set(row.rider.get(), ())?;
         }
         Ok(())
@@ -112,7 +113,8 @@ pub(crate) struct Names {
     pub(crate) stations: Idents,
 }
 
-/// The numbers of all riders. `NoMemory` where memory is refused, `StoreFailed` where the database fails.
+/// The numbers of all riders. Of the lines with their plans it takes the riders. `NoMemory` where memory is refused,
+/// `StoreFailed` where the database fails.
 pub(crate) fn read_riders<S: Alter>(
     alloc: Global,
     conn: &mut Connection<S>,

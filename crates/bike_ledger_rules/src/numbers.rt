@@ -9,7 +9,7 @@ use std::marker::Model;
 /// A value, or none, of each number.
 #[derive(Debug, Drop)]
 pub(crate) struct ByNumber<V: Copy> {
-    /// Those of the numbers below its length; past its end there are none.
+    /// Those of the numbers below its length; beyond its end there are none.
     values: Vec<Option<V>>,
 }
 

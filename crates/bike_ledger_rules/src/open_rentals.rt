@@ -12,10 +12,10 @@ use bike_readings::{Part, read_rental};
 use bike_schema::StatementFault;
 use sqlite::{Alter, Connection, Row};
 
-/// The rentals so far, where they are numbered from 1 with no gap.
+/// The rentals so far, whose places behind those that were archived are 1, 2, .. with no gap.
 #[derive(Debug, Drop)]
 pub(crate) struct RentalCount {
-    /// The number of the next one.
+    /// The place of the next one.
     pub(crate) next: usize,
     /// How many are open.
     pub(crate) riding: u64,
@@ -40,7 +40,8 @@ impl LineFold for RentalCount {
     }
 }
 
-/// How many rentals there are. `NoMemory` where memory is refused, `StoreFailed` where the database fails.
+/// How many rentals there are, behind those that were archived. `NoMemory` where memory is refused, `StoreFailed` where
+/// the database fails.
 pub(crate) fn count_rentals<S: Alter>(
     conn: &mut Connection<S>,
 ) -> Result<RentalCount, StatementFault>

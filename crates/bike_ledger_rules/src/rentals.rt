@@ -73,12 +73,12 @@ impl RentalTest {
     fn ends_well(&self, rental: &StoredRental<'_>) -> bool
         ensures { result ≡ ends_test (set.contains self.now.names.stations) self.now.moment (rental_of rental.now) }
     {
-        let is_past = rental.start.seconds() <= self.moment.seconds();
+        let by_now = rental.start.seconds() <= self.moment.seconds();
         let is_closed_well = match &rental.closing {
             Some(closing) => self.closes(rental.start, closing),
             None => true,
         };
-        is_past && is_closed_well
+        by_now && is_closed_well
     }
 }
 

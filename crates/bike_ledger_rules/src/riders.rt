@@ -1,38 +1,49 @@
-//! Riders with the sums of their entries and the counts of their open rentals.
+//! Riders, each with the rider's own plan, with the sums of their entries and the counts of their open rentals.
 
 ghost use Rattle.std.specs.Prelude.{◌≡◌, fold};
 ghost use Rattle.bike_book.specs.Tables.{Riders};
 ghost use Rattle.bike_sql.specs.Calls.{ReadsWhere};
 ghost use Rattle.bike_schema.specs.Tables.{IsOurs, tables_of};
 ghost use Rattle.bike_readings.specs.ReadOff.{operator_of};
+ghost use Rattle.bike_readings.specs.Views.{rider_of};
 ghost use Rattle.bike_judges.specs.Verdicts.{JudgesTable};
 ghost use Rattle.bike_ledger_rules.specs.Lines.{FindsFailing, first_column};
 ghost use Rattle.bike_ledger_rules.specs.Riders.{with_number, with_entry, with_rental, with_credit, with_ride};
-ghost use Rattle.bike_ledger_rules.specs.Riders.{rider_test, ArePast};
+ghost use Rattle.bike_ledger_rules.specs.Riders.{rider_line, has_own_plan, is_balanced, account_holds};
+ghost use Rattle.bike_ledger_rules.specs.Riders.{rider_test, AreBelow};
 
 use crate::columns::number_key;
 use crate::sums::NumberedSums;
-use bike_judges::{BadKey, LineFold, LineJudge, LineTest, Query, fold_lines, judge_lines};
+use bike_book::columns::{plans, riders};
+use bike_judges::{
+    BadKey, LineFold, LineJudge, LineTest, Query, find_archived, fold_lines, is_sum_of, judge_lines,
+};
 use bike_ledger::EntryKind;
 use bike_operator::MOST_RIDERS;
-use bike_readings::{Part, read_entry, read_rental, read_rider};
+use bike_readings::{Part, StoredRider, read_entry, read_plan, read_rental, read_rider};
 use bike_schema::StatementFault;
 use sqlite::{Alter, Connection, Row};
 use std::alloc::Global;
+
+/// Where the row of a rider stands in its line.
+pub(crate) const RIDER_AT: usize = 0;
+
+/// Where that of the rider's own plan stands.
+const PLAN_AT: usize = RIDER_AT + riders::COLUMNS;
 
 /// How far the numbers of riders go.
 #[derive(Debug, Drop)]
 struct RiderNumbers {
     /// One more than the greatest so far.
-    past: usize,
+    end: usize,
 }
 
 impl LineFold for RiderNumbers {
     ghost after = { with_number };
 
     fn add(&mut self, line: &Row) -> Result<(), StatementFault> {
-        if let Some(row) = read_rider(Part::whole(line)) {
-            self.past = self.past.max(row.rider.get() as usize + 1);
+        if let Some(row) = read_rider(Part::of(line, RIDER_AT, riders::COLUMNS)) {
+            self.end = self.end.max(row.rider.get() as usize + 1);
         }
         Ok(())
     }
@@ -84,30 +95,54 @@ impl LineFold for OpenRides {
     }
 }
 
+/// Whether the rider's own plan is in the line, where the rider has one.
+fn has_own_plan(rider: &StoredRider<'_>, line: &Row) -> bool
+    ensures { result ≡ has_own_plan (rider_of rider.now).1.plan line.now }
+{
+    rider.plan.is_none() || read_plan(Part::of(line, PLAN_AT, plans::COLUMNS)).is_some()
+}
+
 /// What a rider's row is tested with.
 #[derive(Debug, Drop)]
 struct RiderTest {
+    /// How many entries were archived.
+    archived: u32,
     /// What the entries of each rider come to, in hundredths.
     balances: NumberedSums,
     /// How many rentals of each rider are open.
     rides: NumberedSums,
 }
 
+/// Whether what the rider has of so many archived entries can be, and with this sum of the others is the stored
+/// balance.
+fn is_balanced(rider: &StoredRider<'_>, archived: u32, sum: i64) -> bool
+    ensures { result ≡ is_balanced archived sum (rider_of rider.now).1 (rider_of rider.now).2 }
+{
+    let balance = rider.before.hundredths().checked_add(sum);
+    is_sum_of(archived, rider.before) && balance == Some(rider.balance.hundredths())
+}
+
+impl RiderTest {
+    /// Whether the stored balance and so many open rentals are the rider's.
+    fn holds(&self, rider: &StoredRider<'_>) -> bool
+        ensures { result ≡ account_holds self.now.archived self.now.balances self.now.rides (rider_of rider.now) }
+    {
+        let number = rider.rider.get() as usize;
+        is_balanced(rider, self.archived, self.balances.at(number)) && self.rides.at(number) <= 1
+    }
+}
+
 impl LineTest for RiderTest {
-    ghost test = { λ this. rider_test this.balances this.rides };
+    ghost test = { λ this. rider_test this.archived this.balances this.rides };
 
     ghost key = { λ this. first_column };
 
     fn is_good(&self, before: u64, line: &Row) -> Result<bool, StatementFault> {
-        let Some(row) = read_rider(Part::whole(line)) else {
+        let Some(row) = read_rider(Part::of(line, RIDER_AT, riders::COLUMNS)) else {
             return Ok(false);
         };
-        let rider = row.rider.get() as usize;
-        Ok(
-            before < u64::from(MOST_RIDERS)
-                && row.balance.hundredths() == self.balances.at(rider)
-                && self.rides.at(rider) <= 1,
-        )
+        let has_room = before < u64::from(MOST_RIDERS);
+        Ok(has_room && has_own_plan(&row, line) && self.holds(&row))
     }
 
     fn bad_key(&self, line: &Row) -> Result<BadKey, StatementFault> {
@@ -116,11 +151,11 @@ impl LineTest for RiderTest {
 }
 
 /// One more than the greatest number of a rider, and 0 where there is none.
-fn past_riders<S: Alter>(conn: &mut Connection<S>) -> Result<usize, StatementFault>
-    ensures { ReadsWhere S.Store IsOurs conn.old conn.new result (λ db past. ArePast past (tables_of db).riders) }
+fn riders_end<S: Alter>(conn: &mut Connection<S>) -> Result<usize, StatementFault>
+    ensures { ReadsWhere S.Store IsOurs conn.old conn.new result (λ db end. AreBelow end (tables_of db).riders) }
 {
-    let numbers = fold_lines(conn, Query::RiderRows, RiderNumbers { past: 0 })?;
-    Ok(numbers.past)
+    let numbers = fold_lines(conn, Query::RiderRows, RiderNumbers { end: 0 })?;
+    Ok(numbers.end)
 }
 
 /// The sums with what each entry adds to its rider's.
@@ -129,7 +164,7 @@ fn add_entries<S: Alter>(
     sums: NumberedSums,
 ) -> Result<NumberedSums, StatementFault>
     ensures { ReadsWhere S.Store IsOurs conn.old conn.new result
-        (λ db balances. balances ≡ fold with_credit sums (operator_of (tables_of db)).entries) }
+        (λ db balances. balances ≡ fold with_credit sums (operator_of (tables_of db)).entries.items) }
 {
     let added = fold_lines(conn, Query::Entries, Balances { sums })?;
     Ok(added.sums)
@@ -141,39 +176,43 @@ fn count_rides<S: Alter>(
     counts: NumberedSums,
 ) -> Result<NumberedSums, StatementFault>
     ensures { ReadsWhere S.Store IsOurs conn.old conn.new result
-        (λ db rides. rides ≡ fold with_ride counts (operator_of (tables_of db)).rentals) }
+        (λ db rides. rides ≡ fold with_ride counts (operator_of (tables_of db)).rentals.items) }
 {
     let counted = fold_lines(conn, Query::Rentals, OpenRides { counts })?;
     Ok(counted.counts)
 }
 
-/// The first rider that fails the test with these sums and counts.
+/// The first rider that fails the test with these sums and counts, where so many entries were archived.
 fn judge_rows<S: Alter>(
     conn: &mut Connection<S>,
+    archived: u32,
     balances: NumberedSums,
     rides: NumberedSums,
 ) -> Result<Option<BadKey>, StatementFault>
     ensures { ReadsWhere S.Store IsOurs conn.old conn.new result
-        (FindsFailing Riders (λ t. rider_test balances rides)) }
+        (FindsFailing Riders (λ t before row. rider_test archived balances rides before (rider_line t row))) }
 {
-    judge_lines(
-        conn,
-        Query::RiderRows,
-        LineJudge::new(RiderTest { balances, rides }),
-    )
+    let test = RiderTest {
+        archived,
+        balances,
+        rides,
+    };
+    judge_lines(conn, Query::RiderRows, LineJudge::new(test))
 }
 
-/// The first bad key of `riders`: a row that spells no rider, a rider past the limit, one whose stored balance isn't
-/// the sum of his entries, or one with two open rentals. `NoMemory` where memory is refused, `StoreFailed` where the
-/// database fails or a sum passes 64 bits.
+/// The first bad key of `riders`, where all tables before it are good: a row that spells no rider, a rider beyond the
+/// limit, one whose own plan is missing, who has more of the archived entries than so many can come to, whose stored
+/// balance isn't that with the sum of the others, or who has two open rentals. `NoMemory` where memory is refused,
+/// `StoreFailed` where the database fails or a sum passes 64 bits.
 pub fn judge_riders<S: Alter>(
     alloc: Global,
     conn: &mut Connection<S>,
 ) -> Result<Option<BadKey>, StatementFault>
     ensures { ReadsWhere S.Store IsOurs conn.old conn.new result (JudgesTable Riders) }
 {
-    let past = past_riders(conn)?;
-    let balances = add_entries(conn, NumberedSums::zeros(alloc, past)?)?;
-    let rides = count_rides(conn, NumberedSums::zeros(alloc, past)?)?;
-    judge_rows(conn, balances, rides)
+    let archived = find_archived(conn)?;
+    let end = riders_end(conn)?;
+    let balances = add_entries(conn, NumberedSums::zeros(alloc, end)?)?;
+    let rides = count_rides(conn, NumberedSums::zeros(alloc, end)?)?;
+    judge_rows(conn, archived.entries, balances, rides)
 }

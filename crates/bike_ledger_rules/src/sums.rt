@@ -31,7 +31,7 @@ impl NumberedSums {
         })
     }
 
-    /// The sum of the number, and 0 past the end.
+    /// The sum of the number, and 0 beyond the end.
     pub(crate) fn at(&self, number: usize) -> i64
         ensures { result ≡ sum_at self.now number }
     {
@@ -41,12 +41,12 @@ impl NumberedSums {
         }
     }
 
-    /// Adds the amount to the number's sum; past the end it changes nothing. `StoreFailed` where the sum passes 64
+    /// Adds the amount to the number's sum; beyond the end it changes nothing. `StoreFailed` where the sum passes 64
     /// bits; the sums are then as they were.
     pub(crate) fn add(&mut self, number: usize, amount: i64) -> Result<(), StatementFault>
         ensures added { OnOk result (self.new ≡ with_added self.old number amount) }
         ensures fault { IfErr result (λ fault. fault ≡ StoreFailed) }
-        ensures past { OnErr result (¬ FitsSigned w64 (sum_at self.old number +ℤ amount)) }
+        ensures beyond { OnErr result (¬ FitsSigned w64 (sum_at self.old number +ℤ amount)) }
         ensures same { OnErr result (self.new ≡ self.old) }
     {
         let Some(sum) = self.sums.get_mut(number) else {

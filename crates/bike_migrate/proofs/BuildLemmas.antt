@@ -8,7 +8,7 @@ use Rattle.sqlite_schema.specs.Names.{table_named}
 use Rattle.sqlite.specs.Effect.{Database, IsDatabase}
 use Rattle.bike_sql.specs.Stands.{rows_of, Stands, Indexes}
 use Rattle.bike_book.specs.Tables.{TableName, keys_of, rows_in, tables_by, Meta, System, Plans, Segments, Types, Regions, Stations, Docks, Bikes, Trucks, Riders, Rentals, Orders, Entries}
-use Rattle.bike_book.specs.Tables.{History, MoreNames}
+use Rattle.bike_book.specs.Tables.{History, MoreNames, Books}
 use Rattle.bike_schema.specs.Layouts.{layout_of, name_of}
 use Rattle.bike_schema.specs.Makes.{OthersStay}
 use Rattle.std.specs.List.{list_all, list_any}
@@ -18,7 +18,8 @@ use Rattle.bike_recognition.specs.declared.earlier_versions.earlier.Earlier.TheV
 use Rattle.bike_recognition.specs.EarlierVersions.Earlier.{IsAt, HasTablesAt, has_regions, has_names, newer_names, tables_at}
 use Rattle.bike_recognition.specs.Recognition.{TableStands}
 use Rattle.bike_schema.specs.Indexes.{HasIndex, more_names_by_language, more_names_by_thing, history_by_key}
-use Rattle.bike_migrate.specs.Raised.{AllStay, KeptStays, StayUnnamed, AreUnnamed, HasNameIndexes, HasNewIndexes, MakesTable, MakesIndex, MakesIndexes, MakesNames, MakesHistory, MakesLater, MakesMore, emptied, MakesTables}
+use Rattle.bike_migrate.specs.Raised.{AllStay, KeptStays, StayUnnamed, AreUnnamed, HasNameIndexes, HasNewIndexes, MakesTable, MakesIndex, MakesIndexes, MakesNames, MakesHistory, MakesStations}
+use Rattle.bike_migrate.specs.Raised.{MakesLater, MakesMore, emptied, MakesTables}
 use Rattle.bike_migrate.specs.Spared.{Spares}
 use Rattle.bike_migrate.proofs.SpareLemmas.{spares_then, index_spared}
 
@@ -99,6 +100,11 @@ all_unnamed (name ∷ names) db h = let both = and_parts (is_unused db.schema na
 pub newer_unnamed : (e : Earlier) (db : Database) → IsAt e db → AreUnnamed (newer_names e) db
 newer_unnamed e db it = all_unnamed (newer_names e) db it.free
 
+-- .. still, as others were made
+pub still_unnamed_all : (names : List (List ℕ)) (a b : Database) → StayUnnamed a b → AreUnnamed names a → AreUnnamed names b
+still_unnamed_all [] a b stay none = tt
+still_unnamed_all (name ∷ names) a b stay none = (stay name none.0, still_unnamed_all names a b stay none.1)
+
 -- ---- all newest tables
 
 module _ (old new : Database) where
@@ -130,6 +136,13 @@ module _ (old new : Database) where
     kept = kept;
   }
 
+  -- the tables that every earlier version lacks stand, with no rows
+  record AreEmpty : Type 0 where
+    history : IsEmpty new History
+    stations : IsEmpty new Stations
+    riders : IsEmpty new Riders
+    books : IsEmpty new Books
+
   module _ (e : Earlier) (has : HasTablesAt e old) (stay : AllStay old new) where
     -- a table that only some versions have
     at_some : (t : TableName) (there : Bool) → (IsTrue there → Stands old (keys_of t) (layout_of t)) → (there ≡ false → IsEmpty new t)
@@ -137,50 +150,79 @@ module _ (old new : Database) where
     at_some t true was lacks = still t stay (was refl)
     at_some t false was lacks = made t (lacks refl)
 
-    each : IsEmpty new History → IsEmpty new Stations → (has_regions e ≡ false → IsEmpty new Regions) → (has_names e ≡ false → IsEmpty new MoreNames) → (t : TableName) → Becomes t (rows_none e t)
-    each history stations regions names Meta = still Meta stay ((has Meta).stands refl)
-    each history stations regions names System = still System stay ((has System).stands refl)
-    each history stations regions names Plans = still Plans stay ((has Plans).stands refl)
-    each history stations regions names Segments = still Segments stay ((has Segments).stands refl)
-    each history stations regions names Types = still Types stay ((has Types).stands refl)
-    each history stations regions names Regions = at_some Regions (has_regions e) (has Regions).stands regions
-    each history stations regions names Stations = made Stations stations
-    each history stations regions names Docks = still Docks stay ((has Docks).stands refl)
-    each history stations regions names Bikes = still Bikes stay ((has Bikes).stands refl)
-    each history stations regions names Trucks = still Trucks stay ((has Trucks).stands refl)
-    each history stations regions names Riders = still Riders stay ((has Riders).stands refl)
-    each history stations regions names Rentals = still Rentals stay ((has Rentals).stands refl)
-    each history stations regions names Orders = still Orders stay ((has Orders).stands refl)
-    each history stations regions names Entries = still Entries stay ((has Entries).stands refl)
-    each history stations regions names History = made History history
-    each history stations regions names MoreNames = at_some MoreNames (has_names e) (has MoreNames).stands names
+    each : AreEmpty → (has_regions e ≡ false → IsEmpty new Regions) → (has_names e ≡ false → IsEmpty new MoreNames) → (t : TableName) → Becomes t (rows_none e t)
+    each empty regions names Meta = still Meta stay ((has Meta).stands refl)
+    each empty regions names System = still System stay ((has System).stands refl)
+    each empty regions names Plans = still Plans stay ((has Plans).stands refl)
+    each empty regions names Segments = still Segments stay ((has Segments).stands refl)
+    each empty regions names Types = still Types stay ((has Types).stands refl)
+    each empty regions names Regions = at_some Regions (has_regions e) (has Regions).stands regions
+    each empty regions names Stations = made Stations empty.stations
+    each empty regions names Docks = still Docks stay ((has Docks).stands refl)
+    each empty regions names Bikes = still Bikes stay ((has Bikes).stands refl)
+    each empty regions names Trucks = still Trucks stay ((has Trucks).stands refl)
+    each empty regions names Riders = made Riders empty.riders
+    each empty regions names Rentals = still Rentals stay ((has Rentals).stands refl)
+    each empty regions names Orders = still Orders stay ((has Orders).stands refl)
+    each empty regions names Entries = still Entries stay ((has Entries).stands refl)
+    each empty regions names History = made History empty.history
+    each empty regions names MoreNames = at_some MoreNames (has_names e) (has MoreNames).stands names
+    each empty regions names Books = made Books empty.books
 
-  -- what is known of the tables that every version lacks, once they are made
+  -- what is known of those without an index, once they are made ..
+  record ArePlain (mid : Database) : Type 0 where
+    sound : IsDatabase new
+    stations : IsEmpty new Stations
+    riders : IsEmpty new Riders
+    books : IsEmpty new Books
+    stays : AllStay mid new
+    spares : Spares [] mid new
+    kept : KeptStays mid new
+
+  are_plain : (mid : Database) → MakesStations mid new → ArePlain mid
+  are_plain a (b, stations, (c, riders, books)) =
+      let last = stay_both b c new riders.stays books.stays in
+      record {
+        sound = books.sound;
+        stations = empty_stays b new Stations last (made_empty Stations a b stations);
+        riders = empty_stays c new Riders books.stays (made_empty Riders b c riders);
+        books = made_empty Books c new books;
+        stays = stay_both a b new stations.stays last;
+        spares = spares_then [] a b new stations.spares (spares_then [] b c new riders.spares books.spares);
+        kept = λ was. books.kept (riders.kept (stations.kept was));
+      }
+
+  -- .. and of all that every version lacks
   record AreLater (mid : Database) : Type 0 where
     sound : IsDatabase new
-    history : IsEmpty new History
-    stations : IsEmpty new Stations
+    empty : AreEmpty
     by_key : HasIndex new.schema history_by_key
     stays : AllStay mid new
     spares : Spares [] mid new
     kept : KeptStays mid new
 
   are_later : (mid : Database) → MakesLater mid new → AreLater mid
-  are_later mid (between, first, second) = record {
-    sound = second.sound;
-    history = empty_stays between new History second.stays (record { stands = first.history; no_rows = first.no_history });
-    stations = made_empty Stations between new second;
-    by_key = index_spared [] between new history_by_key second.spares refl first.index;
-    stays = stay_both mid between new first.stays second.stays;
-    spares = spares_then [] mid between new first.spares second.spares;
-    kept = λ was. second.kept (first.kept was);
-  }
+  are_later mid (between, first, second) =
+      let it = are_plain between second in
+      record {
+        sound = it.sound;
+        empty = record {
+          history = empty_stays between new History it.stays (record { stands = first.history; no_rows = first.no_history });
+          stations = it.stations;
+          riders = it.riders;
+          books = it.books;
+        };
+        by_key = index_spared [] between new history_by_key it.spares refl first.index;
+        stays = stay_both mid between new first.stays it.stays;
+        spares = spares_then [] mid between new first.spares it.spares;
+        kept = λ was. it.kept (first.kept was);
+      }
 
   pub makes_third : HasTablesAt Third old → MakesLater old new → MakesTables Third old new
   makes_third has later =
       let it = are_later old later in
       whole Third it.sound it.stays (record { names = λ bounds. absurd (both_ways false refl bounds); requests = it.by_key }) it.spares it.kept
-      (each Third has it.stays it.history it.stations (λ never. absurd (both_ways true never refl)) (λ never. absurd (both_ways true never refl)))
+      (each Third has it.stays it.empty (λ never. absurd (both_ways true never refl)) (λ never. absurd (both_ways true never refl)))
 
   -- .. and of those that the first two lack
   record AreMore (mid : Database) : Type 0 where
@@ -211,7 +253,7 @@ module _ (old new : Database) where
       let it = are_more old more in
       let later = it.later.1 in
       whole Second later.sound it.stays (record { names = λ bounds. it.indexes; requests = later.by_key }) it.spares it.kept
-      (each Second has it.stays later.history later.stations (λ never. absurd (both_ways true never refl)) (λ lacks. it.names))
+      (each Second has it.stays later.empty (λ never. absurd (both_ways true never refl)) (λ lacks. it.names))
 
   pub makes_first : (mid : Database) → HasTablesAt First old → MakesTable Regions old mid → MakesMore mid new → MakesTables First old new
   makes_first mid has regions more =
@@ -219,4 +261,4 @@ module _ (old new : Database) where
       let later = it.later.1 in
       let stay = stay_both old mid new regions.stays it.stays in
       whole First later.sound stay (record { names = λ bounds. it.indexes; requests = later.by_key }) (spares_then [] old mid new regions.spares it.spares) (λ was. it.kept (regions.kept was))
-      (each First has stay later.history later.stations (λ lacks. empty_stays mid new Regions it.stays (made_empty Regions old mid regions)) (λ lacks. it.names))
+      (each First has stay later.empty (λ lacks. empty_stays mid new Regions it.stays (made_empty Regions old mid regions)) (λ lacks. it.names))

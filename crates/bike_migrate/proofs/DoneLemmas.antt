@@ -1,11 +1,10 @@
 -- The raised tables are judged, and stand once the old tables are gone.
-use Rattle.std.proofs.Common.{◌≡◌, ℕ, true, false, List, ◌++◌, Option, Some, None, refl, sym, ap, subst, ◌∙◌}
+use Rattle.std.proofs.Common.{◌≡◌, true, false, List, Option, Some, None, refl, sym, ap, subst, ◌∙◌}
 use Rattle.std.proofs.Math.Path.{fun_ext}
-use Rattle.std.proofs.lemmas.Bool.{or_parts, both_ways}
-use Rattle.std.proofs.lemmas.List.Folds.{list_any-append}
+use Rattle.std.proofs.lemmas.Bool.{both_ways}
 use Rattle.sqlite_value.specs.Order.{Row}
 use Rattle.sqlite.specs.Effect.{Database}
-use Rattle.bike_sql.specs.Stands.{is_same_text, Stays}
+use Rattle.bike_sql.specs.Stands.{Stays}
 use Rattle.bike_book.specs.Tables.{TableName, Tables, keys_of, tables_by}
 use Rattle.bike_schema.specs.Layouts.{layout_of, name_of}
 use Rattle.bike_schema.specs.Indexes.{TableIndex, HasIndex, more_names_by_language, more_names_by_thing, history_by_key}
@@ -21,7 +20,7 @@ use Rattle.bike_migrate.specs.Stations.{AreCopies}
 use Rattle.bike_migrate.specs.Verdicts.{IsVerdictBefore, IsVerdictAt}
 use Rattle.bike_migrate.proofs.DropLemmas.{apart_here, not_ours, not_old}
 use Rattle.bike_migrate.proofs.FillLemmas.{stations_raised}
-use Rattle.bike_migrate.proofs.SpareLemmas.{spares_then, spares_less, index_spared}
+use Rattle.bike_migrate.proofs.SpareLemmas.{spares_then, spares_less, among_both, index_spared}
 
 -- ---- the verdict
 
@@ -46,9 +45,6 @@ verdict_unbounded Third t None bounds verdict = verdict
 verdict_unbounded Third t (Some bad) bounds verdict = verdict
 
 -- ---- at the end
-
-among_both : (xs ys : List (List ℕ)) (name : List ℕ) → is_among (xs ++ ys) name ≡ false → (is_among xs name ≡ false) × (is_among ys name ≡ false)
-among_both xs ys name other = or_parts (is_among xs name) (is_among ys name) (sym (list_any-append (is_same_text name) xs ys) ∙ other)
 
 module _ (e : Earlier) (a b c : Database) (filled : Fills e a b) (dropped : DropsOld e b c) where
   apart : (t : TableName) → is_among (old_names e) (name_of t) ≡ false

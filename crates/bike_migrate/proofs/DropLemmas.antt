@@ -16,10 +16,11 @@ use Rattle.bike_recognition.specs.declared.earlier_versions.earlier.Earlier.{Ear
 use Rattle.bike_recognition.specs.declared.earlier_versions.earlier.Earlier.TheVariants.{First, Second, Third}
 use Rattle.bike_recognition.specs.EarlierVersions.Earlier.{stations_name, stations_layout}
 use Rattle.bike_recognition.specs.EarlierVersions.Counts.{counts_name, counts_layout, HasCounts}
+use Rattle.bike_recognition.specs.EarlierVersions.Riders.{riders_name, riders_layout, HasRiders}
 use Rattle.bike_recognition.specs.EarlierVersions.Kept.{kept_name}
 use Rattle.bike_migrate.specs.Raised.{IsEarlier, old_names, HasOld, HasOldTables, Fills, DropsTable, AreGone, DropsOld, is_product_name}
 use Rattle.bike_migrate.specs.Spared.{is_among, Spares}
-use Rattle.bike_migrate.proofs.FillLemmas.{old_table}
+use Rattle.bike_migrate.proofs.FillLemmas.{old_table, riders_there}
 use Rattle.bike_migrate.proofs.SpareLemmas.{spares_then, spares_less, among_first, among_rest}
 
 -- ---- names
@@ -45,6 +46,11 @@ not_counts : (e : Earlier) → is_same_text (stations_name e) counts_name ≡ fa
 not_counts First = refl
 not_counts Second = refl
 not_counts Third = refl
+
+not_riders : (e : Earlier) → is_same_text (stations_name e) riders_name ≡ false
+not_riders First = refl
+not_riders Second = refl
+not_riders Third = refl
 
 -- one of a list of which none passes a test
 none_passes : (p : List ℕ → Bool) (xs : List (List ℕ)) (x : List ℕ) → list_any p xs ≡ false → Has xs x → p x ≡ false
@@ -78,9 +84,10 @@ module _ (name : List ℕ) (other : is_product_name name ≡ false) where
   not_listed x listed = none_passes same other_names x parts.1 listed
 
   pub not_old : (e : Earlier) → is_among (old_names e) name ≡ false
-  not_old e = or_from (same kept_name) (same counts_name || (same (stations_name e) || false)) (not_listed kept_name (inr (inr (inr (inl refl)))))
-      (or_from (same counts_name) (same (stations_name e) || false) (not_listed counts_name (inr (inr (inr (inr (inl refl))))))
-      (or_from (same (stations_name e)) false (not_listed (stations_name e) (stations_listed e)) refl))
+  not_old e = or_from (same kept_name) (same counts_name || (same riders_name || (same (stations_name e) || false))) (not_listed kept_name (inr (inr (inr (inl refl)))))
+      (or_from (same counts_name) (same riders_name || (same (stations_name e) || false)) (not_listed counts_name (inr (inr (inr (inr (inl refl))))))
+      (or_from (same riders_name) (same (stations_name e) || false) (not_listed riders_name (inr (inr (inr (inr (inr (inl refl)))))))
+      (or_from (same (stations_name e)) false (not_listed (stations_name e) (stations_listed e)) refl)))
 
 -- ---- the old tables
 
@@ -88,16 +95,24 @@ module _ (name : List ℕ) (other : is_product_name name ≡ false) where
 pub old_stay : (e : Earlier) (a b : Database) → IsEarlier e a → Fills e a b → HasOldTables e b
 old_stay e a b was filled = (
   (filled.others 1 (stations_layout e) (not_newest e) (old_table e a was.is_at)).stands,
+  (filled.others 1 riders_layout refl (riders_there e a was.is_at)).stands,
   (filled.others 2 counts_layout refl was.is_at.counts).stands,
   filled.kept,
 )
 
--- as `kept` goes, and then `counts`
-pub old_left : (e : Earlier) (a b : Database) → HasOldTables e a → DropsTable kept_name a b → HasOld e b × HasCounts b
-old_left e a b was dropped = ((dropped.others 1 (stations_layout e) (not_kept e) was.0).stands, (dropped.others 2 counts_layout refl was.1).stands)
+-- as `kept` goes, then `counts`, and then `riders`
+pub old_left : (e : Earlier) (a b : Database) → HasOldTables e a → DropsTable kept_name a b → HasOld e b × HasRiders b × HasCounts b
+old_left e a b was dropped = (
+  (dropped.others 1 (stations_layout e) (not_kept e) was.0).stands,
+  (dropped.others 1 riders_layout refl was.1).stands,
+  (dropped.others 2 counts_layout refl was.2).stands,
+)
 
-pub stations_left : (e : Earlier) (a b : Database) → HasOld e a → DropsTable counts_name a b → HasOld e b
-stations_left e a b was dropped = (dropped.others 1 (stations_layout e) (not_counts e) was).stands
+pub riders_left : (e : Earlier) (a b : Database) → HasOld e a × HasRiders a × HasCounts a → DropsTable counts_name a b → HasOld e b × HasRiders b
+riders_left e a b was dropped = ((dropped.others 1 (stations_layout e) (not_counts e) was.0).stands, (dropped.others 1 riders_layout refl was.1).stands)
+
+pub stations_left : (e : Earlier) (a b : Database) → HasOld e a × HasRiders a → DropsTable riders_name a b → HasOld e b
+stations_left e a b was dropped = (dropped.others 1 (stations_layout e) (not_riders e) was.0).stands
 
 -- Tables of these names are gone.
 record AreDropped (names : List (List ℕ)) (old new : Database) : Type 0 where
@@ -128,8 +143,10 @@ dropped_before name names a b c first rest free = record {
       (spares_less (name ∷ names) names b c (among_rest name names) rest.spares);
 }
 
-pub drops_all : (e : Earlier) (a b c d : Database) → DropsTable kept_name a b → DropsTable counts_name b c → DropsTable (stations_name e) c d → DropsOld e a d
-drops_all e a b c d kept counts stations =
-    let two = dropped_before counts_name (stations_name e ∷ []) b c d counts (last_dropped (stations_name e) c d stations) (stations.frees counts_name counts.gone) in
-    let all = dropped_before kept_name (counts_name ∷ stations_name e ∷ []) a b d kept two (stations.frees kept_name (counts.frees kept_name kept.gone)) in
+pub drops_all : (e : Earlier) (a b c d f : Database) → DropsTable kept_name a b → DropsTable counts_name b c → DropsTable riders_name c d → DropsTable (stations_name e) d f → DropsOld e a f
+drops_all e a b c d f kept counts riders stations =
+    let two = dropped_before riders_name (stations_name e ∷ []) c d f riders (last_dropped (stations_name e) d f stations) (stations.frees riders_name riders.gone) in
+    let three = dropped_before counts_name (riders_name ∷ stations_name e ∷ []) b c f counts two (stations.frees counts_name (riders.frees counts_name counts.gone)) in
+    let all = dropped_before kept_name (counts_name ∷ riders_name ∷ stations_name e ∷ []) a b f kept three
+    (stations.frees kept_name (riders.frees kept_name (counts.frees kept_name kept.gone))) in
     record { sound = all.sound; gone = all.gone; others = all.others; spares = all.spares }

@@ -12,8 +12,9 @@ use Rattle.bike_sql.proofs.FrameLemmas.{rows_of_is}
 use Rattle.bike_sql.proofs.RowListLemmas.{map_has}
 use Rattle.bike_sql.proofs.OrderLemmas.{Rises, rises, order_has, all_has, all_from}
 use Rattle.bike_sql.proofs.TreeLemmas.{by_key_total}
-use Rattle.bike_book.specs.Tables.{Tables, Meta, Stations, History, with_rows}
-use Rattle.bike_book.specs.Stored.{numbers_from, with_numbers}
+use Rattle.bike_operator.specs.Operator.{Numbered}
+use Rattle.bike_book.specs.Tables.{Tables, Meta, Stations, Riders, History, with_rows}
+use Rattle.bike_book.specs.Stored.{numbers_from}
 use Rattle.bike_book.proofs.NumberRows.{put_number}
 use Rattle.bike_book.specs.Writes.{RowWrite, Add, tables_after, tables_after_all}
 use Rattle.bike_schema.specs.Layouts.{name_of}
@@ -24,11 +25,12 @@ use Rattle.bike_recognition.specs.declared.earlier_versions.earlier.Earlier.{Ear
 use Rattle.bike_recognition.specs.declared.earlier_versions.earlier.Earlier.TheVariants.{First, Second, Third}
 use Rattle.bike_recognition.specs.EarlierVersions.Counts.{counts_layout, HasCounts, old_counts, old_types, types_text, old_text}
 use Rattle.bike_recognition.specs.EarlierVersions.Earlier.{stations_layout, with_text, completed, tables_at, IsAt}
+use Rattle.bike_recognition.specs.EarlierVersions.Riders.{riders_layout, HasRiders, old_riders, completed_rider}
 use Rattle.bike_recognition.specs.EarlierVersions.Kept.{kept_rows, past_row, history_rows, KeptLies}
-use Rattle.bike_migrate.specs.Raised.{old_stations, AreOldRows, version_write, station_write, station_writes, request_row, request_writes, first_writes, fill_writes, tables_raised}
-use Rattle.bike_migrate.specs.Raised.{HasNewIndexes, version_names, station_names}
-use Rattle.bike_migrate.specs.Raised.{request_names, filled_names, emptied, MakesTables, WritesOnly, WritesBeside, IsOursBeside, Fills}
-use Rattle.bike_migrate.proofs.SpareLemmas.{spares_same, spares_then, spares_less, spares_all, among_first, among_rest}
+use Rattle.bike_migrate.specs.Raised.{old_stations, AreOldRows, version_write, station_write, station_writes, rider_write, rider_writes, request_row, request_writes, first_writes, later_writes}
+use Rattle.bike_migrate.specs.Raised.{fill_writes, tables_raised, HasNewIndexes, version_names, station_names, rider_names}
+use Rattle.bike_migrate.specs.Raised.{request_names, later_names, filled_names, emptied, MakesTables, WritesOnly, WritesBeside, IsOursBeside, Fills}
+use Rattle.bike_migrate.proofs.SpareLemmas.{spares_same, spares_then, spares_less, spares_all, among_first, among_rest, among_both}
 use Rattle.bike_migrate.proofs.KeptTexts.{kept_shown}
 use Rattle.bike_migrate.specs.Stations.{AreCopies}
 
@@ -77,6 +79,19 @@ pub version_first : (a b : Database) → WritesOnly version_names (version_write
 version_first a b it =
     record { makes = it.makes; spares = spares_less station_names version_names a b (among_first (name_of Meta) (name_of Stations ∷ [])) it.spares; kept = it.kept }
 
+-- one rider more
+riders_more : (rows : List Row) (i : ℕ) (row : Row) → i < length rows → row ≡ get_or rows i row → rider_writes (take (i + 1) rows) ≡ rider_writes (take i rows) ++ rider_write row ∷ []
+riders_more rows i row within is =
+    ap rider_writes (take_more rows i row within) ∙ map-append rider_write (take i rows) (get_or rows i row ∷ []) ∙ ap (λ r. rider_writes (take i rows) ++ rider_write r ∷ []) (sym is)
+
+pub more_riders : (rows : List Row) (i : ℕ) (row : Row) → i < length rows → row ≡ get_or rows i row → (a b c : Database) → WritesOnly rider_names (rider_writes (take i rows)) a b
+    → WritesOnly rider_names (rider_write row ∷ []) b c → WritesOnly rider_names (rider_writes (take (i + 1) rows)) a c
+more_riders rows i row within is a b c first second = record {
+  makes = subst (λ ws. Makes ws a c) (sym (riders_more rows i row within is)) (makes_then (rider_writes (take i rows)) (rider_write row ∷ []) a b c first.makes second.makes);
+  spares = spares_then rider_names a b c first.spares second.spares;
+  kept = λ was. second.kept (first.kept was);
+}
+
 -- one request more
 numbered_more : (n : ℕ) (xs : List Row) (x : Row) → numbers_from n (xs ++ x ∷ []) ≡ numbers_from n xs ++ (n + length xs, x) ∷ []
 numbered_more n [] x = ap (λ k. (k, x) ∷ []) (let e : n ≡ n + 0 = omega arith in e)
@@ -90,7 +105,7 @@ requests_more rows i row number counted within is =
     let same : 1 + length (take i rows) ≡ number = omega (arith, long, counted) in
     let add = λ (e : ℕ × Row). Add History (request_row e) in
     ap request_writes (take_more rows i row within)
-    ∙ ap (map add) (numbered_more 1 (take i rows) (get_or rows i row)) ∙ map-append add (with_numbers (take i rows)) ((1 + length (take i rows), get_or rows i row) ∷ [])
+    ∙ ap (map add) (numbered_more 1 (take i rows) (get_or rows i row)) ∙ map-append add (numbers_from 1 (take i rows)) ((1 + length (take i rows), get_or rows i row) ∷ [])
     ∙ ap₂ (λ k r. request_writes (take i rows) ++ Add History (request_row (k, r)) ∷ []) same (sym is)
 
 pub more_requests : (rows : List Row) (i : ℕ) (row : Row) (number : ℕ) → number ≡ i + 1 → i < length rows → row ≡ get_or rows i row → (a b c : Database)
@@ -106,13 +121,24 @@ more_requests rows i row number counted within is a b c first second = record {
 pub no_writes : (names : List (List ℕ)) (a b : Database) → b ≡ a → IsOurs a → WritesOnly names [] a b
 no_writes names a b same ours = subst (WritesOnly names [] a) (sym same) (record { makes = makes_none a ours.sound ours.has; spares = spares_same names a; kept = λ was. was })
 
--- the requests after the first writes
-pub both_filled : (stations kept : List Row) (a b c : Database) → WritesBeside station_names (λ counts. first_writes counts stations) a b → WritesOnly request_names (request_writes kept) b c
-    → WritesBeside filled_names (λ counts. fill_writes counts stations kept) a c
-both_filled stations kept a b c first second = record {
-  makes = makes_then (first_writes (old_counts a) stations) (request_writes kept) a b c first.makes second.makes;
-  spares = spares_then filled_names a b c (spares_less filled_names station_names a b (among_rest _ station_names) first.spares)
-      (spares_less filled_names request_names b c (among_first _ station_names) second.spares);
+-- the requests after the riders
+pub later_filled : (riders kept : List Row) (a b c : Database) → WritesOnly rider_names (rider_writes riders) a b → WritesOnly request_names (request_writes kept) b c
+    → WritesOnly later_names (later_writes riders kept) a c
+later_filled riders kept a b c first second = record {
+  makes = makes_then (rider_writes riders) (request_writes kept) a b c first.makes second.makes;
+  spares = spares_then later_names a b c (spares_less later_names rider_names a b (among_rest (name_of History) rider_names) first.spares)
+      (spares_less later_names request_names b c (among_first (name_of History) rider_names) second.spares);
+  kept = λ was. second.kept (first.kept was);
+}
+
+-- .. and both after the first writes
+pub both_filled : (stations riders kept : List Row) (a b c : Database) → WritesBeside station_names (λ counts. first_writes counts stations) a b
+    → WritesOnly later_names (later_writes riders kept) b c
+    → WritesBeside filled_names (λ counts. fill_writes counts stations riders kept) a c
+both_filled stations riders kept a b c first second = record {
+  makes = makes_then (first_writes (old_counts a) stations) (later_writes riders kept) a b c first.makes second.makes;
+  spares = spares_then filled_names a b c (spares_less filled_names station_names a b (λ name other. (among_both later_names station_names name other).1) first.spares)
+      (spares_less filled_names later_names b c (λ name other. (among_both later_names station_names name other).0) second.spares);
   kept = λ was. second.kept (first.kept was);
 }
 
@@ -126,6 +152,11 @@ adds_all : (rows : List Row) (t : Tables) → tables_after_all (map (Add Station
 unfolding put_all
 adds_all [] t = refl
 adds_all (r ∷ rows) t = adds_all rows (with_rows Stations (put_row_by 1 r t.stations) t)
+
+adds_riders : (rows : List Row) (t : Tables) → tables_after_all (map (Add Riders) rows) t ≡ with_rows Riders (put_all rows t.riders) t
+unfolding put_all
+adds_riders [] t = refl
+adds_riders (r ∷ rows) t = adds_riders rows (with_rows Riders (put_row_by 1 r t.riders) t)
 
 adds_history : (rows : List Row) (t : Tables) → tables_after_all (map (Add History) rows) t ≡ with_rows History (put_all rows t.history) t
 unfolding put_all
@@ -158,7 +189,7 @@ put_rising (r ∷ rows) xs below up =
     ]) up.1
     ∙ append_assoc xs (r ∷ []) rows
 
--- ---- the old stations as they are copied
+-- ---- rows as they are copied
 
 rising_map : (f : Row → Row) (xs : List Row) → ((a b : Row) → Has xs a → Has xs b → by_key 1 (f a) (f b) ≡ by_key 1 a b) → Rises (by_key_total 1) xs → Rises (by_key_total 1) (map f xs)
 rising_map f [] same up = tt
@@ -168,11 +199,12 @@ rising_map f (x ∷ xs) same up = (
   rising_map f xs (λ a b p q. same a b (inr p) (inr q)) up.1,
 )
 
--- a row as the table shows it is copied under its key
-abbrev IsUnderIts : List Row → Row → Type 0
-IsUnderIts counts row = take 1 (completed counts row) ≡ take 1 row
+-- a row is copied under its key
+abbrev IsUnderIts : (Row → Row) → Row → Type 0
+IsUnderIts copy row = take 1 (copy row) ≡ take 1 row
 
-key_shown : (e : Earlier) (counts : List Row) (tree : ℕ) (r : Row) → IsUnderIts counts (columns_of (table_of (stations_layout e) tree) r)
+-- .. as the tables show it
+key_shown : (e : Earlier) (counts : List Row) (tree : ℕ) (r : Row) → IsUnderIts (completed counts) (columns_of (table_of (stations_layout e) tree) r)
 key_shown First counts tree r = refl
 key_shown Second counts tree r = refl
 key_shown Third counts tree r = refl
@@ -189,18 +221,15 @@ in_order_there : (keys : ℕ) (layout : Layout) (db : Database) → Stands db ke
 in_order_there keys layout db was =
     subst (Rises (by_key_total keys)) (sym (rows_of_is db keys layout was)) (rises (by_key_total keys) (map (columns_of (table_of layout was.tree)) (db.trees was.tree)))
 
-module _ (e : Earlier) (db : Database) (was : Stands db 1 (stations_layout e)) where
+module _ (layout : Layout) (db : Database) (was : Stands db 1 layout) (copy : Row → Row) (each : (tree : ℕ) (r : Row) → IsUnderIts copy (columns_of (table_of layout tree) r)) where
   abbrev rows : List Row
-  rows = old_stations e db
+  rows = rows_of 1 layout.name db
 
-  abbrev copy : Row → Row
-  copy = completed (old_counts db)
-
-  keyed : (row : Row) → Has rows row → IsUnderIts (old_counts db) row
-  keyed = shown 1 (stations_layout e) db was (IsUnderIts (old_counts db)) (key_shown e (old_counts db) was.tree)
+  keyed : (row : Row) → Has rows row → IsUnderIts copy row
+  keyed = shown 1 layout db was (IsUnderIts copy) (each was.tree)
 
   copies_rise : Rises (by_key_total 1) (map copy rows)
-  copies_rise = rising_map copy rows (λ a b p q. ap₂ row_cmp (keyed a p) (keyed b q)) (in_order_there 1 (stations_layout e) db was)
+  copies_rise = rising_map copy rows (λ a b p q. ap₂ row_cmp (keyed a p) (keyed b q)) (in_order_there 1 layout db was)
 
   put_copies : put_all (map copy rows) [] ≡ map copy rows
   put_copies = put_rising (map copy rows) [] (λ x r none h. absurd none) copies_rise
@@ -208,15 +237,17 @@ module _ (e : Earlier) (db : Database) (was : Stands db 1 (stations_layout e)) w
 -- ---- the requests as they are copied
 
 -- put behind those that are there, they get the numbers behind theirs
-put_requests : (before more : List Row) → put_all (map request_row (numbers_from (length before + 1) more)) (map request_row (with_numbers before)) ≡ map request_row (with_numbers (before ++ more))
+put_requests : (before more : List Row)
+    → put_all (map request_row (numbers_from (length before + 1) more)) (map request_row (numbers_from 1 before)) ≡ map request_row (numbers_from 1 (before ++ more))
 unfolding put_all
-put_requests before [] = ap (λ rs. map request_row (with_numbers rs)) (sym (append-nil before))
+put_requests before [] = ap (λ rs. map request_row (numbers_from 1 rs)) (sym (append-nil before))
 put_requests before (r ∷ more) =
     let n = length before + 1 in
-    ap (put_all (map request_row (numbers_from (suc n) more))) (put_number request_row request_row (λ e. refl) (λ e. refl) before n r refl (λ e apart. refl))
-    ∙ ap (λ k. put_all (map request_row (numbers_from k more)) (map request_row (with_numbers (before ++ r ∷ [])))) (longer before r)
+    let l : Numbered Row = record { archived = 0; items = before } in
+    ap (put_all (map request_row (numbers_from (suc n) more))) (put_number request_row request_row (λ e. refl) (λ e. refl) l n r (omega arith) (λ e apart. refl))
+    ∙ ap (λ k. put_all (map request_row (numbers_from k more)) (map request_row (numbers_from 1 (before ++ r ∷ [])))) (longer before r)
     ∙ put_requests (before ++ r ∷ []) more
-    ∙ ap (λ rs. map request_row (with_numbers rs)) (append_assoc before (r ∷ []) more)
+    ∙ ap (λ rs. map request_row (numbers_from 1 rs)) (append_assoc before (r ∷ []) more)
   where
     longer : (xs : List Row) (x : Row) → suc (length xs + 1) ≡ length (xs ++ x ∷ []) + 1
     longer [] x = refl
@@ -231,7 +262,7 @@ module _ (db : Database) (it : KeptLies db) where
   requests_same n [] there = refl
   requests_same n (r ∷ rows) there = ap₂ ◌∷◌ (request_same r (there r (inl refl)) n) (requests_same (suc n) rows (λ row has. there row (inr has)))
 
-  put_history : put_all (map request_row (with_numbers (kept_rows db))) [] ≡ history_rows (kept_rows db)
+  put_history : put_all (map request_row (numbers_from 1 (kept_rows db))) [] ≡ history_rows (kept_rows db)
   put_history = put_requests [] (kept_rows db) ∙ requests_same 1 (kept_rows db) (λ row has. has)
 
 -- ---- all tables
@@ -241,11 +272,16 @@ old_table e db at = (at.has Stations).stands refl
 
 -- the stations of the tables raised are those that were copied
 pub stations_raised : (e : Earlier) (db : Database) → IsAt e db → AreCopies (old_stations e db) (tables_raised e db).stations
-stations_raised e db at = record { counts = old_counts db; are = refl; keyed = keyed e db (old_table e db at) }
+stations_raised e db at =
+    record { counts = old_counts db; are = refl; keyed = keyed (stations_layout e) db (old_table e db at) (completed (old_counts db)) (key_shown e (old_counts db)) }
 
 writes_map : (counts rows : List Row) → station_writes counts rows ≡ map (Add Stations) (map (completed counts) rows)
 writes_map counts [] = refl
 writes_map counts (r ∷ rows) = ap (λ l. station_write counts r ∷ l) (writes_map counts rows)
+
+riders_map : (rows : List Row) → rider_writes rows ≡ map (Add Riders) (map completed_rider rows)
+riders_map [] = refl
+riders_map (r ∷ rows) = ap (λ l. rider_write r ∷ l) (riders_map rows)
 
 requests_map : (es : List (ℕ × Row)) → map (λ e. Add History (request_row e)) es ≡ map (Add History) (map request_row es)
 requests_map [] = refl
@@ -257,36 +293,57 @@ stations_added e db at t none =
     let copies = map (completed (old_counts db)) (old_stations e db) in
     ap (λ ws. tables_after_all ws t) (writes_map (old_counts db) (old_stations e db))
     ∙ adds_all copies t
-    ∙ ap (λ rows. with_rows Stations rows t) (ap (put_all copies) none ∙ put_copies e db (old_table e db at))
+    ∙ ap (λ rows. with_rows Stations rows t) (ap (put_all copies) none ∙ put_copies (stations_layout e) db (old_table e db at) (completed (old_counts db)) (key_shown e (old_counts db)))
+
+riders_added : (db : Database) → HasRiders db → (t : Tables) → t.riders ≡ [] → tables_after_all (rider_writes (old_riders db)) t ≡ with_rows Riders (map completed_rider (old_riders db)) t
+riders_added db was t none =
+    let copies = map completed_rider (old_riders db) in
+    ap (λ ws. tables_after_all ws t) (riders_map (old_riders db))
+    ∙ adds_riders copies t
+    ∙ ap (λ rows. with_rows Riders rows t) (ap (put_all copies) none ∙ put_copies riders_layout db was completed_rider (λ tree r. refl))
 
 requests_added : (db : Database) → KeptLies db → (t : Tables) → t.history ≡ [] → tables_after_all (request_writes (kept_rows db)) t ≡ with_rows History (history_rows (kept_rows db)) t
 requests_added db it t none =
-    ap (λ ws. tables_after_all ws t) (requests_map (with_numbers (kept_rows db)))
-    ∙ adds_history (map request_row (with_numbers (kept_rows db))) t
-    ∙ ap (λ rows. with_rows History rows t) (ap (put_all (map request_row (with_numbers (kept_rows db)))) none ∙ put_history db it)
+    ap (λ ws. tables_after_all ws t) (requests_map (numbers_from 1 (kept_rows db)))
+    ∙ adds_history (map request_row (numbers_from 1 (kept_rows db))) t
+    ∙ ap (λ rows. with_rows History rows t) (ap (put_all (map request_row (numbers_from 1 (kept_rows db)))) none ∙ put_history db it)
 
--- the version set, and the stations and requests added
-filled_are : (e : Earlier) (db : Database) → IsAt e db → tables_after_all (fill_writes (old_counts db) (old_stations e db) (kept_rows db)) (emptied (tables_at e db)) ≡ tables_raised e db
+pub riders_there : (e : Earlier) (db : Database) → IsAt e db → HasRiders db
+riders_there e db at = (at.has Riders).stands refl
+
+-- the riders and the requests added
+later_added : (e : Earlier) (db : Database) → IsAt e db → (t : Tables) → t.riders ≡ [] → t.history ≡ []
+    → tables_after_all (later_writes (old_riders db) (kept_rows db)) t ≡ with_rows History (history_rows (kept_rows db)) (with_rows Riders (map completed_rider (old_riders db)) t)
+later_added e db at t no_riders no_history =
+    after_both (rider_writes (old_riders db)) (request_writes (kept_rows db)) t
+    ∙ ap (tables_after_all (request_writes (kept_rows db))) (riders_added db (riders_there e db at) t no_riders)
+    ∙ requests_added db at.kept (with_rows Riders (map completed_rider (old_riders db)) t) no_history
+
+-- the version set, and the stations, riders and requests added
+filled_are : (e : Earlier) (db : Database) → IsAt e db
+    → tables_after_all (fill_writes (old_counts db) (old_stations e db) (old_riders db) (kept_rows db)) (emptied (tables_at e db)) ≡ tables_raised e db
 filled_are e db at =
     let t = emptied (tables_at e db) in
     let v = tables_after version_write t in
-    after_both (first_writes (old_counts db) (old_stations e db)) (request_writes (kept_rows db)) t
-    ∙ ap (tables_after_all (request_writes (kept_rows db))) (stations_added e db at v refl)
-    ∙ requests_added db at.kept (with_rows Stations (map (completed (old_counts db)) (old_stations e db)) v) refl
+    after_both (first_writes (old_counts db) (old_stations e db)) (later_writes (old_riders db) (kept_rows db)) t
+    ∙ ap (tables_after_all (later_writes (old_riders db) (kept_rows db))) (stations_added e db at v refl)
+    ∙ later_added e db at (with_rows Stations (map (completed (old_counts db)) (old_stations e db)) v) refl refl
 
 pub made_beside : (e : Earlier) (a b : Database) → IsAt e a → MakesTables e a b → IsOursBeside b
 made_beside e a b at made = (record { sound = made.sound; has = made.has }, (made.others 2 counts_layout refl at.counts).stands)
 
-pub fills : (e : Earlier) (a b c : Database) (stations kept : List Row) → IsAt e a → AreOldRows e stations kept a → MakesTables e a b
-    → WritesBeside filled_names (λ counts. fill_writes counts stations kept) b c → Fills e a c
-fills e a b c stations kept at are made only = record {
+pub fills : (e : Earlier) (a b c : Database) (stations riders kept : List Row) → IsAt e a → AreOldRows e stations riders kept a → MakesTables e a b
+    → WritesBeside filled_names (λ counts. fill_writes counts stations riders kept) b c → Fills e a c
+fills e a b c stations riders kept at are made only = record {
   raised = record {
     sound = only.makes.sound;
     has = only.makes.has;
     tables =
-        only.makes.tables ∙ ap (tables_after_all (fill_writes (old_counts b) stations kept)) made.tables
-        ∙ ap (λ cs. tables_after_all (fill_writes cs stations kept) (emptied (tables_at e a))) (made.others 2 counts_layout refl at.counts).rows
-        ∙ ap₂ (λ rs ks. tables_after_all (fill_writes (old_counts a) rs ks) (emptied (tables_at e a))) are.0 are.1 ∙ filled_are e a at;
+        only.makes.tables ∙ ap (tables_after_all (fill_writes (old_counts b) stations riders kept)) made.tables
+        ∙ ap (λ cs. tables_after_all (fill_writes cs stations riders kept) (emptied (tables_at e a))) (made.others 2 counts_layout refl at.counts).rows
+        ∙ ap₂ (λ ss rs. tables_after_all (fill_writes (old_counts a) ss rs kept) (emptied (tables_at e a))) are.0 are.1
+        ∙ ap (λ ks. tables_after_all (fill_writes (old_counts a) (old_stations e a) (old_riders a) ks) (emptied (tables_at e a))) are.2
+        ∙ filled_are e a at;
   };
   indexes = subst (HasNewIndexes e) (sym only.makes.schema) made.indexes;
   others = stay_then a b c made.others only.makes.others;

@@ -8,7 +8,7 @@ use Rattle.sqlite_trees.specs.declared.store.Store.{Ghosts}
 use Rattle.sqlite.specs.Effect.{Database}
 use Rattle.sqlite.specs.Held.{Held, state}
 use Rattle.sqlite.specs.State.{HasCleanDisk, IsUnchanged, Survives}
-use Rattle.sqlite.proofs.StateLemmas.{survives_then}
+use Rattle.sqlite.proofs.StateLemmas.{survives_weaker, survives_then}
 use Rattle.bike_sql.proofs.ChainLaws.{quiet_survives}
 use Rattle.bike_book.specs.declared.version.TheConstants.{NEWEST}
 use Rattle.bike_schema.specs.declared.fault.StatementFault.{StatementFault}
@@ -29,6 +29,7 @@ use Rattle.bike_migrate.specs.Raised.{IsEarlier, Raises, tables_raised}
 use Rattle.bike_migrate.specs.Raising.{IsOnNewest, MayCommit, IsAsBefore, BecomesAt, RaisesInPlace, IsOutcome, MayCommitAny, ComesTo, cause_of}
 use Rattle.bike_migrate.specs.Verdicts.{AllGoodAt, IsVerdictAt}
 use Rattle.bike_migrate.specs.declared.fault.RaiseCause.{RaiseCause}
+use Rattle.bike_migrate.specs.declared.fault.RaiseCause.TheVariants as cause
 
 -- ---- found to be of an earlier version
 
@@ -125,6 +126,19 @@ module _ (db : Database) where
       by Third First same = absurd (cc)
       by Third Second same = absurd (cc)
       by Third Third same = refl
+
+-- ---- what came of it, where it is foreign
+
+pub comes_foreign : {S : Type 0} (g : Ghosts S) (old new : Held S) {E : Type 0} → ReadsAny {E = E} g old new (Ok found.Foreign) IsFoundAs → old.in_transaction ≡ false
+    → ComesTo g old new (Ok (Some cause.Foreign))
+comes_foreign g old new read outside = record {
+  comes = λ clean.
+      let same = (read.same clean tt).0 in
+      (read.found clean tt, record { was_open = same.was_open; is_open = same.is_open; now_is = same.now_is; committed_is = same.committed_is; mode = same.mode ∙ outside });
+  outside = read.quiet.mode outside;
+  ended = λ clean. read.quiet.mode outside;
+  survives = survives_weaker (state g old) (state g new) _ _ (λ clean db none. absurd none) (quiet_survives read.quiet tt);
+}
 
 -- ---- what came of it, where it is of the newest version
 

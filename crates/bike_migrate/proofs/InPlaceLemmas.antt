@@ -19,13 +19,13 @@ use Rattle.bike_migrate.specs.Calls.{DoesInside}
 use Rattle.bike_migrate.specs.Raised.{IsEarlier, AreOldRows, HasOldTables, WasRead, Raises, tables_raised}
 use Rattle.bike_migrate.specs.Raising.{MayCommit, IsJudged, Attempts, Ends, CommitsBy, EndsTransaction, BecomesAt, RaisesInPlace}
 use Rattle.bike_migrate.specs.Verdicts.{IsVerdictAt}
-use Rattle.bike_migrate.proofs.FillLemmas.{old_table}
+use Rattle.bike_migrate.proofs.FillLemmas.{old_table, riders_there}
 
 module _ {S : Type 0} (g : Ghosts S) (e : Earlier) where
   -- ---- the attempt
 
   has_old : (db : Database) → IsEarlier e db → HasOldTables e db
-  has_old db was = (old_table e db was.is_at, was.is_at.counts, was.is_at.kept)
+  has_old db was = (old_table e db was.is_at, riders_there e db was.is_at, was.is_at.counts, was.is_at.kept)
 
   -- it failed before anything was done
   pub attempt_failed : {X E : Type 0} {old new : Held S} {result : Result X E} {told : Result (Option BadRow) StatementFault} {says : Database → X → Type 0} → ReadsWhere g (HasOldTables e) old new result says
@@ -36,7 +36,8 @@ module _ {S : Type 0} (g : Ghosts S) (e : Earlier) where
     survives = survives_weaker (state g old) (state g new) _ _ (λ clean db none was. none (has_old (state g old).now was)) it.quiet.survives;
   }
 
-  module _ (old mid : Held S) (stations kept : List Row) {X E : Type 0} {x : X} (read : ReadsWhere g (HasOldTables e) old mid {E = E} (Ok x) (λ db _. AreOldRows e stations kept db)) where
+  module _ (old mid : Held S) (stations riders kept : List Row) {X E : Type 0} {x : X}
+      (read : ReadsWhere g (HasOldTables e) old mid {E = E} (Ok x) (λ db _. AreOldRows e stations riders kept db)) where
     read_survives : {P : Trees → Type 0} (new : Held S) → Survives (state g mid) (state g new) P → Survives (state g old) (state g new) (λ db. (¬ HasOldTables e (state g old).now) ⊎ P db)
     read_survives new calm = survives_then (state g old) (state g mid) (state g new) _ _ _ (λ clean db none. inl none) (λ clean db it. inr it) read.quiet.survives calm
 
@@ -50,7 +51,7 @@ module _ {S : Type 0} (g : Ghosts S) (e : Earlier) where
 
     module _ (begun new : Held S) (begins : HasCleanDisk (state g begun) → Shows (state g mid) (state g begun) (state g mid).now (state g mid).committed true)
         (calm : Survives (state g mid) (state g begun) (λ _. ⊥))
-        {told : Result (Option BadRow) StatementFault} (does : DoesInside g (WasRead e stations kept) begun new told
+        {told : Result (Option BadRow) StatementFault} (does : DoesInside g (WasRead e stations riders kept) begun new told
         (λ a b bad. IsJudged e a b (option_map row_name bad))) where
       -- what is so as it begins
       record Starts : Type 0 where
@@ -58,7 +59,7 @@ module _ {S : Type 0} (g : Ghosts S) (e : Earlier) where
         was_open : IsTrue (state g old).is_open
         now_is : (state g begun).now ≡ (state g old).now
         committed_is : (state g begun).committed ≡ (state g old).committed
-        rows_are : AreOldRows e stations kept (state g old).now
+        rows_are : AreOldRows e stations riders kept (state g old).now
 
       starts : HasCleanDisk (state g begun) → IsEarlier e (state g old).now → Starts
       starts clean was =
@@ -74,8 +75,8 @@ module _ {S : Type 0} (g : Ghosts S) (e : Earlier) where
             rows_are = read.found early has;
           }
 
-      has_begun : HasCleanDisk (state g begun) → (was : IsEarlier e (state g old).now) → WasRead e stations kept (state g begun).now
-      has_begun clean was = let it = starts clean was in subst (WasRead e stations kept) (sym it.now_is) (was, it.rows_are)
+      has_begun : HasCleanDisk (state g begun) → (was : IsEarlier e (state g old).now) → WasRead e stations riders kept (state g begun).now
+      has_begun clean was = let it = starts clean was in subst (WasRead e stations riders kept) (sym it.now_is) (was, it.rows_are)
 
       pub attempted : Attempts g e old new told
       attempted = record {

@@ -17,19 +17,19 @@ use Rattle.bike_migrate.specs.Verdicts.{IsVerdictAt}
 use Rattle.bike_migrate.proofs.StepLemmas.{does_under, does_then, reads_does}
 use Rattle.bike_migrate.proofs.DoneLemmas.{verdict_raised}
 
-module _ (e : Earlier) (stations kept : List Row) where
-  pub is_at : (db : Database) → WasRead e stations kept db → HasOldRows e stations kept db
+module _ (e : Earlier) (stations riders kept : List Row) where
+  pub is_at : (db : Database) → WasRead e stations riders kept db → HasOldRows e stations riders kept db
   is_at db has = (has.0.is_at, has.1)
 
-  pub filled_ours : (a b : Database) → WasRead e stations kept a → Fills e a b → IsOurs b
+  pub filled_ours : (a b : Database) → WasRead e stations riders kept a → Fills e a b → IsOurs b
   filled_ours a b has it = record { sound = it.raised.sound; has = it.raised.has }
 
   abbrev pub Judged : Database → Database → Option BadRow → Type 0
   Judged old new bad = Fills e old new × IsVerdictAt e (tables_raised e old) (option_map row_name bad)
 
   pub judged_does : {S E F : Type 0} {g : Ghosts S} {old mid new : Held S} {result : Result (Option BadRow) F}
-      → DoesInside g (HasOldRows e stations kept) old mid {X = Unit {0}} {E = E} (Ok tt) (λ a b _. Fills e a b)
+      → DoesInside g (HasOldRows e stations riders kept) old mid {X = Unit {0}} {E = E} (Ok tt) (λ a b _. Fills e a b)
       → ReadsWhere g IsOurs mid new result (λ db bad. AreCopies stations (tables_of db).stations → IsVerdictAt e (tables_of db) (option_map row_name bad))
-      → DoesInside g (WasRead e stations kept) old new result Judged
+      → DoesInside g (WasRead e stations riders kept) old new result Judged
   judged_does built read = does_then (does_under is_at built) filled_ours (reads_does read)
       (λ a b c bad has filled it. (subst (Fills e a) (sym it.0) filled, verdict_raised e a b stations (option_map row_name bad) has.0 has.1.0 filled it.1))

@@ -1,17 +1,20 @@
 -- The tables at an earlier version are an operator's where, raised, they are its own and no station has too many docks.
-use Rattle.std.proofs.Common.{◌≡◌, ◌≤◌, ℕ, true, false, IsTrue, List, [], ◌∷◌, map, Option, Some, None, refl, sym, ap, subst, ◌∙◌}
+use Rattle.std.proofs.Common.{◌≡◌, ◌≤◌, ◌==◌, ◌+◌, ℕ, ℤ, pos, Bool, true, false, IsTrue, List, [], ◌∷◌, map, Option, Some, None, if◌then◌else◌, refl, sym, ap, ap₂, subst, ◌∙◌, arith}
 use Rattle.std.specs.Prelude.{option_map, IfSome}
 use Rattle.std.specs.FinMap as fin
-use Rattle.std.proofs.lemmas.Bool.{leb-true, le-leb, both_ways}
-use Rattle.sqlite_value.specs.declared.value.Value.{Value}
+use Rattle.std.proofs.lemmas.Bool.{leb-true, le-leb, both_ways, eqb-true}
+use Rattle.std.proofs.lemmas.Int.{ints}
 use Rattle.sqlite_value.specs.declared.value.Value.TheVariants.{Text}
 use Rattle.sqlite_value.specs.Order.{Row}
 use Rattle.sqlite.specs.Effect.{Database}
 use Rattle.bike_sql.specs.View.{row_with}
 use Rattle.bike_sql.proofs.RowListLemmas.{map_has}
 use Rattle.bike_operator.specs.Operator.{Operator, Station}
+use Rattle.bike_operator.specs.Sound.{IsSound, IsSumOf}
+use Rattle.bike_book.specs.declared.version.TheConstants.{NEWEST}
 use Rattle.bike_book.specs.Tables.{TableName, Tables, Meta, Stations, with_rows}
-use Rattle.bike_book.specs.Stored.{Listed, tables_for, stored_station}
+use Rattle.bike_book.specs.Rows.{meta_row, books_row}
+use Rattle.bike_book.specs.Stored.{Listed, tables_for, stored_station, meta_rows, books_rows}
 use Rattle.bike_book.specs.Writes.{tables_after}
 use Rattle.bike_book.proofs.FoundKeys.{found_by_key}
 use Rattle.bike_book.proofs.Keys.{texts}
@@ -61,15 +64,39 @@ module _ (s : Operator) (m : Listed) where
 
 -- ---- the tables
 
+-- without a row of `books` nothing was archived
+none_archived : (requests entries rentals : ℕ) → [] ≡ books_rows requests entries rentals → entries ≡ 0
+none_archived requests entries rentals = by (requests + entries + rentals == 0) refl
+  where
+    by : (b : Bool) → (requests + entries + rentals == 0) ≡ b → [] ≡ (if b then [] else books_row requests entries rentals ∷ []) → entries ≡ 0
+    by true is none = let sum = eqb-true (requests + entries + rentals) 0 is in omega (arith, sum)
+    by false is none = absurd cc
+
+-- no entries come to 0
+none_summed : (entries : ℕ) (sum : ℤ) → entries ≡ 0 → IsSumOf entries sum → sum ≡ pos 0
+none_summed entries sum none it = by (subst (λ n. IsSumOf n sum) none it)
+  where
+    by : IsSumOf 0 sum → sum ≡ pos 0
+    by z = let low = z.low in let high = z.high in omega (arith, ints, low, high)
+
+-- then there are no sums of it in `meta`
+nothing_past : (s : Operator) (m : Listed) → IsSound s → [] ≡ (tables_for s m).books → meta_rows m.since s.past ≡ meta_row NEWEST m.since (pos 0) (pos 0) ∷ []
+nothing_past s m sound none =
+    let entries = none_archived s.history.archived s.entries.archived s.rentals.archived none in
+    ap₂ (λ cash revenue. meta_row NEWEST m.since cash revenue ∷ []) (none_summed s.entries.archived s.past.cash entries sound.ledger.past.cash)
+    (none_summed s.entries.archived s.past.revenue entries sound.ledger.past.revenue)
+
 -- raised, they are the tables of the operator
-pub raised_for : (e : Earlier) (db : Database) (s : Operator) (m : Listed) (cash revenue : Value) → tables_at e db ≡ tables_for_at e s m cash revenue → tables_raised e db ≡ tables_for s m
-raised_for e db s m cash revenue are =
-    ap (tables_after version_write) are
-    ∙ ap (λ rows. with_rows Meta rows (tables_for s m)) (meta_raised (number_of e) m.since cash revenue)
+pub raised_for : (e : Earlier) (db : Database) (s : Operator) (it : StoresAt e db s) → tables_raised e db ≡ tables_for s it.listed
+raised_for e db s it =
+    let m = it.listed in
+    ap (tables_after version_write) it.tables
+    ∙ ap (λ rows. with_rows Meta rows (tables_for s m)) (meta_raised (number_of e) m.since it.cash it.revenue ∙ sym (nothing_past s m it.sound (ap (λ (t : Tables). t.books) it.tables)))
 
 -- and back
-lowered_meta : (e : Earlier) (db : Database) (s : Operator) (m : Listed) → IsEarlier e db → tables_raised e db ≡ tables_for s m → WasMeta (number_of e) m.since (tables_at e db).meta
-lowered_meta e db s m it are = meta_lowered (number_of e) m.since (tables_at e db).meta it.version (ap (λ (t : Tables). t.meta) are)
+lowered_meta : (e : Earlier) (db : Database) (s : Operator) (m : Listed) → IsEarlier e db → IsSound s → tables_raised e db ≡ tables_for s m → WasMeta (number_of e) m.since (tables_at e db).meta
+lowered_meta e db s m it sound are =
+    meta_lowered (number_of e) m.since (tables_at e db).meta it.version (ap (λ (t : Tables). t.meta) are ∙ nothing_past s m sound (ap (λ (t : Tables). t.books) are))
 
 lowered_for : (e : Earlier) (db : Database) (s : Operator) (m : Listed) → tables_raised e db ≡ tables_for s m → (was : WasMeta (number_of e) m.since (tables_at e db).meta)
     → tables_at e db ≡ tables_for_at e s m was.cash was.revenue
@@ -92,13 +119,13 @@ bound_of Third t good bounds key = absurd (both_ways false refl bounds)
 module _ (e : Earlier) (old new : Database) (raised : IsRaised e old new) where
   -- for which the database stood, it stands
   pub stores_raised : (s : Operator) → StoresAt e old s → Stores new s
-  stores_raised s it = record { has = raised.has; sound = it.sound; listed = it.listed; listing = it.listing; tables = raised.tables ∙ raised_for e old s it.listed it.cash it.revenue it.tables }
+  stores_raised s it = record { has = raised.has; sound = it.sound; listed = it.listed; listing = it.listing; tables = raised.tables ∙ raised_for e old s it }
 
   -- for which it stands, it stood
   pub stored_before : IsEarlier e old → (s : Operator) → Stores new s → (IsTrue (bounds_docks e) → (key : Row) → KeepsBound (tables_raised e old) Stations key) → StoresAt e old s
   stored_before was s it bound =
       let are : tables_raised e old ≡ tables_for s it.listed = sym raised.tables ∙ it.tables in
-      let meta = lowered_meta e old s it.listed was are in
+      let meta = lowered_meta e old s it.listed was it.sound are in
       record {
         is_at = was.is_at;
         sound = it.sound;
@@ -120,9 +147,9 @@ module _ (e : Earlier) (old new : Database) (raised : IsRaised e old new) where
 -- where it stands for an operator, all keys are good
 pub stored_all_good : (e : Earlier) (old : Database) (s : Operator) → StoresAt e old s → (AllGood (tables_raised e old)) → AllGoodAt e (tables_raised e old)
 stored_all_good First old s it good = λ name key.
-    record { good = good name key; few = subst (λ t. KeepsBound t name key) (sym (raised_for First old s it.listed it.cash it.revenue it.tables)) (bound_kept s it.listed (it.few_docks refl) name key) }
+    record { good = good name key; few = subst (λ t. KeepsBound t name key) (sym (raised_for First old s it)) (bound_kept s it.listed (it.few_docks refl) name key) }
 stored_all_good Second old s it good = λ name key.
-    record { good = good name key; few = subst (λ t. KeepsBound t name key) (sym (raised_for Second old s it.listed it.cash it.revenue it.tables)) (bound_kept s it.listed (it.few_docks refl) name key) }
+    record { good = good name key; few = subst (λ t. KeepsBound t name key) (sym (raised_for Second old s it)) (bound_kept s it.listed (it.few_docks refl) name key) }
 stored_all_good Third old s it good = good
 
 -- then none is bad

@@ -36,7 +36,7 @@ same_of e f is = cc
 
 -- of a database that stands for an operator no row is bad
 all_good : (e : Earlier) (db : Database) (s : Operator) → StoresAt e db s → AllGood (tables_raised e db)
-all_good e db s it = of_are_good (tables_raised e db) s it.listed (record { sound = it.sound; listing = it.listing; tables = raised_for e db s it.listed it.cash it.revenue it.tables })
+all_good e db s it = of_are_good (tables_raised e db) s it.listed (record { sound = it.sound; listing = it.listing; tables = raised_for e db s it })
 
 unsound_never : (db : Database) (v : Option Earlier) (s : Operator) → StandsForAt v db s → (bad : UnsoundRow) → IsUnsound db bad → ⊥
 unsound_never db v s stands bad = by bad.earlier

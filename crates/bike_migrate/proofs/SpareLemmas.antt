@@ -1,8 +1,9 @@
 -- What each statement leaves as it was.
-use Rattle.std.proofs.Common.{◌≡◌, ◌≢◌, ◌==◌, ◌⊎◌, inl, inr, not, ℕ, ◌+◌, Bool, true, false, List, [], ◌∷◌, ◌++◌, filter, find, slice_get, Some, None, option_map, unwrap_or, Ok}
+use Rattle.std.proofs.Common.{◌≡◌, ◌≢◌, ◌==◌, ◌⊎◌, inl, inr, not, ℕ, Bool, true, false, List, [], ◌∷◌, ◌++◌, filter, find, slice_get, Some, None, option_map, unwrap_or, Ok}
 use Rattle.std.proofs.Common.{Err, Result, refl, sym, ap, subst, ◌∙◌, arith}
 use Rattle.std.specs.List.{AllByRecursion, position_from}
 use Rattle.std.proofs.lemmas.Bool.{cases_Bool, or_parts, or_from, ne_eqb}
+use Rattle.std.proofs.lemmas.List.Folds.{list_any-append}
 use Rattle.sqlite_value.specs.Order.{Row}
 use Rattle.sqlite_sql.specs.Term.{Term}
 use Rattle.sqlite_sql.specs.Query.{Query}
@@ -60,6 +61,9 @@ among_first first rest name h = or_from (is_same_text name first) false (or_part
 
 pub among_rest : (first : List ℕ) (rest : List (List ℕ)) (name : List ℕ) → is_among (first ∷ rest) name ≡ false → is_among rest name ≡ false
 among_rest first rest name h = (or_parts (is_same_text name first) (is_among rest name) h).1
+
+pub among_both : (xs ys : List (List ℕ)) (name : List ℕ) → is_among (xs ++ ys) name ≡ false → (is_among xs name ≡ false) × (is_among ys name ≡ false)
+among_both xs ys name other = or_parts (is_among xs name) (is_among ys name) (sym (list_any-append (is_same_text name) xs ys) ∙ other)
 
 -- ---- CREATE TABLE
 

@@ -138,7 +138,7 @@ module _ (db : Database) (f : Found) where
   newest_told : (s : Operator) → Stores db s → meta_version db ≡ Version NEWEST
   newest_told s it =
       let rows : rows_of (keys_of Meta) (name_of Meta) db ≡ _ = sym (rows_of_table db Meta) ∙ ap (λ (t : Tables). t.meta) it.tables in
-      ap (λ (rs : List Row). version_in (row_with 1 (Int (pos 1) ∷ []) rs)) rows ∙ ap version_in (meta_found NEWEST it.listed.since (pos 0) (pos 0))
+      ap (λ (rs : List Row). version_in (row_with 1 (Int (pos 1) ∷ []) rs)) rows ∙ ap version_in (meta_found NEWEST it.listed.since s.past.cash s.past.revenue)
 
   found_newest : (s : Operator) → Stores db s → IsFoundAs db f → f ≡ found.Newest
   found_newest s it is = newest_is it.has (by_told (Version NEWEST) (it.has Meta) (newest_told s it) is)

@@ -51,7 +51,7 @@ use Rattle.bike_sql.proofs.KeyLemmas.{IsKeyAt}
 use Rattle.bike_sql.proofs.WriteLaws.{row_put, row_updated, row_terms, width}
 use Rattle.bike_book.specs.declared.columns.stations.TheConstants as stations
 use Rattle.bike_book.specs.declared.version.TheConstants.{NEWEST}
-use Rattle.bike_book.specs.Tables.{TableName, Meta, Stations, History, MoreNames, keys_of}
+use Rattle.bike_book.specs.Tables.{TableName, Meta, Stations, Riders, History, MoreNames, keys_of}
 use Rattle.bike_book.specs.Rows.{number_value}
 use Rattle.bike_book.specs.Writes.{Add}
 use Rattle.bike_schema.specs.Calls.{WasFree}
@@ -69,8 +69,9 @@ use Rattle.bike_sql.specs.Answer.{HasOneAnswer}
 use Rattle.bike_sql.specs.View.{rows_where}
 use Rattle.bike_recognition.specs.EarlierVersions.Counts.{counts_name, counts_layout, HasCounts, old_counts}
 use Rattle.bike_recognition.specs.EarlierVersions.Earlier.{stations_layout, with_text}
-use Rattle.bike_migrate.specs.Raised.{MakesTable, MakesIndex, station_names, version_names, request_names, request_row, WritesOnly, DropsTable, version_write}
-use Rattle.bike_migrate.specs.Stations.{may_hold, IsStationRow, IsRequestRow, AsksRows}
+use Rattle.bike_recognition.specs.EarlierVersions.Riders.{riders_name, riders_layout, completed_rider}
+use Rattle.bike_migrate.specs.Raised.{MakesTable, MakesIndex, station_names, version_names, rider_names, request_names, request_row, WritesOnly, DropsTable, version_write}
+use Rattle.bike_migrate.specs.Stations.{may_hold, IsStationRow, IsRiderRow, IsRequestRow, AsksRows}
 use Rattle.bike_schema.proofs.MakeLemmas.{adds}
 use Rattle.bike_schema.proofs.GrowthLemmas.{still_unnamed, made_stands, made_empty, all_stay}
 use Rattle.bike_sql.proofs.IndexLaw as index
@@ -278,6 +279,58 @@ station_added text row suits old new ours count ran =
     (insert_is old.now.schema it.at (table_of (layout_of Stations) it.tree) it.has station_text values (inserts_station old.now.schema it.tree)) ran.0) in
     record { makes = made; spares = spared; kept = kept_written station_names (Add Stations (with_text text row) ∷ []) old.now new.now made spared refl }
 
+-- ---- INSERT of a rider
+
+abbrev pub rider_text : List ℕ
+rider_text = insert_text Riders
+
+inserts_rider : (s : Schema) (tree : ℕ) → IsInsert s (table_of (layout_of Riders) tree) (first rider_text) (Values (row_terms (layout_of Riders)) (width (layout_of Riders)))
+unfolding everything
+inserts_rider s tree = (refl, refl, refl, λ base. refl)
+
+pub rider_writes : (db : Database) → IsOurs db → IsWriteIn db.schema rider_text
+rider_writes db ours =
+    let it = ours.has Riders in
+    means_writes db.schema rider_text _ (insert_is db.schema it.at (table_of (layout_of Riders) it.tree) it.has rider_text (Values (row_terms (layout_of Riders)) (width (layout_of Riders)))
+    (inserts_rider db.schema it.tree)).0 tt
+
+-- the row of the rider of a number
+abbrev pub copied_rider : ℤ → Row → Row
+copied_rider rider row = Int rider ∷ column row 1 ∷ column row 2 ∷ Int (pos 0) ∷ Null ∷ []
+
+rider_suits : (rider : ℤ) (row : Row) → IsRiderRow row → suit_all (layout_of Riders).columns (copied_rider rider row) ≡ true
+rider_suits rider row it =
+    let first = and_parts (may_hold Integer (column row 0)) _ it in
+    let second = and_parts (may_hold Integer (column row 1)) _ first.1 in
+    let third = and_parts (may_hold Integer (column row 2)) _ second.1 in
+    rw (kind_suits Integer (column row 1) second.0, kind_suits Integer (column row 2) third.0) refl
+
+rider_bound : (rider : ℤ) (row : Row) → IsRiderRow row → map bound_value (copied_rider rider row) ≡ copied_rider rider row
+rider_bound rider row it = bound_all (layout_of Riders).columns (copied_rider rider row) (rider_suits rider row it)
+
+-- a call that binds the number, the row's other columns, 0 and NULL binds that row
+pub rider_values : (rider n : ℤ) (a b : Value) (row : Row) → n ≡ rider → a ≡ column row 1 → b ≡ column row 2 → IsRiderRow row
+    → ◌≡◌ {A = Row} (Int n ∷ bound_value a ∷ bound_value b ∷ Int (pos 0) ∷ Null ∷ []) (copied_rider rider row)
+rider_values rider n a b row p i j it = rw (p, i, j) (rider_bound rider row it)
+
+pub adds_rider : (rider : ℤ) (row : Row) → IsRiderRow row → Does IsOurs (λ db. WasFree (Add Riders (copied_rider rider row)) (tables_of db))
+    (Puts (Add Riders (copied_rider rider row) ∷ [])) rider_text (copied_rider rider row)
+unfolding everything
+adds_rider rider row it = let suit = rider_suits rider row it in adds_row Riders (row_put (unique_key Riders) inserts_rider refl suit (λ rows. refl))
+
+-- the rider is added, and nothing else
+pub rider_added : (rider : ℤ) (row : Row) → column row 0 ≡ Int rider → IsRiderRow row → (old new : State) → IsOurs old.now → (count : ℕ)
+    → ExecutesInside 0 rider_text (copied_rider rider row) old new (Ok count) → WritesOnly rider_names (Add Riders (completed_rider row) ∷ []) old.now new.now
+rider_added rider row number suits old new ours count ran =
+    let it = ours.has Riders in
+    let values = Values (row_terms (layout_of Riders)) (width (layout_of Riders)) in
+    let made = ((adds_rider rider row suits).does old new ours (Ok count) ran).0.makes in
+    let spared = spares_inserting (layout_of Riders) (keys_of Riders) old new it rider_text (copied_rider rider row) count (width (layout_of Riders)) (row_terms (layout_of Riders))
+    (insert_is old.now.schema it.at (table_of (layout_of Riders) it.tree) it.has rider_text values (inserts_rider old.now.schema it.tree)) ran.0 in
+    let same : copied_rider rider row ≡ completed_rider row = ap (λ v. v ∷ column row 1 ∷ column row 2 ∷ Int (pos 0) ∷ Null ∷ []) (sym number) in
+    subst (λ r. WritesOnly rider_names (Add Riders r ∷ []) old.now new.now) same
+    (record { makes = made; spares = spared; kept = kept_written rider_names (Add Riders (copied_rider rider row) ∷ []) old.now new.now made spared refl })
+
 -- ---- INSERT of a request
 
 abbrev pub request_text : List ℕ
@@ -375,6 +428,13 @@ pub counts_drops : IsDrop (first drop_counts_text) counts_name
 unfolding everything
 counts_drops = (refl, refl)
 
+abbrev pub drop_riders_text : List ℕ
+drop_riders_text = codes "DROP TABLE riders"
+
+pub riders_drops : IsDrop (first drop_riders_text) riders_name
+unfolding everything
+riders_drops = (refl, refl)
+
 pub first_drops : IsDrop (first (codes "DROP TABLE stations")) (codes "stations")
 unfolding everything
 first_drops = (refl, refl)
@@ -433,3 +493,18 @@ third_selects = (λ tree. refl, refl)
 
 pub third_asks : AsksRows (stations_layout Third) (codes "SELECT * FROM stations_3 ORDER BY station_id")
 third_asks db was = ordered_rows third_key was third_selects
+
+-- ---- SELECT of all old riders
+
+abbrev pub riders_text : List ℕ
+riders_text = codes "SELECT * FROM riders ORDER BY rider"
+
+riders_key : IsKeyAt 1 riders_layout (0 ∷ [])
+riders_key = record { first = λ row. refl }
+
+riders_selects : IsSelect (table_query 0 [] (by_columns (0 ∷ [])) (every_column riders_layout)) riders_layout riders_text
+unfolding everything
+riders_selects = (λ tree. refl, refl)
+
+pub asks_riders : AsksRows riders_layout riders_text
+asks_riders db was = ordered_rows riders_key was riders_selects

@@ -1,5 +1,5 @@
 -- The row of `meta`, whose version and sums alone change.
-use Rattle.std.proofs.Common.{◌≡◌, ◌==◌, ℕ, ℤ, pos, negsuc, Bool, true, false, List, [], ◌∷◌, Option, Some, None, codes, Ordering, Less, Equal, Greater, if◌then◌else◌, refl, ap, subst, ◌∙◌}
+use Rattle.std.proofs.Common.{◌≡◌, ◌==◌, ℕ, pos, negsuc, Bool, true, false, List, [], ◌∷◌, Option, Some, None, codes, Ordering, Less, Equal, Greater, if◌then◌else◌, refl, ap, subst, ◌∙◌}
 use Rattle.std.specs.Prelude.{take, option_map, unwrap_or}
 use Rattle.std.specs.Ordering.{is_eq, match_ordering}
 use Rattle.sqlite_value.specs.declared.value.Value.{Value}

@@ -8,8 +8,9 @@ use Rattle.bike_sql.specs.Makes.{IsFree}
 use Rattle.bike_sql.specs.Layout.{Layout}
 use Rattle.bike_sql.specs.Stands.{is_same_text, rows_of, Stands, Stays, Indexes}
 use Rattle.bike_book.specs.declared.version.TheConstants.{NEWEST}
-use Rattle.bike_book.specs.Tables.{TableName, Tables, Meta, Stations, History, MoreNames, keys_of, with_rows}
-use Rattle.bike_book.specs.Stored.{with_numbers}
+use Rattle.bike_book.specs.Tables.{TableName, Tables, Meta, Stations, Riders, History, MoreNames, Books, keys_of}
+use Rattle.bike_book.specs.Tables.{with_rows}
+use Rattle.bike_book.specs.Stored.{numbers_from}
 use Rattle.bike_book.specs.Rows.{number_value}
 use Rattle.bike_book.specs.Writes.{RowWrite, Add, Set, tables_after}
 use Rattle.bike_schema.specs.Layouts.{layout_of, name_of}
@@ -23,6 +24,7 @@ use Rattle.bike_recognition.specs.declared.earlier_versions.earlier.Earlier.{Ear
 use Rattle.bike_recognition.specs.EarlierVersions.Earlier.{IsAt, number_of, bounds_docks, stations_name}
 use Rattle.bike_recognition.specs.EarlierVersions.Earlier.{stations_layout, completed, tables_at}
 use Rattle.bike_recognition.specs.EarlierVersions.Counts.{counts_name, HasCounts, old_counts}
+use Rattle.bike_recognition.specs.EarlierVersions.Riders.{riders_name, HasRiders, old_riders, completed_rider}
 use Rattle.bike_recognition.specs.EarlierVersions.Kept.{KeptLies, kept_name, kept_rows}
 use Rattle.bike_migrate.specs.Spared.{is_among, Spares}
 
@@ -37,32 +39,34 @@ pub record IsEarlier (e : Earlier) (db : Database) : Type 0 where
 abbrev pub old_stations : Earlier → Database → List Row
 old_stations e = rows_of 1 (stations_name e)
 
--- these are the rows of its old tables that are read at first: of stations, and of `kept` in the order of their rowids
-abbrev pub AreOldRows : Earlier → List Row → List Row → Database → Type 0
-AreOldRows e stations kept db = (stations ≡ old_stations e db) × (kept ≡ kept_rows db)
+-- these are the rows of its old tables that are read at first: of stations, of `riders`, and of `kept` in the order of
+-- their rowids
+abbrev pub AreOldRows : Earlier → List Row → List Row → List Row → Database → Type 0
+AreOldRows e stations riders kept db =
+    (stations ≡ old_stations e db) × (riders ≡ old_riders db) × (kept ≡ kept_rows db)
 
 -- its table of stations stands
 abbrev pub HasOld : Earlier → Database → Type 0
 HasOld e db = Stands db 1 (stations_layout e)
 
--- .. and so does `counts`, and `kept` lies there
+-- .. and so do `riders` and `counts`, and `kept` lies there
 abbrev pub HasOldTables : Earlier → Database → Type 0
-HasOldTables e db = HasOld e db × HasCounts db × KeptLies db
+HasOldTables e db = HasOld e db × HasRiders db × HasCounts db × KeptLies db
 
 -- it is of this version, and these are the rows of its old tables
-abbrev pub HasOldRows : Earlier → List Row → List Row → Database → Type 0
-HasOldRows e stations kept db = IsAt e db × AreOldRows e stations kept db
+abbrev pub HasOldRows : Earlier → List Row → List Row → List Row → Database → Type 0
+HasOldRows e stations riders kept db = IsAt e db × AreOldRows e stations riders kept db
 
-abbrev pub WasRead : Earlier → List Row → List Row → Database → Type 0
-WasRead e stations kept db = IsEarlier e db × AreOldRows e stations kept db
+abbrev pub WasRead : Earlier → List Row → List Row → List Row → Database → Type 0
+WasRead e stations riders kept db = IsEarlier e db × AreOldRows e stations riders kept db
 
 -- the names of the tables that go
 abbrev pub old_names : Earlier → List (List ℕ)
-old_names e = kept_name ∷ counts_name ∷ stations_name e ∷ []
+old_names e = kept_name ∷ counts_name ∷ riders_name ∷ stations_name e ∷ []
 
 -- ---- the tables
 
--- what changes in the row of `meta`: the version is the newest, which has no sums there
+-- what changes in the row of `meta`: the version is the newest, and the sums are 0, since nothing was archived
 abbrev pub version_write : RowWrite
 version_write =
     Set Meta (number_value 1 ∷ []) ((2, number_value NEWEST) ∷ (4, number_value 0) ∷ (5, number_value 0) ∷ [])
@@ -74,21 +78,32 @@ station_write counts row = Add Stations (completed counts row)
 abbrev pub station_writes : List Row → List Row → List RowWrite
 station_writes counts = map (station_write counts)
 
+-- a rider added to the newest table
+abbrev pub rider_write : Row → RowWrite
+rider_write row = Add Riders (completed_rider row)
+
+abbrev pub rider_writes : List Row → List RowWrite
+rider_writes = map rider_write
+
 -- a row of `kept` as one of `history`, with its number and of moment 0
 abbrev pub request_row : ℕ × Row → Row
 request_row e = number_value e.0 ∷ number_value 0 ∷ map (column e.1) (0 ∷ 1 ∷ 2 ∷ 3 ∷ [])
 
 -- each of these rows added to `history`, numbered from 1
 abbrev pub request_writes : List Row → List RowWrite
-request_writes rows = map (λ e. Add History (request_row e)) (with_numbers rows)
+request_writes rows = map (λ e. Add History (request_row e)) (numbers_from 1 rows)
 
 -- the version and the stations
 abbrev pub first_writes : List Row → List Row → List RowWrite
 first_writes counts stations = version_write ∷ station_writes counts stations
 
+-- the riders and the requests
+abbrev pub later_writes : List Row → List Row → List RowWrite
+later_writes riders kept = rider_writes riders ++ request_writes kept
+
 -- all of it
-abbrev pub fill_writes : List Row → List Row → List Row → List RowWrite
-fill_writes counts stations kept = first_writes counts stations ++ request_writes kept
+abbrev pub fill_writes : List Row → List Row → List Row → List Row → List RowWrite
+fill_writes counts stations riders kept = first_writes counts stations ++ later_writes riders kept
 
 -- THE TABLES RAISED: what they are at the version, with that change
 abbrev pub tables_raised : Earlier → Database → Tables
@@ -179,9 +194,17 @@ pub record MakesHistory (old new : Database) : Type 0 where
   pub spares : Spares [] old new
   pub kept : KeptStays old new
 
--- the tables that every earlier version lacks, the one after the other
+-- the tables that every earlier version lacks, the one after the other: those of riders and of what was archived ..
+abbrev pub MakesRiders : Database → Database → Type 0
+MakesRiders old new = (mid : Database) × MakesTable Riders old mid × MakesTable Books mid new
+
+-- .. before them that of stations ..
+abbrev pub MakesStations : Database → Database → Type 0
+MakesStations old new = (mid : Database) × MakesTable Stations old mid × MakesRiders mid new
+
+-- .. and before all that of the history
 abbrev pub MakesLater : Database → Database → Type 0
-MakesLater old new = (mid : Database) × MakesHistory old mid × MakesTable Stations mid new
+MakesLater old new = (mid : Database) × MakesHistory old mid × MakesStations mid new
 
 -- .. and those that the first two versions lack
 abbrev pub MakesMore : Database → Database → Type 0
@@ -189,7 +212,7 @@ MakesMore old new = (mid : Database) × MakesNames old mid × MakesLater mid new
 
 -- the tables without the rows that are added as they are filled
 abbrev pub emptied : Tables → Tables
-emptied t = with_rows History [] (with_rows Stations [] t)
+emptied t = with_rows History [] (with_rows Riders [] (with_rows Stations [] t))
 
 -- the newest tables were made, and those are empty that get their rows from the old ones
 pub record MakesTables (e : Earlier) (old new : Database) : Type 0 where
@@ -201,19 +224,26 @@ pub record MakesTables (e : Earlier) (old new : Database) : Type 0 where
   pub spares : Spares [] old new
   pub kept : KeptStays old new
 
--- the tables whose rows change as the version is set, as the stations are added, and as the requests are
+-- the tables whose rows change as the version is set, as the stations are added, as the riders are, and the requests
 abbrev pub version_names : List (List ℕ)
 version_names = name_of Meta ∷ []
 
 abbrev pub station_names : List (List ℕ)
 station_names = name_of Meta ∷ name_of Stations ∷ []
 
+abbrev pub rider_names : List (List ℕ)
+rider_names = name_of Riders ∷ []
+
 abbrev pub request_names : List (List ℕ)
 request_names = name_of History ∷ []
 
+-- as riders and requests are
+abbrev pub later_names : List (List ℕ)
+later_names = name_of History ∷ rider_names
+
 -- as all are filled
 abbrev pub filled_names : List (List ℕ)
-filled_names = name_of History ∷ station_names
+filled_names = later_names ++ station_names
 
 -- these writes were made, and nothing else, to tables of these names
 pub record WritesOnly (names : List (List ℕ)) (writes : List RowWrite) (old new : Database) : Type 0 where

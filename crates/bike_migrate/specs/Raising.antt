@@ -9,7 +9,7 @@ use Rattle.sqlite.specs.Held.{Held, state}
 use Rattle.sqlite.specs.Effect.{Database, IsDatabase}
 use Rattle.sqlite.specs.State.{State, HasCleanDisk, Shows, Survives}
 use Rattle.bike_operator.specs.Operator.{Operator}
-use Rattle.bike_book.specs.Tables.{TableName, Stations}
+use Rattle.bike_book.specs.Tables.{TableName, Stations, Riders}
 use Rattle.bike_schema.specs.Layouts.{name_of}
 use Rattle.bike_schema.specs.Makes.{Continues}
 use Rattle.bike_schema.specs.Stands.{AllLeft, StandsFor, TreesStandFor}
@@ -24,6 +24,7 @@ use Rattle.bike_recognition.specs.declared.earlier_versions.earlier.Earlier.{Ear
 use Rattle.bike_recognition.specs.declared.earlier_versions.found.Found.TheVariants as found
 use Rattle.bike_recognition.specs.EarlierVersions.Earlier.{stations_name}
 use Rattle.bike_recognition.specs.EarlierVersions.Found.{IsFoundAs}
+use Rattle.bike_recognition.specs.EarlierVersions.Riders.{riders_name}
 use Rattle.bike_recognition.specs.EarlierVersions.Stores.{StandsForAt, TreesStandForAt}
 use Rattle.bike_migrate.specs.Raised.{IsEarlier, tables_raised, OthersKept, Raises}
 use Rattle.bike_migrate.specs.Verdicts.{AllGoodAt, IsFirstBadAt, IsVerdictAt}
@@ -37,6 +38,7 @@ use Rattle.bike_migrate.specs.declared.fault.UnsoundRow.{UnsoundRow}
 -- the name that the table has at the version; none is the newest
 abbrev pub name_at : Option Earlier → TableName → List ℕ
 name_at (Some e) Stations = stations_name e
+name_at (Some e) Riders = riders_name
 name_at v t = name_of t
 
 -- the database is of the version, and this is the first bad row of its tables; at the newest the audit says which

@@ -1,4 +1,4 @@
--- The rows of an old table of stations.
+-- The rows of the old tables, above all of those of stations.
 use Rattle.std.specs.Prelude.{◌≡◌, ◌==◌, if◌then◌else◌, ℕ, ◌<◌, pos, int_le, Bool, true, false, List, [], ◌∷◌, map}
 use Rattle.std.specs.Prelude.{length, take, slice_get}
 use Rattle.std.specs.Prelude.{Option, Some, None}
@@ -39,6 +39,10 @@ has_kinds row kinds =
 -- each column of it holds what it may hold in the newest table
 abbrev pub IsStationRow : Row → Type 0
 IsStationRow row = has_kinds row (map (λ c. c.kind) (layout_of Stations).columns) ≡ true
+
+-- each column of a row of the old `riders` holds what it may hold in the newest table
+abbrev pub IsRiderRow : Row → Type 0
+IsRiderRow row = has_kinds row (Integer ∷ Integer ∷ Integer ∷ []) ≡ true
 
 -- each column of a row of `kept` holds what it may hold in the newest table
 abbrev pub IsRequestRow : Row → Type 0

@@ -1,6 +1,8 @@
 //! The newest tables, made and filled inside the connection's transaction.
 
-ghost use Rattle.bike_book.specs.Tables.{Regions, Stations, History, MoreNames};
+ghost use Rattle.std.specs.Prelude.{[], ◌∷◌};
+ghost use Rattle.bike_book.specs.Tables.{Regions, Stations, Riders, History, MoreNames, Books};
+ghost use Rattle.bike_schema.specs.Layouts.{name_of};
 ghost use Rattle.sqlite_resolve.specs.Compile.{first};
 ghost use Rattle.bike_sql.specs.Drops.{IsDrop};
 ghost use Rattle.bike_recognition.specs.EarlierVersions.Earlier.{newest_names, newer_names, stations_name, IsAt};
@@ -10,10 +12,12 @@ ghost use Rattle.sqlite.specs.Effect.{IsDatabase};
 ghost use Rattle.bike_migrate.specs.Calls.{ChangesInside};
 ghost use Rattle.bike_schema.specs.Indexes.{more_names_by_language, more_names_by_thing, history_by_key};
 ghost use Rattle.bike_recognition.specs.EarlierVersions.Counts.{HasCounts, counts_name};
+ghost use Rattle.bike_recognition.specs.EarlierVersions.Riders.{HasRiders, riders_name};
 ghost use Rattle.bike_recognition.specs.EarlierVersions.Kept.{KeptLies, kept_name};
 ghost use Rattle.bike_migrate.specs.Raised.{IsUnnamed, AreUnnamed, HasOldRows, HasOld, HasOldTables};
-ghost use Rattle.bike_migrate.specs.Raised.{MakesTable, MakesIndex, MakesIndexes, MakesNames, MakesHistory, MakesLater};
-ghost use Rattle.bike_migrate.specs.Raised.{MakesMore, MakesTables, Fills, DropsTable, DropsOld};
+ghost use Rattle.bike_migrate.specs.Raised.{MakesTable, MakesIndex, MakesIndexes, MakesNames, MakesHistory};
+ghost use Rattle.bike_migrate.specs.Raised.{MakesRiders, MakesStations, MakesLater, MakesMore, MakesTables, Fills};
+ghost use Rattle.bike_migrate.specs.Raised.{DropsTable, DropsOld};
 
 use crate::copy::fill;
 use crate::inside::run;
@@ -35,6 +39,20 @@ fn create_stations<S: Alter>(conn: &mut Connection<S>) -> Result<(), StatementFa
     ensures { ChangesInside S.Store (IsUnnamed Stations) conn.old conn.new result (MakesTable Stations) }
 {
     run(conn, table!(create stations), &[])
+}
+
+/// Makes the table of riders.
+fn create_riders<S: Alter>(conn: &mut Connection<S>) -> Result<(), StatementFault>
+    ensures { ChangesInside S.Store (IsUnnamed Riders) conn.old conn.new result (MakesTable Riders) }
+{
+    run(conn, table!(create riders), &[])
+}
+
+/// Makes the table of what was archived.
+fn create_books<S: Alter>(conn: &mut Connection<S>) -> Result<(), StatementFault>
+    ensures { ChangesInside S.Store (IsUnnamed Books) conn.old conn.new result (MakesTable Books) }
+{
+    run(conn, table!(create books), &[])
 }
 
 /// Makes the table of further names.
@@ -98,12 +116,30 @@ fn make_names<S: Alter>(conn: &mut Connection<S>) -> Result<(), StatementFault>
     create_indexes(conn)
 }
 
+/// Makes the tables of riders and of what was archived.
+fn make_riders<S: Alter>(conn: &mut Connection<S>) -> Result<(), StatementFault>
+    ensures { ChangesInside S.Store (AreUnnamed (name_of Riders ∷ name_of Books ∷ [])) conn.old conn.new result
+        MakesRiders }
+{
+    create_riders(conn)?;
+    create_books(conn)
+}
+
+/// Makes them, and before them the table of stations.
+fn make_stations<S: Alter>(conn: &mut Connection<S>) -> Result<(), StatementFault>
+    ensures { ChangesInside S.Store (AreUnnamed (name_of Stations ∷ name_of Riders ∷ name_of Books ∷ []))
+        conn.old conn.new result MakesStations }
+{
+    create_stations(conn)?;
+    make_riders(conn)
+}
+
 /// Makes what every earlier version lacks.
 fn make_later<S: Alter>(conn: &mut Connection<S>) -> Result<(), StatementFault>
     ensures { ChangesInside S.Store (AreUnnamed newest_names) conn.old conn.new result MakesLater }
 {
     make_history(conn)?;
-    create_stations(conn)
+    make_stations(conn)
 }
 
 /// Makes what the first two versions lack.
@@ -134,13 +170,14 @@ pub(crate) fn build<S: Alter>(
     conn: &mut Connection<S>,
     earlier: Earlier,
     stations: &[Row],
+    riders: &[Row],
     kept: &[Row],
 ) -> Result<(), StatementFault>
-    ensures { ChangesInside S.Store (HasOldRows earlier stations.now kept.now) conn.old conn.new result
+    ensures { ChangesInside S.Store (HasOldRows earlier stations.now riders.now kept.now) conn.old conn.new result
         (Fills earlier) }
 {
     make_tables(conn, earlier)?;
-    fill(alloc, conn, stations, kept)
+    fill(alloc, conn, stations, riders, kept)
 }
 
 /// The statement that drops its table of stations.
@@ -160,6 +197,14 @@ fn drop_stations<S: Alter>(conn: &mut Connection<S>, earlier: Earlier) -> Result
         (DropsTable (stations_name earlier)) }
 {
     run(conn, drop_text(earlier), &[])
+}
+
+/// Drops the old `riders`.
+fn drop_riders<S: Alter>(conn: &mut Connection<S>) -> Result<(), StatementFault>
+    ensures { ChangesInside S.Store (λ db. IsDatabase db × HasRiders db) conn.old conn.new result
+        (DropsTable riders_name) }
+{
+    run(conn, "DROP TABLE riders", &[])
 }
 
 /// Drops `counts`.
@@ -188,5 +233,6 @@ pub(crate) fn drop_old<S: Alter>(
 {
     drop_kept(conn)?;
     drop_counts(conn)?;
+    drop_riders(conn)?;
     drop_stations(conn, earlier)
 }

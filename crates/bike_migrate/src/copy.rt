@@ -1,16 +1,20 @@
 //! The rows of the old tables, copied into the newest ones.
 
 ghost use Rattle.std.specs.Prelude.{◌≡◌, ◌+◌, [], ◌∷◌, IsTrue, IfOk};
+ghost use Rattle.sqlite_value.specs.declared.value.Value.TheVariants.{Int};
+ghost use Rattle.sqlite_value.specs.Order.{column};
 ghost use Rattle.sqlite_value.specs.Value.{owned};
-ghost use Rattle.bike_book.specs.Tables.{Stations, History};
+ghost use Rattle.bike_book.specs.Tables.{Stations, Riders, History};
 ghost use Rattle.bike_book.specs.Writes.{Add};
 ghost use Rattle.bike_recognition.specs.EarlierVersions.Earlier.{with_text};
+ghost use Rattle.bike_recognition.specs.EarlierVersions.Riders.{completed_rider};
 ghost use Rattle.bike_schema.specs.Tables.{IsOurs};
 ghost use Rattle.bike_migrate.specs.Calls.{ChangesInside};
-ghost use Rattle.bike_migrate.specs.Raised.{version_write, station_writes, request_row, request_writes, first_writes};
-ghost use Rattle.bike_migrate.specs.Raised.{fill_writes, version_names, station_names, request_names, filled_names};
+ghost use Rattle.bike_migrate.specs.Raised.{version_write, station_writes, rider_writes, request_row, request_writes};
+ghost use Rattle.bike_migrate.specs.Raised.{first_writes, later_writes, fill_writes, version_names, station_names};
+ghost use Rattle.bike_migrate.specs.Raised.{rider_names, request_names, later_names, filled_names};
 ghost use Rattle.bike_migrate.specs.Raised.{WritesOnly, WritesBeside, IsOursBeside};
-ghost use Rattle.bike_migrate.specs.Stations.{IsStationRow, IsRequestRow, value_with_text};
+ghost use Rattle.bike_migrate.specs.Stations.{IsStationRow, IsRiderRow, IsRequestRow, value_with_text};
 
 use crate::counts::{old_text, read_counts};
 use crate::inside::run;
@@ -28,10 +32,13 @@ use std::array;
 /// The kinds of a station's columns. An old row has none in the last, which counts as NULL.
 const KINDS: [Kind; stations::COLUMNS] = table!(kinds stations);
 
+/// The kinds of the columns of the old `riders`.
+const RIDER_KINDS: [Kind; 3] = [Kind::Integer, Kind::Integer, Kind::Integer];
+
 /// The kinds of the columns of `kept`.
 const REQUEST_KINDS: [Kind; 4] = [Kind::Text, Kind::Text, Kind::Text, Kind::Text];
 
-/// Sets the version in the row of `meta` to the newest, and the sums, which it hasn't there, to 0.
+/// Sets the version in the row of `meta` to the newest, and the sums to 0, since nothing was archived.
 fn set_version<S: Alter>(conn: &mut Connection<S>) -> Result<(), StatementFault>
     ensures { ChangesInside S.Store IsOurs conn.old conn.new result
         (WritesOnly version_names (version_write ∷ [])) }
@@ -115,6 +122,62 @@ fn fill_stations<S: Alter>(
     Ok(())
 }
 
+/// Whether each column holds what it may hold in the newest table.
+fn is_rider(row: &Row) -> bool
+    ensures { IsTrue result → IsRiderRow row.now }
+{
+    has_kinds(row, &RIDER_KINDS)
+}
+
+/// Adds a rider of this number, of whom nothing was archived, with no plan.
+fn put_rider<S: Alter>(
+    conn: &mut Connection<S>,
+    rider: i64,
+    row: &Row,
+) -> Result<(), StatementFault>
+    requires number { column row.now 0 ≡ Int rider }
+    requires kinds { IsRiderRow row.now }
+    ensures { ChangesInside S.Store IsOurs conn.old conn.new result
+        (WritesOnly rider_names (Add Riders (completed_rider row.now) ∷ [])) }
+{
+    let values = [
+        ValueRef::Int(rider),
+        value_at(row, 1),
+        value_at(row, 2),
+        ValueRef::Int(0),
+        ValueRef::Null,
+    ];
+    run(conn, table!(insert riders), &values)
+}
+
+/// Adds a rider as the old table has it. A sound database stores in a column only what suits it: anything else is
+/// `StoreFailed`.
+fn copy_rider<S: Alter>(conn: &mut Connection<S>, row: &Row) -> Result<(), StatementFault>
+    ensures { ChangesInside S.Store IsOurs conn.old conn.new result
+        (WritesOnly rider_names (Add Riders (completed_rider row.now) ∷ [])) }
+{
+    let ValueRef::Int(rider) = value_at(row, 0) else {
+        return Err(StatementFault::StoreFailed);
+    };
+    if is_rider(row) {
+        put_rider(conn, rider, row)
+    } else {
+        Err(StatementFault::StoreFailed)
+    }
+}
+
+/// Adds these riders.
+fn fill_riders<S: Alter>(conn: &mut Connection<S>, rows: &[Row]) -> Result<(), StatementFault>
+    ensures { ChangesInside S.Store IsOurs conn.old conn.new result
+        (WritesOnly rider_names (rider_writes rows.now)) }
+{
+    check_open(conn)?;
+    for row in rows {
+        copy_rider(conn, row)?;
+    }
+    Ok(())
+}
+
 /// Whether each column holds what it may hold in the table of the history.
 fn is_request(row: &Row) -> bool
     ensures { IsTrue result → IsRequestRow row.now }
@@ -188,16 +251,30 @@ fn fill_requests<S: Alter>(conn: &mut Connection<S>, rows: &[Row]) -> Result<(),
     Ok(())
 }
 
+/// Adds these riders and requests.
+fn fill_later<S: Alter>(
+    conn: &mut Connection<S>,
+    riders: &[Row],
+    kept: &[Row],
+) -> Result<(), StatementFault>
+    ensures { ChangesInside S.Store IsOurs conn.old conn.new result
+        (WritesOnly later_names (later_writes riders.now kept.now)) }
+{
+    fill_riders(conn, riders)?;
+    fill_requests(conn, kept)
+}
+
 /// Sets the version, and adds the rows of the old tables.
 pub(crate) fn fill<S: Alter>(
     alloc: Global,
     conn: &mut Connection<S>,
     stations: &[Row],
+    riders: &[Row],
     kept: &[Row],
 ) -> Result<(), StatementFault>
     ensures { ChangesInside S.Store IsOursBeside conn.old conn.new result
-        (WritesBeside filled_names (λ counts. fill_writes counts stations.now kept.now)) }
+        (WritesBeside filled_names (λ counts. fill_writes counts stations.now riders.now kept.now)) }
 {
     fill_stations(alloc, conn, stations)?;
-    fill_requests(conn, kept)
+    fill_later(conn, riders, kept)
 }

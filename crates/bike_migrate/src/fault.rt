@@ -26,6 +26,7 @@ impl UnsoundRow {
     {
         match (self.earlier, self.row.table) {
             (Some(earlier), TableName::Stations) => earlier.stations_name(),
+            (Some(_), TableName::Riders) => "riders",
             (_, table) => table.name(),
         }
     }

@@ -39,7 +39,8 @@ fn against_stations(table: TableName) -> Ordering
         | TableName::Orders
         | TableName::Entries
         | TableName::History
-        | TableName::MoreNames => Ordering::Greater,
+        | TableName::MoreNames
+        | TableName::Books => Ordering::Greater,
     }
 }
 

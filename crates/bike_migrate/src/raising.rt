@@ -28,13 +28,14 @@ fn raise_inside<S: Alter, P: Watch>(
     conn: &mut Connection<S>,
     earlier: Earlier,
     stations: &[Row],
+    riders: &[Row],
     kept: &[Row],
     watch: &mut P,
 ) -> Result<Option<BadRow>, StatementFault>
-    ensures { DoesInside S.Store (WasRead earlier stations.now kept.now) conn.old conn.new result
+    ensures { DoesInside S.Store (WasRead earlier stations.now riders.now kept.now) conn.old conn.new result
         (λ old new bad. IsJudged earlier old new (option_map row_name bad)) }
 {
-    build(alloc, conn, earlier, stations, kept)?;
+    build(alloc, conn, earlier, stations, riders, kept)?;
     match judge(alloc, conn, earlier, stations, watch)? {
         Some(bad) => Ok(Some(bad)),
         None => {
@@ -60,6 +61,7 @@ fn attempt<S: Alter, P: Watch>(
         conn,
         earlier,
         rows.stations.as_slice(),
+        rows.riders.as_slice(),
         rows.kept.as_slice(),
         watch,
     )

@@ -1,10 +1,11 @@
-//! The rows of the old tables of stations and of requests.
+//! The rows of the old tables of stations, of riders and of requests.
 
 ghost use Rattle.std.specs.Prelude.{◌≡◌, IfOk};
 ghost use Rattle.sqlite_value.specs.Order.{column};
 ghost use Rattle.sqlite_value.specs.Value.{owned};
 ghost use Rattle.bike_sql.specs.Calls.{ReadsWhere};
 ghost use Rattle.bike_recognition.specs.EarlierVersions.Earlier.{stations_layout};
+ghost use Rattle.bike_recognition.specs.EarlierVersions.Riders.{HasRiders, old_riders};
 ghost use Rattle.bike_recognition.specs.EarlierVersions.Kept.{KeptLies, kept_rows};
 ghost use Rattle.bike_migrate.specs.Raised.{old_stations, AreOldRows, HasOld, HasOldTables};
 ghost use Rattle.bike_migrate.specs.Stations.{AsksRows, may_hold, has_kinds, has_few, IsOver};
@@ -39,6 +40,14 @@ fn read_stations<S: Alter>(
     Ok(rows)
 }
 
+/// All rows of the old `riders`, in the order of the riders. The database stays as it is.
+fn read_riders<S: Alter>(conn: &mut Connection<S>) -> Result<Vec<Row>, StatementFault>
+    ensures { ReadsWhere S.Store HasRiders conn.old conn.new result (λ db rows. rows.items ≡ old_riders db) }
+{
+    let rows = conn.query_all("SELECT * FROM riders ORDER BY rider", &[])?;
+    Ok(rows)
+}
+
 /// All rows of `kept`, in the order of their rowids. The database stays as it is.
 fn read_kept<S: Alter>(conn: &mut Connection<S>) -> Result<Vec<Row>, StatementFault>
     ensures { ReadsWhere S.Store KeptLies conn.old conn.new result (λ db rows. rows.items ≡ kept_rows db) }
@@ -47,26 +56,33 @@ fn read_kept<S: Alter>(conn: &mut Connection<S>) -> Result<Vec<Row>, StatementFa
     Ok(rows)
 }
 
-/// The rows of the old tables of stations and of requests.
+/// The rows of the old tables of stations, of riders and of requests.
 #[derive(Drop)]
 pub(crate) struct OldRows {
     /// Those of stations, in the order of their keys.
     pub(crate) stations: Vec<Row>,
+    /// Those of `riders`, in the order of the riders.
+    pub(crate) riders: Vec<Row>,
     /// Those of `kept`, in the order of their rowids.
     pub(crate) kept: Vec<Row>,
 }
 
-/// All rows of the old tables of stations and of requests. The database stays as it is.
+/// All rows of the old tables of stations, of riders and of requests. The database stays as it is.
 pub(crate) fn read_old<S: Alter>(
     conn: &mut Connection<S>,
     earlier: Earlier,
 ) -> Result<OldRows, StatementFault>
     ensures { ReadsWhere S.Store (HasOldTables earlier) conn.old conn.new result
-        (λ db rows. AreOldRows earlier rows.stations.items rows.kept.items db) }
+        (λ db rows. AreOldRows earlier rows.stations.items rows.riders.items rows.kept.items db) }
 {
     let stations = read_stations(conn, earlier)?;
+    let riders = read_riders(conn)?;
     let kept = read_kept(conn)?;
-    Ok(OldRows { stations, kept })
+    Ok(OldRows {
+        stations,
+        riders,
+        kept,
+    })
 }
 
 /// The row's value in a column, and NULL past its end.

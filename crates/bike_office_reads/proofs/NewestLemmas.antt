@@ -1,28 +1,32 @@
 -- What the newest rental of a rider tells, and how all open ones are tested.
-use Rattle.std.proofs.Common.{◌≡◌, ◌≤◌, ◌<◌, ◌+◌, ◌⊎◌, inl, inr, ℕ, zero, suc, List, [], ◌∷◌, Bool, true, false, cond, ◌&&◌, ◌||◌, ◌==◌, Option, Some, None, refl, sym, ap, subst, ◌∙◌, arith}
+use Rattle.std.proofs.Common.{◌≡◌, ◌≤◌, ◌<◌, ◌+◌, ◌-◌, ◌⊎◌, inl, inr, ℕ, zero, suc, List, [], ◌∷◌, Bool, true, false, cond, ◌&&◌, ◌==◌, Option, Some, None, refl, sym, ap, subst, ◌∙◌, arith}
 use Rattle.std.specs.Prelude.{◌↔◌, IsTrue, fold, find, nat_lt, option_map}
 use Rattle.std.proofs.lemmas.Bool.{and_parts, ltb-true, ltb-false, lt-ltb, eqb-true, eq-eqb, true≢false}
 use Rattle.std.proofs.lemmas.Option.{same_Some}
 use Rattle.sqlite_rules.specs.Lists.{Has}
 use Rattle.bike_operator.specs.declared.records.Rental.{Rental}
-use Rattle.bike_operator.specs.Operator.{Operator, item_at, item_numbered}
+use Rattle.bike_operator.specs.Operator.{Operator, Numbered, item_at, item_in, item_numbered}
 use Rattle.bike_operator.specs.Counts.{is_open}
+use Rattle.bike_laws.proofs.SingleSteps.ItemLemmas.{number_behind}
 use Rattle.bike_book.specs.Stored.{numbers_from, with_numbers}
 use Rattle.bike_office_reads.specs.declared.newest.Ride.{Ride}
 use Rattle.bike_office_reads.specs.Newest.{NewestTells, later_of, newest_rental, open_number_in, newest_open, open_number, number_in, newest_number, open_after, ride_of}
 
 -- ---- rentals with their numbers
 
-has_own : (xs : List Rental) (n : ℕ) (x : Rental) → item_numbered n xs ≡ Some x → Has (with_numbers xs) (n, x)
-has_own xs zero x is = absurd cc
-has_own xs (suc k) x is = subst (λ n. Has (with_numbers xs) (n, x)) (omega arith) (at 1 xs k is) where
+has_own : (l : Numbered Rental) (n : ℕ) (x : Rental) → item_numbered n l ≡ Some x → Has (with_numbers l) (n, x)
+has_own l n x is = from (n - l.archived) refl is where
   at : (n : ℕ) (ys : List Rental) (i : ℕ) → item_at i ys ≡ Some x → Has (numbers_from n ys) (n + i, x)
   at n [] i is = absurd cc
   at n (y ∷ ys) zero is = inl (let same = same_Some y x is in let first : n + 0 ≡ n = omega arith in λ j. (first j, sym same j))
   at n (y ∷ ys) (suc i) is = inr (subst (λ m. Has (numbers_from (suc n) ys) (m, x)) (omega arith) (at (suc n) ys i is))
 
-own_number : (xs : List Rental) (e : ℕ × Rental) → Has (with_numbers xs) e → item_numbered e.0 xs ≡ Some e.1
-own_number xs e has = let it = at 1 xs has in let is : e.0 ≡ suc it.0 = omega (arith, it.1) in ap (λ n. item_numbered n xs) is ∙ it.2
+  from : (k : ℕ) → n - l.archived ≡ k → item_in k l.items ≡ Some x → Has (with_numbers l) (n, x)
+  from zero place is = absurd cc
+  from (suc k) place is = subst (λ m. Has (with_numbers l) (m, x)) (omega (arith, place)) (at (suc l.archived) l.items k is)
+
+own_number : (l : Numbered Rental) (e : ℕ × Rental) → Has (with_numbers l) e → item_numbered e.0 l ≡ Some e.1
+own_number l e has = let it = at (suc l.archived) l.items has in let is : e.0 - l.archived ≡ suc it.0 = let own = it.1 in omega (arith, own) in ap (λ n. item_in n l.items) is ∙ it.2
   where
     at : (n : ℕ) (ys : List Rental) → Has (numbers_from n ys) e → (i : ℕ) × (e.0 ≡ n + i) × (item_at i ys ≡ Some e.1)
     at n [] has = elim has [ ]
@@ -85,10 +89,10 @@ module _ (rider : ℕ) where
       by false whose it = (it.0, none_more n x xs whose it.1)
 
   newest_is : (s : Operator) (e : ℕ × Rental) → newest_rental s rider ≡ Some e → IsNewest (with_numbers s.rentals) e
-  newest_is s e is = elim (found_newest 1 s.rentals None e is) [ inl it ↦ it | inr none ↦ absurd (let e = none.0 in cc) ]
+  newest_is s e is = elim (found_newest (suc s.rentals.archived) s.rentals.items None e is) [ inl it ↦ it | inr none ↦ absurd (let e = none.0 in cc) ]
 
   no_newest : (s : Operator) → newest_rental s rider ≡ None → NoneHis (with_numbers s.rentals)
-  no_newest s is = (none_found 1 s.rentals None is).1
+  no_newest s is = (none_found (suc s.rentals.archived) s.rentals.items None is).1
 
 -- ---- open rentals one after another
 
@@ -98,8 +102,7 @@ AreNewestTo s n =
     (a b : ℕ) (q r : Rental) → a ≤ n → item_numbered a s.rentals ≡ Some q → item_numbered b s.rentals ≡ Some r → is_open q ≡ true → r.rider ≡ q.rider → b ≤ a
 
 pub none_to_zero : (s : Operator) → AreNewestTo s 0
-none_to_zero s zero b q r low i = absurd cc
-none_to_zero s (suc a) b q r low i = absurd (omega (arith, low))
+none_to_zero s a b q r low i = let first = number_behind a s.rentals q i in absurd (omega (arith, low, first))
 
 module _ (test : ℕ × Rental → Bool) where
   -- what is found passes, and each other one that does has a greater number
@@ -163,18 +166,18 @@ module _ (s : Operator) (rider : ℕ) where
     newest_decides = by (newest_rental s rider) (find rides (with_numbers s.rentals)) refl refl
       where
         shut : (e : ℕ × Rental) → IsNewest rider (with_numbers s.rentals) e → find rides (with_numbers s.rentals) ≡ None → (b : Bool) → is_open e.1 ≡ b → cond b (Some e.0) None ≡ None
-        shut e it none true ongoing = absurd (true≢false (sym (goes_on e it.his ongoing) ∙ none_passes rides 1 s.rentals e none it.has))
+        shut e it none true ongoing = absurd (true≢false (sym (goes_on e it.his ongoing) ∙ none_passes rides (suc s.rentals.archived) s.rentals.items e none it.has))
         shut e it none false ended = refl
 
         by : (o p : Option (ℕ × Rental)) → newest_rental s rider ≡ o → find rides (with_numbers s.rentals) ≡ p → open_number_in o ≡ option_map (λ e. e.0) p
         by None None last found = refl
         by None (Some f) last found =
-            let it = first_found rides 1 s.rentals f found in
+            let it = first_found rides (suc s.rentals.archived) s.rentals.items f found in
             let both = and_parts (f.1.rider == rider) (is_open f.1) it.passes in
             absurd (no_newest rider s last f it.has (eqb-true f.1.rider rider both.0))
         by (Some e) None last found = shut e (newest_is rider s e last) found (is_open e.1) refl
         by (Some e) (Some f) last found =
-            let it = first_found rides 1 s.rentals f found in
+            let it = first_found rides (suc s.rentals.archived) s.rentals.items f found in
             let same = last_of_his e f (newest_is rider s e last) it.has it.passes in
             ap (λ (b : Bool). cond b (Some e.0) None) same.1 ∙ ap Some (sym same.0)
 
@@ -190,12 +193,12 @@ module _ (s : Operator) (n : ℕ) where
   all_newest none so_far a b q r i j ongoing same = by (nat_lt n a) refl
     where
       by : (t : Bool) → nat_lt n a ≡ t → b ≤ a
-      by true above = absurd (true≢false (sym (behind a q (ltb-true n a above) ongoing) ∙ none_passes is_behind 1 s.rentals (a, q) none (has_own s.rentals a q i)))
+      by true above = absurd (true≢false (sym (behind a q (ltb-true n a above) ongoing) ∙ none_passes is_behind (suc s.rentals.archived) s.rentals.items (a, q) none (has_own s.rentals a q i)))
       by false up_to = so_far a b q r (let low = ltb-false n a up_to in omega (arith, low)) i j ongoing same
 
   module _ (e : ℕ × Rental) (next : open_after s n ≡ Some e) where
     first : IsFirst is_behind (with_numbers s.rentals) e
-    first = first_found is_behind 1 s.rentals e next
+    first = first_found is_behind (suc s.rentals.archived) s.rentals.items e next
 
     -- the next one is the newest of its rider too
     pub next_newest : newest_number s e.1.rider ≡ e.0 → AreNewestTo s n → AreNewestTo s e.0

@@ -249,32 +249,33 @@ behind_is a b = by (nat_cmp a b) (ranks a b) where
   by Equal h = sym (le-ltb b a (omega (arith, h)))
   by Greater h = sym (lt-ltb b a h)
 
-pub newest_found : (s : Operator) (rider : ℕ) → slice_get (last_of (rows_where (1 ∷ []) (number_value rider ∷ []) (map (stored_rental s.entries) (with_numbers s.rentals)))) 0
-    ≡ option_map (stored_rental s.entries) (newest_rental s rider)
+pub newest_found : (s : Operator) (rider : ℕ) → slice_get (last_of (rows_where (1 ∷ []) (number_value rider ∷ []) (map (stored_rental s.entries.items) (with_numbers s.rentals)))) 0
+    ≡ option_map (stored_rental s.entries.items) (newest_rental s rider)
 newest_found s rider =
     let passes = λ (row : Row). is_eq (row_cmp (map (column row) (1 ∷ [])) (number_value rider ∷ [])) in
-    none_before (filter passes (map (stored_rental s.entries) (with_numbers s.rentals)))
-    ∙ last_passed (stored_rental s.entries) passes (λ e. e.1.rider == rider) (λ e. same_number e.1.rider rider) None (with_numbers s.rentals)
+    none_before (filter passes (map (stored_rental s.entries.items) (with_numbers s.rentals)))
+    ∙ last_passed (stored_rental s.entries.items) passes (λ e. e.1.rider == rider) (λ e. same_number e.1.rider rider) None (with_numbers s.rentals)
 
-pub open_found : (s : Operator) (number : ℕ) → slice_get (filter (is_open_behind number) (map (stored_rental s.entries) (with_numbers s.rentals))) 0
-    ≡ option_map (stored_rental s.entries) (open_after s number)
+pub open_found : (s : Operator) (number : ℕ) → slice_get (filter (is_open_behind number) (map (stored_rental s.entries.items) (with_numbers s.rentals))) 0
+    ≡ option_map (stored_rental s.entries.items) (open_after s number)
 open_found s number =
-    first_passed (stored_rental s.entries) (is_open_behind number) (λ e. nat_lt number e.0 && is_open e.1)
-    (λ e. ap₂ (λ (a b : Bool). a && b) (ap is_gt (value_cmp-number_value e.0 number) ∙ behind_is e.0 number) (finish_null s.entries e.0 e.1 e.1.closing)) (with_numbers s.rentals)
+    first_passed (stored_rental s.entries.items) (is_open_behind number) (λ e. nat_lt number e.0 && is_open e.1)
+    (λ e. ap₂ (λ (a b : Bool). a && b) (ap is_gt (value_cmp-number_value e.0 number) ∙ behind_is e.0 number) (finish_null s.entries.items e.0 e.1 e.1.closing)) (with_numbers s.rentals)
 
 -- the number of each is greater than 0
-pub all_open : (s : Operator) → filter (is_open_behind 0) (map (stored_rental s.entries) (with_numbers s.rentals)) ≡ rows_open (map (stored_rental s.entries) (with_numbers s.rentals))
-all_open s = go 0 s.rentals where
-  go : (n : ℕ) (rs : List Rental) → filter (is_open_behind 0) (map (stored_rental s.entries) (numbers_from (suc n) rs)) ≡ rows_open (map (stored_rental s.entries) (numbers_from (suc n) rs))
+pub all_open : (s : Operator) → filter (is_open_behind 0) (map (stored_rental s.entries.items) (with_numbers s.rentals)) ≡ rows_open (map (stored_rental s.entries.items) (with_numbers s.rentals))
+all_open s = go s.rentals.archived s.rentals.items where
+  go : (n : ℕ) (rs : List Rental) → filter (is_open_behind 0) (map (stored_rental s.entries.items) (numbers_from (suc n) rs))
+      ≡ rows_open (map (stored_rental s.entries.items) (numbers_from (suc n) rs))
   go n [] = refl
   go n (r ∷ rs) =
-      let row : Row = stored_rental s.entries (suc n, r) in
+      let row : Row = stored_rental s.entries.items (suc n, r) in
       ap₂ (λ (b : Bool) (rest : List Row). cond b (row ∷ rest) rest)
       (ap (λ (b : Bool). b && list_all is_null (map (column row) (7 ∷ []))) (ap is_gt (value_cmp-number_value (suc n) 0) ∙ behind_is (suc n) 0 ∙ lt-ltb 0 (suc n) (omega arith))) (go (suc n) rs)
 
 -- ---- what is read of those rows
 
-pub newest_last : (es : List Entry) (o : Option (ℕ × Rental)) → IsLast (number_in o) (option_map (stored_rental es) o)
+pub newest_last : (es : List Entry) (o : Option (ℕ × Rental)) → IsLast 0 (number_in o) (option_map (stored_rental es) o)
 newest_last es None = refl
 newest_last es (Some e) = refl
 

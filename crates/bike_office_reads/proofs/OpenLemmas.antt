@@ -1,5 +1,5 @@
 -- The rider's open rental, by the row that holds it.
-use Rattle.std.proofs.Common.{◌≡◌, ℕ, Bool, Option, Some, None, is_some, refl, sym, ap, ◌∙◌}
+use Rattle.std.proofs.Common.{◌≡◌, ℕ, Option, Some, None, is_some, refl, sym, ap, ◌∙◌}
 use Rattle.std.specs.Prelude.{option_map}
 use Rattle.std.proofs.lemmas.Option.{same_Some}
 use Rattle.sqlite_value.specs.Order.{Row, column}
@@ -18,14 +18,14 @@ pub open_found : (s : Operator) (m : Listed) → IsSound s → IsListing s m →
     → rental ≡ open_number s rider
 open_found s m sound listing rider row rental is held = by (open_rental s rider) row rental (is ∙ (found_by_columns s m sound listing).open_rental_is rider) held
   where
-    by : (o : Option (ℕ × Rental)) (row : Option Row) (rental : Option ℕ) → row ≡ option_map (stored_rental s.entries) o → HoldsRental row rental → rental ≡ option_map (λ e. e.0) o
+    by : (o : Option (ℕ × Rental)) (row : Option Row) (rental : Option ℕ) → row ≡ option_map (stored_rental s.entries.items) o → HoldsRental row rental → rental ≡ option_map (λ e. e.0) o
     by None None None is held = refl
     by None None (Some n) is held = absurd held
     by None (Some row) rental is held = absurd cc
     by (Some e) None rental is held = absurd cc
     by (Some e) (Some row) None is held = absurd held
     by (Some e) (Some row) (Some n) is held =
-        let first : column row 0 ≡ number_value e.0 = ap (λ r. column r 0) (same_Some row (stored_rental s.entries e) is) in
+        let first : column row 0 ≡ number_value e.0 = ap (λ r. column r 0) (same_Some row (stored_rental s.entries.items e) is) in
         let same : number_value n ≡ number_value e.0 = sym held ∙ first in
         cc
 
@@ -35,6 +35,6 @@ rides_where_open s m sound listing rider =
     let found = found_by_columns s m sound listing in
     by (open_rental s rider) ∙ sym (ap is_some (found.open_rental_is rider)) ∙ found.riding rider
   where
-    by : (o : Option (ℕ × Rental)) → is_some (option_map (λ e. e.0) o) ≡ is_some (option_map (stored_rental s.entries) o)
+    by : (o : Option (ℕ × Rental)) → is_some (option_map (λ e. e.0) o) ≡ is_some (option_map (stored_rental s.entries.items) o)
     by None = refl
     by (Some e) = refl

@@ -7,7 +7,7 @@ use Rattle.bike_sql.specs.View.{row_with, rows_where, last_of}
 use Rattle.bike_sql.proofs.PageLaw.{map_same_list}
 use Rattle.bike_sql.proofs.SelectLaws.{every_column, last_row, first_with, first_with_null}
 use Rattle.bike_sql.proofs.WalkLaw.{Finds}
-use Rattle.bike_book.specs.Tables.{Meta, System, Plans, Riders, Rentals, Entries, History}
+use Rattle.bike_book.specs.Tables.{Meta, System, Plans, Riders, Rentals, Entries, History, Books}
 use Rattle.bike_book.specs.Rows.{number_value}
 use Rattle.bike_book.specs.Found.{rows_open}
 use Rattle.bike_schema.specs.Layouts.{layout_of}
@@ -29,9 +29,13 @@ pub finds_system : FindsIn (codes "SELECT * FROM system WHERE one = ?1") (number
 unfolding everything
 finds_system = keyed_in System (λ tree. refl, refl) refl
 
-pub finds_rider : (rider : ℕ) → FindsIn (codes "SELECT * FROM riders WHERE rider = ?1") (number_value rider ∷ []) (λ t. row_with 1 (number_value rider ∷ []) t.riders)
+pub finds_rider : (rider : ℕ) → FindsIn (codes "SELECT * FROM riders_4 WHERE rider = ?1") (number_value rider ∷ []) (λ t. row_with 1 (number_value rider ∷ []) t.riders)
 unfolding everything
 finds_rider rider = keyed_in Riders (λ tree. refl, refl) refl
+
+pub finds_books : FindsIn (codes "SELECT * FROM books WHERE one = ?1") (number_value 1 ∷ []) (λ t. row_with 1 (number_value 1 ∷ []) t.books)
+unfolding everything
+finds_books = keyed_in Books (λ tree. refl, refl) refl
 
 pub finds_rental : (rental : ℕ) → FindsIn (codes "SELECT * FROM rentals WHERE rental = ?1") (number_value rental ∷ []) (λ t. row_with 1 (number_value rental ∷ []) t.rentals)
 unfolding everything
@@ -39,7 +43,7 @@ finds_rental rental = keyed_in Rentals (λ tree. refl, refl) refl
 
 -- ---- last rows
 
-pub finds_last_rider : FindsIn (codes "SELECT * FROM riders ORDER BY rider DESC LIMIT 1") [] (λ t. slice_get (last_of t.riders) 0)
+pub finds_last_rider : FindsIn (codes "SELECT * FROM riders_4 ORDER BY rider DESC LIMIT 1") [] (λ t. slice_get (last_of t.riders) 0)
 unfolding everything
 finds_last_rider = record { finds = λ db has. last_row (table_key Riders) (has Riders) (λ tree. refl, refl) }
 
@@ -94,6 +98,6 @@ lists_plans_from start = lists_within Plans 1 (Text start) (Blob []) refl refl (
 
 -- ---- counts
 
-pub counts_riders : FindsIn (codes "SELECT count(*) FROM riders") [] (λ t. Some (count (length t.riders) ∷ []))
+pub counts_riders : FindsIn (codes "SELECT count(*) FROM riders_4") [] (λ t. Some (count (length t.riders) ∷ []))
 unfolding everything
 counts_riders = counted_in Riders (λ tree. refl, refl)

@@ -1,5 +1,5 @@
 -- The newest rental of a rider, and where it tells if he is riding.
-use Rattle.std.specs.Prelude.{◌≡◌, ◌≤◌, ◌==◌, ◌&&◌, ℕ, nat_lt, Bool, true, false, Option, Some, None, fold, find}
+use Rattle.std.specs.Prelude.{◌≡◌, ◌≤◌, ◌==◌, ◌&&◌, ℕ, nat_lt, true, Option, Some, None, fold, find}
 use Rattle.std.specs.Prelude.{option_map, if◌then◌else◌}
 use Rattle.sqlite_value.specs.Order.{Row, column}
 use Rattle.bike_operator.specs.declared.records.Rental.{Rental}

@@ -1,5 +1,5 @@
 -- What is read of rows by their columns.
-use Rattle.std.specs.Prelude.{◌≡◌, ◌&&◌, ℕ, List, [], ◌∷◌, map, Bool, Option, Some}
+use Rattle.std.specs.Prelude.{◌≡◌, ◌&&◌, ℕ, ℤ, List, [], ◌∷◌, map, Bool, Option, Some}
 use Rattle.std.specs.Ordering.{is_eq}
 use Rattle.sqlite_value.specs.declared.value.Value.TheVariants.{Text}
 use Rattle.sqlite_value.specs.Order.{Row, column, value_cmp}
@@ -9,11 +9,11 @@ use Rattle.bike_operator.specs.declared.records.Closing.{Closing}
 use Rattle.bike_fields.specs.declared.name_kind.NameKind.{NameKind}
 use Rattle.bike_fields.specs.NameKinds.{kind_text}
 use Rattle.bike_catalogue.specs.Rows.{MoreNameRow}
-use Rattle.bike_operator.specs.Operator.{AcceptedRequest, NameKey}
+use Rattle.bike_operator.specs.Operator.{Rider, AcceptedRequest, NameKey}
 use Rattle.bike_operator.specs.Names.{part_at}
-use Rattle.bike_book.specs.Rows.{closing_columns}
+use Rattle.bike_operator.specs.declared.view.RiderView.{RiderView}
+use Rattle.bike_book.specs.Rows.{number_value, closing_columns, rider_row}
 use Rattle.bike_book.specs.Stored.{stored_name, stored_request}
-use Rattle.bike_book.specs.Found.{IsLast, IsLastMoment}
 use Rattle.bike_office_reads.specs.declared.kept.KeptRow.{KeptRow}
 use Rattle.bike_office_reads.specs.declared.kept.LastRequest.{LastRequest}
 use Rattle.bike_office_reads.specs.Accounts.{KeepsSame}
@@ -22,6 +22,15 @@ use Rattle.bike_schema.specs.Within.{is_within}
 -- the row is that of one count
 abbrev pub IsCountOf : ℕ → Row → Type 0
 IsCountOf n row = row ≡ count n ∷ []
+
+-- the row of a rider who is shown so, with the balance by archived entries
+abbrev pub shown_rider_row : ℕ → ℤ → RiderView → Row
+shown_rider_row rider before r =
+    rider_row rider (record { is_blocked = r.is_blocked; plan = r.plan; before = before }) r.balance
+
+-- the balance in the row of a rider, whatever else stands there
+abbrev pub IsBalanceOf : Row → ℤ → Type 0
+IsBalanceOf row balance = (rider : ℕ) (r : Rider) (stored : ℤ) → row ≡ rider_row rider r stored → balance ≡ stored
 
 -- the closing that stands in the row of a rental
 abbrev pub HasClosing : Row → Option Closing → Type 0
@@ -33,10 +42,10 @@ KeepsRow row x =
     (number : ℕ) (a : AcceptedRequest) → IsReply a.reply → row ≡ stored_request (number, a)
     → KeepsSame (Some a) (Some x)
 
--- what the last row of the history tells of its request
-abbrev pub IsLastRead : Option Row → LastRequest → Type 0
+-- what a row of the history tells of its request's number and moment
+abbrev pub IsLastRead : Row → LastRequest → Type 0
 IsLastRead row last =
-    (number moment : ℕ) → IsLast number row → IsLastMoment moment row
+    (number moment : ℕ) → column row 0 ≡ number_value number → column row 1 ≡ number_value moment
     → last ≡ record { number = number; moment = moment }
 
 -- the further name of an entry of the operator's

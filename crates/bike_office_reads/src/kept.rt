@@ -9,6 +9,7 @@ ghost use Rattle.bike_schema.specs.Answers.{Answers};
 ghost use Rattle.bike_office_reads.specs.Accounts.{KeepsSame, last_request_of};
 ghost use Rattle.bike_office_reads.specs.ReadRows.{KeepsRow, IsLastRead};
 
+use crate::books::find_archived;
 use bike_book::RequestCount;
 use bike_book::columns::history;
 use bike_commands::Reply;
@@ -27,7 +28,8 @@ pub struct KeptRow {
     pub reply: Reply,
 }
 
-/// The number of the last accepted request, which is how many there are, and its moment; both 0 where there is none.
+/// The number of the last accepted request, which is how many there are, archived ones included, and its moment, which
+/// is 0 where all were archived.
 #[derive(Clone, Copy)]
 pub struct LastRequest {
     /// Its number.
@@ -74,7 +76,7 @@ pub fn find_kept<S: Alter>(
     key: &str,
 ) -> Result<Option<KeptRow>, StatementFault>
     ensures { Answers S.Store conn.old conn.new result
-        (λ s m x. KeepsSame (kept_under (key_of caller.now key.now) s.history) x) }
+        (λ s m x. KeepsSame (kept_under (key_of caller.now key.now) s.history.items) x) }
 {
     match find_kept_row(conn, caller, key)? {
         Some(row) => Ok(Some(read_kept(alloc, &row)?)),
@@ -93,28 +95,25 @@ fn find_last_request<S: Alter>(conn: &mut Connection<S>) -> Result<Option<Row>, 
     )
 }
 
-/// The number and the moment in the last row, and 0 where there is none.
-fn read_last(row: &Option<Row>) -> Result<LastRequest, StatementFault>
+/// The number and the moment in a row of `history`.
+fn read_last(row: &Row) -> Result<LastRequest, StatementFault>
     ensures { IfOk result (IsLastRead row.now) }
 {
-    match row {
-        Some(row) => {
-            let number = request_count_at(row, history::NUMBER)?;
-            let moment = moment_at(row, history::MOMENT)?;
-            Ok(LastRequest { number, moment })
-        }
-        None => {
-            let number = RequestCount::new(0).ok_or(StatementFault::StoreFailed)?;
-            let moment = Moment::new(0).ok_or(StatementFault::StoreFailed)?;
-            Ok(LastRequest { number, moment })
-        }
-    }
+    let number = request_count_at(row, history::NUMBER)?;
+    let moment = moment_at(row, history::MOMENT)?;
+    Ok(LastRequest { number, moment })
 }
 
 /// The last accepted request. Every fault is the database's.
 pub fn last_request<S: Alter>(conn: &mut Connection<S>) -> Result<LastRequest, StatementFault>
     ensures { Answers S.Store conn.old conn.new result (λ s m last. last ≡ last_request_of s) }
 {
-    let row = find_last_request(conn)?;
-    read_last(&row)
+    match find_last_request(conn)? {
+        Some(row) => read_last(&row),
+        None => {
+            let number = find_archived(conn)?.requests;
+            let moment = Moment::new(0).ok_or(StatementFault::StoreFailed)?;
+            Ok(LastRequest { number, moment })
+        }
+    }
 }

@@ -1,6 +1,6 @@
 //! The moment in `meta`.
 
-ghost use Rattle.std.specs.Prelude.{◌≡◌, pos, [], ◌∷◌};
+ghost use Rattle.std.specs.Prelude.{◌≡◌, [], ◌∷◌};
 ghost use Rattle.bike_book.specs.declared.version.TheConstants.{NEWEST};
 ghost use Rattle.bike_book.specs.Tables.{Meta};
 ghost use Rattle.bike_book.specs.Rows.{number_value, meta_row};
@@ -21,9 +21,9 @@ fn find_meta_row<S: Alter>(conn: &mut Connection<S>) -> Result<Option<Row>, Stat
     first_row(conn, "SELECT * FROM meta WHERE one = ?1", params![1_i64])
 }
 
-/// The moment that stands in a row of `meta`.
+/// The moment that stands in a row of `meta`, whatever the sums beside it.
 fn read_since(row: &Row) -> Result<Moment, StatementFault>
-    ensures { IsReadOf (λ since. meta_row NEWEST since (pos 0) (pos 0)) row.now result }
+    ensures { (cash : _) (revenue : _) → IsReadOf (λ since. meta_row NEWEST since cash revenue) row.now result }
 {
     moment_at(row, meta::NOW)
 }

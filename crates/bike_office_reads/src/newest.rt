@@ -31,7 +31,7 @@ fn find_newest_row<S: Alter>(
     rider: RiderNumber,
 ) -> Result<Option<Row>, StatementFault>
     ensures { Answers S.Store conn.old conn.new result
-        (λ s m row. row ≡ option_map (stored_rental s.entries) (newest_rental s rider)) }
+        (λ s m row. row ≡ option_map (stored_rental s.entries.items) (newest_rental s rider)) }
 {
     first_row(
         conn,
@@ -87,7 +87,7 @@ fn find_open_row_after<S: Alter>(
     number: u32,
 ) -> Result<Option<Row>, StatementFault>
     ensures { Answers S.Store conn.old conn.new result
-        (λ s m row. row ≡ option_map (stored_rental s.entries) (open_after s number)) }
+        (λ s m row. row ≡ option_map (stored_rental s.entries.items) (open_after s number)) }
 {
     first_row(conn, OPEN_AFTER, params![number])
 }

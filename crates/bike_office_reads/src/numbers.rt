@@ -1,6 +1,8 @@
 //! Numbers that the database answers: counts of rows, and the number of a last row.
 
 ghost use Rattle.std.specs.Prelude.{◌≡◌, IfOk, length, nat_le};
+ghost use Rattle.sqlite_value.specs.Order.{column};
+ghost use Rattle.bike_book.specs.Rows.{number_value};
 ghost use Rattle.bike_book.specs.Found.{IsLast};
 ghost use Rattle.bike_office_reads.specs.ReadRows.{IsCountOf};
 
@@ -25,12 +27,19 @@ pub(crate) fn count_rows(rows: &[Row]) -> Result<u32, StatementFault>
     }
 }
 
+/// The number in a column.
+pub(crate) fn number_in(row: &Row, at: usize) -> Result<u32, StatementFault>
+    ensures { IfOk result (λ x. (n : _) → column row.now at ≡ number_value n → x ≡ n) }
+{
+    Ok(row.get(at)?)
+}
+
 /// The number with which the last row begins, and 0 where there is none.
 pub(crate) fn last_number(row: &Option<Row>) -> Result<u32, StatementFault>
-    ensures { IfOk result (λ x. (n : _) → IsLast n row.now → x ≡ n) }
+    ensures { IfOk result (λ x. (n : _) → IsLast 0 n row.now → x ≡ n) }
 {
     match row {
-        Some(row) => Ok(row.get(0)?),
+        Some(row) => number_in(row, 0),
         None => Ok(0),
     }
 }

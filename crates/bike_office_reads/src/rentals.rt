@@ -1,6 +1,7 @@
 //! The rentals.
 
-ghost use Rattle.std.specs.Prelude.{◌≡◌, [], ◌∷◌, IfOk, IsTrue, length};
+ghost use Rattle.std.specs.Prelude.{◌≡◌, [], ◌∷◌, IfOk, IsTrue};
+ghost use Rattle.bike_operator.specs.Operator.{last_number};
 ghost use Rattle.bike_operator.specs.Counts.{is_riding as rides, open_rentals};
 ghost use Rattle.bike_book.specs.Tables.{Rentals};
 ghost use Rattle.bike_book.specs.Rows.{number_value, rental_row};
@@ -10,8 +11,9 @@ ghost use Rattle.bike_office_reads.specs.Accounts.{stored_rental_at};
 ghost use Rattle.bike_office_reads.specs.Newest.{NewestTells, open_number, HoldsRental};
 ghost use Rattle.bike_office_reads.specs.ReadRows.{HasClosing};
 
+use crate::books::find_archived;
 use crate::newest::{find_newest_open, select_open};
-use crate::numbers::{count_rows, last_number};
+use crate::numbers::{count_rows, number_in};
 use bike_book::columns::rentals;
 use bike_fields::{RentalNumber, RiderNumber};
 use bike_fixed::Cents;
@@ -164,12 +166,15 @@ pub fn is_riding<S: Alter>(
     Ok(rental.is_some())
 }
 
-/// How many rentals there are, as the last one's number says. Every fault is the database's.
+/// How many rentals there are, archived ones included, as the last one's number says, or what was archived where there
+/// is none behind it. Every fault is the database's.
 pub fn rental_count<S: Alter>(conn: &mut Connection<S>) -> Result<u32, StatementFault>
-    ensures { Answers S.Store conn.old conn.new result (λ s m x. x ≡ length s.rentals) }
+    ensures { Answers S.Store conn.old conn.new result (λ s m x. x ≡ last_number s.rentals) }
 {
-    let row = find_last_rental(conn)?;
-    last_number(&row)
+    match find_last_rental(conn)? {
+        Some(row) => number_in(&row, rentals::RENTAL),
+        None => Ok(find_archived(conn)?.rentals),
+    }
 }
 
 /// How many rentals are open, by their rows: no more than there are bicycles. `NoMemory` where these find no room;

@@ -1,27 +1,28 @@
 //! The riders.
 
-ghost use Rattle.std.specs.Prelude.{◌≡◌, ◌≤◌, [], ◌∷◌, Some};
+ghost use Rattle.std.specs.Prelude.{◌≡◌, ◌≤◌, [], ◌∷◌, Some, IfOk};
 ghost use Rattle.std.specs.FinMap as map;
 ghost use Rattle.sqlite_sql.specs.Aggregate.{count};
-ghost use Rattle.bike_ledger.specs.Ledger.{balance_of};
 ghost use Rattle.bike_operator.specs.declared.limits.TheConstants.{MOST_RIDERS};
-ghost use Rattle.bike_operator.specs.View.{is_at_limit, rider_at};
+ghost use Rattle.bike_operator.specs.View.{is_at_limit, rider_at, rider_balance};
 ghost use Rattle.bike_book.specs.Tables.{Riders};
-ghost use Rattle.bike_book.specs.Rows.{number_value, rider_row};
+ghost use Rattle.bike_book.specs.Rows.{number_value};
 ghost use Rattle.bike_book.specs.Found.{row_under, last_row, row_count};
 ghost use Rattle.bike_schema.specs.Answers.{Answers, IsReadOf};
+ghost use Rattle.bike_office_reads.specs.ReadRows.{IsBalanceOf, shown_rider_row};
 
 use crate::numbers::{last_number, reaches};
 use bike_book::columns::riders;
 use bike_fields::RiderNumber;
 use bike_fixed::Cents;
 use bike_operator::{MOST_RIDERS, RiderView};
-use bike_schema::{StatementFault, cents_at, flag_at};
+use bike_schema::{StatementFault, cents_at, flag_at, optional_ident_at};
 use bike_sql::lookup::first_row;
 use sqlite::{Alter, Connection, Row, params};
+use std::alloc::Global;
 
-/// The rider's row of `riders`.
-fn find_rider_row<S: Alter>(
+/// The rider's row of `riders_4`.
+pub fn find_rider_row<S: Alter>(
     conn: &mut Connection<S>,
     rider: RiderNumber,
 ) -> Result<Option<Row>, StatementFault>
@@ -30,30 +31,39 @@ fn find_rider_row<S: Alter>(
 {
     first_row(
         conn,
-        "SELECT * FROM riders WHERE rider = ?1",
+        "SELECT * FROM riders_4 WHERE rider = ?1",
         params![rider.get()],
     )
 }
 
-/// The rider that stands in a row of `riders`, whatever the number.
-fn read_rider(row: &Row) -> Result<RiderView, StatementFault>
-    ensures { (rider : _) → IsReadOf (λ r. rider_row rider r.is_blocked r.balance) row.now result }
+/// The rider that stands in a row of `riders_4`, whatever the number and the balance by archived entries.
+fn read_rider(alloc: Global, row: &Row) -> Result<RiderView, StatementFault>
+    ensures { (rider : _) (before : _) → IsReadOf (shown_rider_row rider before) row.now result }
 {
     let is_blocked = flag_at(row, riders::BLOCKED)?;
+    let plan = optional_ident_at(alloc, row, riders::PLAN_ID)?;
     let balance = cents_at(row, riders::BALANCE)?;
     Ok(RiderView {
         is_blocked,
+        plan,
         balance,
     })
 }
 
-/// The last row of `riders`.
+/// The balance that stands in a row of `riders_4`.
+fn read_balance(row: &Row) -> Result<Cents, StatementFault>
+    ensures { IfOk result (IsBalanceOf row.now) }
+{
+    cents_at(row, riders::BALANCE)
+}
+
+/// The last row of `riders_4`.
 fn find_last_row<S: Alter>(conn: &mut Connection<S>) -> Result<Option<Row>, StatementFault>
     ensures { Answers S.Store conn.old conn.new result (λ s m row. row ≡ last_row s m Riders) }
 {
     first_row(
         conn,
-        "SELECT * FROM riders ORDER BY rider DESC LIMIT 1",
+        "SELECT * FROM riders_4 ORDER BY rider DESC LIMIT 1",
         &[],
     )
 }
@@ -63,7 +73,7 @@ fn count_riders<S: Alter>(conn: &mut Connection<S>) -> Result<Option<Row>, State
     ensures { Answers S.Store conn.old conn.new result
         (λ s m row. row ≡ Some (count (row_count s m Riders) ∷ [])) }
 {
-    first_row(conn, "SELECT count(*) FROM riders", &[])
+    first_row(conn, "SELECT count(*) FROM riders_4", &[])
 }
 
 /// The last rider's number, 0 where there is none. There are at most so many riders, since their numbers begin at 1.
@@ -107,15 +117,17 @@ pub fn are_riders_full<S: Alter>(conn: &mut Connection<S>) -> Result<bool, State
     is_count_full(conn)
 }
 
-/// The rider of this number, if there is one. Every fault is the database's.
+/// The rider of this number, if there is one. `NoMemory` where its plan finds no room; every other fault is the
+/// database's.
 pub fn find_rider<S: Alter>(
+    alloc: Global,
     conn: &mut Connection<S>,
     rider: RiderNumber,
 ) -> Result<Option<RiderView>, StatementFault>
     ensures { Answers S.Store conn.old conn.new result (λ s m x. x ≡ rider_at s rider) }
 {
     match find_rider_row(conn, rider)? {
-        Some(row) => Ok(Some(read_rider(&row)?)),
+        Some(row) => Ok(Some(read_rider(alloc, &row)?)),
         None => Ok(None),
     }
 }
@@ -126,10 +138,10 @@ pub fn find_rider_balance<S: Alter>(
     conn: &mut Connection<S>,
     rider: RiderNumber,
 ) -> Result<Cents, StatementFault>
-    ensures { Answers S.Store conn.old conn.new result (λ s m balance. balance ≡ balance_of rider s.entries) }
+    ensures { Answers S.Store conn.old conn.new result (λ s m balance. balance ≡ rider_balance s rider) }
 {
-    match find_rider(conn, rider)? {
-        Some(view) => Ok(view.balance),
+    match find_rider_row(conn, rider)? {
+        Some(row) => read_balance(&row),
         None => Err(StatementFault::StoreFailed),
     }
 }

@@ -84,11 +84,11 @@ abbrev pub is_open : Rental → Bool
 is_open r = is_none r.closing
 
 abbrev pub open_rentals : Operator → ℕ
-open_rentals s = count is_open s.rentals
+open_rentals s = count is_open s.rentals.items
 
 -- the rider has an open rental
 abbrev pub is_riding : Operator → ℕ → Bool
-is_riding s rider = list_any (λ r. (r.rider == rider) && is_open r) s.rentals
+is_riding s rider = list_any (λ r. (r.rider == rider) && is_open r) s.rentals.items
 
 -- ---- counts of a station, as GBFS's `station_status` has them: the count rule
 

@@ -1,6 +1,7 @@
 -- The operator: all that it keeps. It holds no balance, no count and no sum; those are figures of its records.
 -- The ledger rule: so balances change by entries alone.
-use Rattle.std.specs.Prelude.{ℕ, zero, suc, List, [], ◌∷◌, Bool, Option, Some, None, if◌then◌else◌}
+use Rattle.std.specs.Prelude.{ℕ, ℤ, zero, suc, pos, ◌+◌, ◌-◌, length, List, [], ◌∷◌, ◌++◌, Bool, Option, Some, None}
+use Rattle.std.specs.Prelude.{if◌then◌else◌}
 use Rattle.std.specs.Ordering.{nat_cmp, eq_by_cmp}
 use Rattle.std.specs.declared.cmp.Ordering.{Ordering}
 use Rattle.std.specs.Cmp.Lexicographic.{slice_cmp}
@@ -31,9 +32,23 @@ pub record Station : Type 0 where
 pub record Truck : Type 0 where
   pub capacity : ℕ
 
--- a rider is open or blocked
+-- a rider: blocked or open, with a plan of the rider's own or none, and the balance, in hundredths, by the entries that
+-- were archived
 pub record Rider : Type 0 where
   pub is_blocked : Bool
+  pub plan : Option (List ℕ)
+  pub before : ℤ
+
+-- a numbered list, whose items have the numbers 1, 2, ..: so many of them, the first ones, were archived, and these
+-- follow
+pub record Numbered (A : Type 0) : Type 0 where
+  pub archived : ℕ
+  pub items : List A
+
+-- the cash and the revenue, in hundredths, by the entries that were archived
+pub record Past : Type 0 where
+  pub cash : ℤ
+  pub revenue : ℤ
 
 -- maps from texts, and from lists of texts
 abbrev pub text_cmp : List ℕ → List ℕ → Ordering
@@ -90,16 +105,22 @@ pub record Operator : Type 0 where
   pub bikes : FinMap nat_cmp Bike
   pub trucks : FinMap nat_cmp Truck
   pub riders : FinMap nat_cmp Rider
-  -- the numbering rule: the record at position i of these, from 1, has the number i
-  pub rentals : List Rental
-  pub orders : List Order
-  pub entries : List Entry
+  -- the numbering rule: the records of these have the numbers 1, 2, ..; orders are never archived
+  pub rentals : Numbered Rental
+  pub orders : Numbered Order
+  pub entries : Numbered Entry
   -- what was accepted, in order
-  pub history : List AcceptedRequest
+  pub history : Numbered AcceptedRequest
+  -- what was archived
+  pub past : Past
   -- names in languages that aren't the system's
   pub more_names : FinMap texts_cmp (List ℕ)
   -- the greatest moment of an accepted request, in seconds
   pub now : ℕ
+
+-- no item, and none archived
+abbrev pub none_numbered : {A : Type 0} → Numbered A
+none_numbered = record { archived = 0; items = [] }
 
 -- the operator of which nothing was asked yet
 abbrev pub no_operator : Operator
@@ -113,10 +134,11 @@ no_operator = record {
   bikes = map.empty;
   trucks = map.empty;
   riders = map.empty;
-  rentals = [];
-  orders = [];
-  entries = [];
-  history = [];
+  rentals = none_numbered;
+  orders = none_numbered;
+  entries = none_numbered;
+  history = none_numbered;
+  past = record { cash = pos 0; revenue = pos 0 };
   more_names = map.empty;
   now = 0;
 }
@@ -129,10 +151,22 @@ item_at n [] = None
 item_at zero (x ∷ xs) = Some x
 item_at (suc n) (x ∷ xs) = item_at n xs
 
--- the item with a number, from 1
-abbrev pub item_numbered : {A : Type 0} → ℕ → List A → Option A
-item_numbered zero xs = None
-item_numbered (suc n) xs = item_at n xs
+-- the item at a position, from 1
+abbrev pub item_in : {A : Type 0} → ℕ → List A → Option A
+item_in zero xs = None
+item_in (suc n) xs = item_at n xs
+
+-- the item with a number: none where it was archived
+abbrev pub item_numbered : {A : Type 0} → ℕ → Numbered A → Option A
+item_numbered n l = item_in (n - l.archived) l.items
+
+-- the number of the last item: how many there are, archived ones included
+abbrev pub last_number : {A : Type 0} → Numbered A → ℕ
+last_number l = l.archived + length l.items
+
+-- an item more
+abbrev pub with_item : {A : Type 0} → A → Numbered A → Numbered A
+with_item x l = record l { items = l.items ++ x ∷ [] }
 
 -- the list with the item at a position changed
 abbrev pub item_changed : {A : Type 0} → ℕ → (A → A) → List A → List A
@@ -140,6 +174,10 @@ item_changed n f [] = []
 item_changed zero f (x ∷ xs) = f x ∷ xs
 item_changed (suc n) f (x ∷ xs) = x ∷ item_changed n f xs
 
-abbrev pub number_changed : {A : Type 0} → ℕ → (A → A) → List A → List A
-number_changed zero f xs = xs
-number_changed (suc n) f xs = item_changed n f xs
+abbrev pub changed_in : {A : Type 0} → ℕ → (A → A) → List A → List A
+changed_in zero f xs = xs
+changed_in (suc n) f xs = item_changed n f xs
+
+-- the item with a number changed, where it is there
+abbrev pub number_changed : {A : Type 0} → ℕ → (A → A) → Numbered A → Numbered A
+number_changed n f l = record l { items = changed_in (n - l.archived) f l.items }

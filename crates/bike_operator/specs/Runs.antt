@@ -1,5 +1,5 @@
 -- One step of the operator, and a list of steps.
-use Rattle.std.specs.Prelude.{ℕ, max, List, [], ◌∷◌, ◌++◌, Bool, Option, Some, None, if◌then◌else◌}
+use Rattle.std.specs.Prelude.{ℕ, max, List, [], ◌∷◌, Bool, Option, Some, None, if◌then◌else◌}
 use Rattle.std.specs.Str.{bytes_eq}
 use Rattle.bike_commands.specs.declared.command.Command.{Command}
 use Rattle.bike_commands.specs.declared.reply.Reply.{Reply}
@@ -8,7 +8,7 @@ use Rattle.bike_commands.specs.declared.refusal.Refusal.{Refusal}
 use Rattle.bike_commands.specs.declared.refusal.Refusal.TheVariants as refusal
 use Rattle.bike_commands.specs.declared.request.Request.{Request}
 use Rattle.bike_commands.specs.Commands.{text_of}
-use Rattle.bike_operator.specs.Operator.{Operator, AcceptedRequest, key_in, kept_under}
+use Rattle.bike_operator.specs.Operator.{Operator, AcceptedRequest, key_in, kept_under, with_item}
 use Rattle.bike_operator.specs.Steps.{refusal_of, effect, reply_of}
 
 -- two commands are equal exactly where their texts are
@@ -21,7 +21,7 @@ abbrev pub after_acceptance : Operator → ℕ → Request → Operator
 after_acceptance s now q =
     record (effect s now q.command) {
       now = now;
-      history = s.history ++ record { moment = now; request = q; reply = reply_of s now q.command } ∷ [];
+      history = with_item (record { moment = now; request = q; reply = reply_of s now q.command }) s.history;
     }
 
 -- the refusal rule: a refused request changes nothing
@@ -38,7 +38,7 @@ outcome_with_kept s t q None = outcome s (max t s.now) q (refusal_of s q.command
 
 -- One step: a request that comes at a moment.
 abbrev pub step : Operator → ℕ → Request → Reply × Operator
-step s t q = outcome_with_kept s t q (kept_under (key_in q) s.history)
+step s t q = outcome_with_kept s t q (kept_under (key_in q) s.history.items)
 
 -- a request and the moment at which it comes
 abbrev pub Call : Type 0

@@ -1,6 +1,6 @@
 -- When an operator is sound: every name exists, each bicycle is
 -- in one place, numbers have no gaps, and bounds and limits hold.
-use Rattle.std.specs.Prelude.{◌≡◌, ℕ, ℤ, ◌+◌, ◌≤◌, ◌≤ℤ◌, ◌==◌, ◌&&◌, List, [], ◌∷◌, length, map, filter, Bool, true}
+use Rattle.std.specs.Prelude.{◌≡◌, ◌⊎◌, ℕ, ℤ, neg_ℤ, ◌*ℤ◌, ◌+ℤ◌, ◌+◌, ◌≤◌, ◌≤ℤ◌, ◌==◌, ◌&&◌, List, [], ◌∷◌, length, map, filter, Bool, true}
 use Rattle.std.specs.Prelude.{false, Option, Some, None, is_some, pos}
 use Rattle.std.specs.FinMap as finmap
 use Rattle.std.specs.FinSet as finset
@@ -30,7 +30,7 @@ use Rattle.bike_operator.specs.declared.records.Rental.{Rental}
 use Rattle.bike_operator.specs.declared.records.Closing.{Closing}
 use Rattle.bike_operator.specs.declared.records.Order.{Order}
 use Rattle.bike_operator.specs.Operator.{Operator, Station, Truck, Rider, AcceptedRequest, key_in, NameKey, name_key}
-use Rattle.bike_operator.specs.Operator.{DockKey, dock_key, item_numbered}
+use Rattle.bike_operator.specs.Operator.{DockKey, dock_key, Numbered, item_numbered, last_number}
 use Rattle.bike_operator.specs.Counts.{is_open, is_retired, truck_load, order_load, open_rentals}
 use Rattle.bike_operator.specs.View.{has_end, has_region}
 use Rattle.bike_operator.specs.Names.{has_named, is_own_language, further_names}
@@ -174,7 +174,8 @@ pub record AreOrdersSound (s : Operator) : Type 0 where
   pub trucks : (number : ℕ) (t : Truck) → finmap.get s.trucks number ≡ Some t → IsTruckAt s number t
   pub orders : (number : ℕ) (o : Order) → item_numbered number s.orders ≡ Some o → IsOrderAt s number o
   pub few_trucks : finmap.len s.trucks ≤ MOST_TRUCKS
-  pub few_orders : length s.orders ≤ MOST_ORDERS
+  pub few_orders : last_number s.orders ≤ MOST_ORDERS
+  pub all_orders : s.orders.archived ≡ 0
 
 -- ---- rentals
 
@@ -229,8 +230,8 @@ pub record IsRentalAt (s : Operator) (number : ℕ) (r : Rental) : Type 0 where
   pub from_is : finmap.contains_key s.stations r.from_station ≡ true
   pub by_now : r.start ≤ s.now
   pub closing : IsOpenOrClosed s number r r.closing
-  pub booked : fares_of number s.entries ≡ fares_in r.closing
-  pub refunded : refunded_of number s.entries ≤ℤ most_refunded r.closing
+  pub booked : fares_of number s.entries.items ≡ fares_in r.closing
+  pub refunded : refunded_of number s.entries.items ≤ℤ most_refunded r.closing
 
 pub record AreRentalsSound (s : Operator) : Type 0 where
   pub rentals : (number : ℕ) (r : Rental) → item_numbered number s.rentals ≡ Some r → IsRentalAt s number r
@@ -238,13 +239,36 @@ pub record AreRentalsSound (s : Operator) : Type 0 where
   pub riding : (a b : ℕ) (q r : Rental) → item_numbered a s.rentals ≡ Some q → item_numbered b s.rentals ≡ Some r
       → is_open q ≡ true → is_open r ≡ true → q.rider ≡ r.rider → a ≡ b
   -- each rental is open or has an entry
-  pub few_rentals : length s.rentals ≤ length s.entries + open_rentals s
+  pub few_rentals : last_number s.rentals ≤ last_number s.entries + open_rentals s
 
 -- ---- riders and entries
 
-pub record IsRiderNumber (number : ℕ) : Type 0 where
+-- a sum that so many entries can come to
+pub record IsSumOf (entries : ℕ) (sum : ℤ) : Type 0 where
+  pub low : neg_ℤ (greatest_amount *ℤ pos entries) ≤ℤ sum
+  pub high : sum ≤ℤ (greatest_amount *ℤ pos entries)
+
+-- the plan is there, or there is none
+abbrev pub IsPlanOrNone : Operator → Option (List ℕ) → Type 0
+IsPlanOrNone s None = Unit {0}
+IsPlanOrNone s (Some plan) = finmap.contains_key s.plans plan ≡ true
+
+pub record IsRiderAt (s : Operator) (number : ℕ) (r : Rider) : Type 0 where
   pub low : 1 ≤ number
   pub high : number ≤ GREATEST_NUMBER
+  pub plan : IsPlanOrNone s r.plan
+  pub before : IsSumOf s.entries.archived r.before
+
+-- what riders had of the archived entries together
+abbrev pub befores : List (ℕ × Rider) → ℤ
+befores [] = pos 0
+befores (e ∷ es) = e.1.before +ℤ befores es
+
+-- the sums of what was archived: what the riders had and what the operator had earned is what had been paid in
+pub record IsPast (s : Operator) : Type 0 where
+  pub cash : IsSumOf s.entries.archived s.past.cash
+  pub revenue : IsSumOf s.entries.archived s.past.revenue
+  pub conserved : befores (finmap.entries s.riders) +ℤ s.past.revenue ≡ s.past.cash
 
 -- an amount that may be paid in or out, refunded, charged or credited, in hundredths
 pub record IsPayment (amount : ℤ) : Type 0 where
@@ -253,13 +277,22 @@ pub record IsPayment (amount : ℤ) : Type 0 where
   pub low : 1 ≤ hundredths
   pub high : hundredths ≤ GREATEST_PAYMENT
 
+-- a number of an item that was archived
+pub record IsArchived {A : Type 0} (number : ℕ) (l : Numbered A) : Type 0 where
+  pub low : 1 ≤ number
+  pub high : number ≤ l.archived
+
 -- the closed rental of an entry, which is its rider's
-pub record IsOfRental (s : Operator) (e : Entry) : Type 0 where
+pub record IsOfClosed (s : Operator) (e : Entry) : Type 0 where
   pub row : Rental
   pub closing : Closing
   pub found : item_numbered e.rental s.rentals ≡ Some row
   pub closed : row.closing ≡ Some closing
   pub rider_is : row.rider ≡ e.rider
+
+-- the rental of an entry; of one that was archived nothing is asked
+abbrev pub IsOfRental : Operator → Entry → Type 0
+IsOfRental s e = IsArchived e.rental s.rentals ⊎ IsOfClosed s e
 
 -- a fare is its rental's, a refund is of a rental, and an entry of another kind is of none
 abbrev pub IsBooking : Operator → Entry → EntryKind → Type 0
@@ -277,10 +310,11 @@ pub record IsEntryAt (s : Operator) (number : ℕ) (e : Entry) : Type 0 where
   pub by_now : e.at ≤ s.now
 
 pub record IsLedgerSound (s : Operator) : Type 0 where
-  pub riders : (number : ℕ) (r : Rider) → finmap.get s.riders number ≡ Some r → IsRiderNumber number
+  pub riders : (number : ℕ) (r : Rider) → finmap.get s.riders number ≡ Some r → IsRiderAt s number r
   pub entries : (number : ℕ) (e : Entry) → item_numbered number s.entries ≡ Some e → IsEntryAt s number e
+  pub past : IsPast s
   pub few_riders : finmap.len s.riders ≤ MOST_RIDERS
-  pub few_entries : length s.entries + open_rentals s ≤ MOST_ENTRIES
+  pub few_entries : last_number s.entries + open_rentals s ≤ MOST_ENTRIES
 
 -- ---- the history
 
@@ -299,7 +333,7 @@ pub record IsAccepted (now : ℕ) (a : AcceptedRequest) : Type 0 where
   pub accepted : is_refused a.reply ≡ false
   pub by_now : a.moment ≤ now
 
-pub record IsHistory (now : ℕ) (history : List AcceptedRequest) : Type 0 where
+pub record IsHistory (now : ℕ) (history : Numbered AcceptedRequest) : Type 0 where
   pub requests : (number : ℕ) (a : AcceptedRequest) → item_numbered number history ≡ Some a → IsAccepted now a
   -- no two are of one caller and key
   pub once : (m n : ℕ) (a b : AcceptedRequest) → item_numbered m history ≡ Some a → item_numbered n history ≡ Some b

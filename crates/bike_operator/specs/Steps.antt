@@ -1,5 +1,5 @@
 -- What a command is refused, what it does, and what it is answered.
-use Rattle.std.specs.Prelude.{ℕ, ℤ, ◌+◌, ◌-ℤ◌, nat_le, nat_lt, int_lt, length, List, [], ◌∷◌, ◌++◌, Bool, true, false}
+use Rattle.std.specs.Prelude.{ℕ, ℤ, ◌+◌, ◌-ℤ◌, nat_le, nat_lt, int_lt, List, [], ◌∷◌, Bool, true, false}
 use Rattle.std.specs.Prelude.{not, ◌&&◌, ◌||◌, ◌==◌, Option, Some, None, option_map, is_some, is_none, pos}
 use Rattle.std.specs.Prelude.{if◌then◌else◌}
 use Rattle.std.specs.Str.{bytes_eq}
@@ -11,7 +11,6 @@ use Rattle.bike_fields.specs.declared.numbers.TheConstants.{MOST_DOCKS}
 use Rattle.bike_fares.specs.Pricing.{fare_of}
 use Rattle.bike_ledger.specs.declared.entry.EntryKind.{EntryKind}
 use Rattle.bike_ledger.specs.declared.entry.EntryKind.TheVariants as kind
-use Rattle.bike_ledger.specs.Ledger.{balance_of}
 use Rattle.bike_texts.specs.declared.ends.OrderEnd.{OrderEnd}
 use Rattle.bike_texts.specs.declared.ends.OrderEnd.TheVariants as end
 use Rattle.bike_fields.specs.declared.name_kind.NameKind.{NameKind}
@@ -36,11 +35,12 @@ use Rattle.bike_operator.specs.declared.view.StationView.{StationView}
 use Rattle.bike_operator.specs.declared.view.DockedBike.{DockedBike}
 use Rattle.bike_operator.specs.declared.view.RentalView.{RentalView}
 use Rattle.bike_operator.specs.declared.view.View.{View}
-use Rattle.bike_operator.specs.Operator.{Operator, Station, name_key, dock_key, number_changed, item_numbered}
+use Rattle.bike_operator.specs.Operator.{Operator, Station, Rider, name_key, dock_key, number_changed, item_numbered}
+use Rattle.bike_operator.specs.Operator.{last_number, with_item}
 use Rattle.bike_operator.specs.Counts.{is_at, is_depot, is_on_truck, is_for_order, is_fit, is_retired, is_open}
 use Rattle.bike_operator.specs.Counts.{docked_at}
 use Rattle.bike_operator.specs.Names.{is_own_language}
-use Rattle.bike_operator.specs.View.{view_of, end_at, docked_view, rental_view, rental_of}
+use Rattle.bike_operator.specs.View.{view_of, end_at, docked_view, rental_view, rental_of, rider_balance}
 
 -- ---- tests
 
@@ -258,6 +258,10 @@ abbrev pub new_station : StationRow → ℕ → Station
 new_station x now =
     record { row = x; is_installed = true; is_renting = true; is_returning = true; reported = now; region = None }
 
+-- a rider is new: open, with no plan of the rider's own and no entry
+abbrev pub new_rider : Rider
+new_rider = record { is_blocked = false; plan = None; before = pos 0 }
+
 abbrev pub dock_marked : List ℕ → ℕ → Bool → Operator → Operator
 dock_marked station dock broken s =
     record s {
@@ -275,18 +279,18 @@ bike_marked bike state s = record s { bikes = key_changed s.bikes bike (λ b. re
 abbrev pub with_entry : EntryKind → ℕ → ℕ → ℤ → ℕ → Operator → Operator
 with_entry kind rider rental amount now s =
     record s {
-      entries = s.entries ++ record {
-        number = length s.entries + 1;
+      entries = with_item (record {
+        number = last_number s.entries + 1;
         kind = kind;
         rider = rider;
         rental = rental;
         amount = amount;
         at = now;
-      } ∷ [];
+      }) s.entries;
     }
 
 abbrev pub rental_added : Rental → Operator → Operator
-rental_added r s = record s { rentals = s.rentals ++ r ∷ [] }
+rental_added r s = record s { rentals = with_item r s.rentals }
 
 abbrev pub rental_closed : ℕ → Option (List ℕ) → ℕ → ℤ → Operator → Operator
 rental_closed number to_station now fare s =
@@ -296,7 +300,7 @@ rental_closed number to_station now fare s =
     }
 
 abbrev pub order_added : Order → Operator → Operator
-order_added o s = record s { orders = s.orders ++ o ∷ [] }
+order_added o s = record s { orders = with_item o s.orders }
 
 abbrev pub order_changed : ℕ → (Order → Order) → Operator → Operator
 order_changed number f s = record s { orders = number_changed number f s.orders }
@@ -312,15 +316,24 @@ with_fare r to_station now s =
     with_entry kind.Fare r.rental.rider r.number (fare_now r now) now
     (rental_closed r.number to_station now (fare_now r now) s)
 
+-- the rental-plan rule: a rental keeps its rider's own plan or, where the rider has none, that of the bicycle's type
+abbrev pub plan_for : Option (List ℕ) → List ℕ → List ℕ
+plan_for None default = default
+plan_for (Some plan) default = plan
+
+abbrev pub own_plan : Option Rider → Option (List ℕ)
+own_plan None = None
+own_plan (Some r) = r.plan
+
 -- a rental is opened of the bicycle in a dock
 abbrev pub after_start : ℕ → List ℕ → ℕ → Option DockedBike → Operator → Operator
 after_start rider station now None s = s
 after_start rider station now (Some b) s =
-    with_report station now (bike_placed b.bike (place.Rental (length s.rentals + 1))
+    with_report station now (bike_placed b.bike (place.Rental (last_number s.rentals + 1))
     (rental_added (record {
       rider = rider;
       bike = b.bike;
-      plan = b.plan;
+      plan = plan_for (own_plan (map.get s.riders rider)) b.plan;
       from_station = station;
       start = now;
       closing = None;
@@ -379,9 +392,9 @@ effect s now (command.MarkBike bike disabled) =
 effect s now (command.RetireBike bike) = bike_marked bike Retired s
 effect s now (command.AddTruck truck capacity) =
     record s { trucks = map.insert s.trucks truck (record { capacity = capacity }) }
-effect s now (command.AddRider rider) = record s { riders = map.insert s.riders rider (record { is_blocked = false }) }
+effect s now (command.AddRider rider) = record s { riders = map.insert s.riders rider new_rider }
 effect s now (command.SetRider rider blocked) =
-    record s { riders = map.insert s.riders rider (record { is_blocked = blocked }) }
+    record s { riders = key_changed s.riders rider (λ r. record r { is_blocked = blocked }) }
 effect s now (command.TopUp rider amount) = with_entry kind.TopUp rider 0 (pos amount) now s
 effect s now (command.Start rider station dock) =
     after_start rider station now (docked_view s (docked_at s station dock)) s
@@ -421,16 +434,16 @@ effect s now (command.AddDocks station count) =
 
 abbrev pub started_reply : Operator → Option DockedBike → Reply
 started_reply s None = Done
-started_reply s (Some b) = Started (length s.rentals + 1) b.bike
+started_reply s (Some b) = Started (last_number s.rentals + 1) b.bike
 
 -- the fare, and the balance with it taken off
 abbrev pub ended_reply : Operator → ℕ → Option RentalView → Operator → Reply
 ended_reply s now None next = Done
-ended_reply s now (Some r) next = Ended (fare_now r now) (balance_of r.rental.rider next.entries)
+ended_reply s now (Some r) next = Ended (fare_now r now) (rider_balance next r.rental.rider)
 
 abbrev pub refunded_reply : Option RentalView → Operator → Reply
 refunded_reply None next = Done
-refunded_reply (Some r) next = Balance (balance_of r.rental.rider next.entries)
+refunded_reply (Some r) next = Balance (rider_balance next r.rental.rider)
 
 -- THE TABLE: the reply to each command
 abbrev pub reply_of : Operator → ℕ → Command → Reply
@@ -448,7 +461,7 @@ reply_of s now (command.AddTruck truck capacity) = Done
 reply_of s now (command.AddRider rider) = Done
 reply_of s now (command.SetRider rider blocked) = Done
 reply_of s now (command.TopUp rider amount) =
-    Balance (balance_of rider (effect s now (command.TopUp rider amount)).entries)
+    Balance (rider_balance (effect s now (command.TopUp rider amount)) rider)
 reply_of s now (command.Start rider station dock) = started_reply s (docked_view s (docked_at s station dock))
 reply_of s now (command.End bike station dock) =
     ended_reply s now (rental_of s (map.get s.bikes bike)) (effect s now (command.End bike station dock))
@@ -456,7 +469,7 @@ reply_of s now (command.Recover rental) =
     ended_reply s now (rental_view s rental (item_numbered rental s.rentals)) (effect s now (command.Recover rental))
 reply_of s now (command.Refund rental amount) =
     refunded_reply (rental_view s rental (item_numbered rental s.rentals)) (effect s now (command.Refund rental amount))
-reply_of s now (command.OpenOrder truck from_end to_end type_id count) = Ordered (length s.orders + 1)
+reply_of s now (command.OpenOrder truck from_end to_end type_id count) = Ordered (last_number s.orders + 1)
 reply_of s now (command.Load truck order bike) = Done
 reply_of s now (command.Unload truck order bike side dock) = Done
 reply_of s now (command.CloseOrder order) = Done

@@ -1,5 +1,5 @@
 -- The view: what a command names of the operator, each there or absent, and what is counted for it.
-use Rattle.std.specs.Prelude.{ℕ, ◌+◌, length, List, nat_le, Bool, true, false, Option, Some, None, is_some}
+use Rattle.std.specs.Prelude.{ℕ, ℤ, pos, ◌+◌, ◌+ℤ◌, List, nat_le, Bool, true, false, Option, Some, None, is_some}
 use Rattle.std.specs.FinMap as map
 use Rattle.std.specs.declared.cmp.Ordering.{Ordering}
 use Rattle.bike_catalogue.specs.Rows.{PlanRow, TypeRow}
@@ -24,7 +24,7 @@ use Rattle.bike_operator.specs.declared.view.RentalView.{RentalView}
 use Rattle.bike_operator.specs.declared.view.RiderView.{RiderView}
 use Rattle.bike_operator.specs.declared.view.TruckView.{TruckView}
 use Rattle.bike_operator.specs.declared.view.View.{View}
-use Rattle.bike_operator.specs.Operator.{Operator, Station, Truck, Rider, item_numbered}
+use Rattle.bike_operator.specs.Operator.{Operator, Station, Truck, Rider, item_numbered, last_number}
 use Rattle.bike_operator.specs.Names.{is_own_language, has_named, has_language, has_all_names}
 use Rattle.bike_operator.specs.Counts.{docked_at, is_broken, truck_load, order_load, open_rentals, is_riding}
 
@@ -36,7 +36,7 @@ is_at_limit most m = nat_le most (map.len m)
 
 -- entries and open rentals are as many as there may be
 abbrev pub has_full_ledger : Operator → Bool
-has_full_ledger s = nat_le MOST_ENTRIES (length s.entries + open_rentals s)
+has_full_ledger s = nat_le MOST_ENTRIES (last_number s.entries + open_rentals s)
 
 -- ---- records, there or absent
 
@@ -53,9 +53,23 @@ station_view (Some x) =
 abbrev pub station_at : Operator → List ℕ → Option StationView
 station_at s station = station_view (map.get s.stations station)
 
+-- the balance of the rider by the entries that were archived
+abbrev pub before_of : Option Rider → ℤ
+before_of None = pos 0
+before_of (Some r) = r.before
+
+-- the rider's balance: a sum over all entries, archived ones included
+abbrev pub rider_balance : Operator → ℕ → ℤ
+rider_balance s rider = before_of (map.get s.riders rider) +ℤ balance_of rider s.entries.items
+
 abbrev pub rider_view : Operator → ℕ → Option Rider → Option RiderView
 rider_view s rider None = None
-rider_view s rider (Some r) = Some (record { is_blocked = r.is_blocked; balance = balance_of rider s.entries })
+rider_view s rider (Some r) =
+    Some (record {
+      is_blocked = r.is_blocked;
+      plan = r.plan;
+      balance = r.before +ℤ balance_of rider s.entries.items;
+    })
 
 abbrev pub rider_at : Operator → ℕ → Option RiderView
 rider_at s rider = rider_view s rider (map.get s.riders rider)
@@ -84,8 +98,8 @@ planned_rental s number r (Some plan) =
       number = number;
       rental = r;
       plan = plan;
-      refunded = refunded_of number s.entries;
-      balance = balance_of r.rider s.entries;
+      refunded = refunded_of number s.entries.items;
+      balance = rider_balance s r.rider;
     })
 
 abbrev pub rental_view : Operator → ℕ → Option Rental → Option RentalView
@@ -234,35 +248,35 @@ view_of s (command.AddRider rider) =
     record empty_view { has_rider = map.contains_key s.riders rider; is_full = is_at_limit MOST_RIDERS s.riders }
 view_of s (command.SetRider rider blocked) = record empty_view { has_rider = map.contains_key s.riders rider }
 view_of s (command.TopUp rider amount) =
-    record empty_view { rider = rider_at s rider; is_ledger_full = has_full_ledger s; entries = length s.entries }
+    record empty_view { rider = rider_at s rider; is_ledger_full = has_full_ledger s; entries = last_number s.entries }
 view_of s (command.Start rider station dock) =
     record (dock_view s station dock) {
       rider = rider_at s rider;
       is_riding = is_riding s rider;
       is_ledger_full = has_full_ledger s;
-      rentals = length s.rentals;
+      rentals = last_number s.rentals;
     }
 view_of s (command.End bike station dock) =
     record (dock_view s station dock) {
       bike = map.get s.bikes bike;
       rental = rental_of s (map.get s.bikes bike);
-      entries = length s.entries;
+      entries = last_number s.entries;
     }
 view_of s (command.Recover rental) =
     record empty_view {
       rental = rental_at s rental;
       bike = bike_of s (item_numbered rental s.rentals);
-      entries = length s.entries;
+      entries = last_number s.entries;
     }
 view_of s (command.Refund rental amount) =
-    record empty_view { rental = rental_at s rental; is_ledger_full = has_full_ledger s; entries = length s.entries }
+    record empty_view { rental = rental_at s rental; is_ledger_full = has_full_ledger s; entries = last_number s.entries }
 view_of s (command.OpenOrder truck from_end to_end type_id count) =
     record empty_view {
       truck = truck_at s truck;
       has_from = has_end s from_end;
       has_to = has_end s to_end;
       has_type = map.contains_key s.types type_id;
-      orders = length s.orders;
+      orders = last_number s.orders;
     }
 view_of s (command.Load truck order bike) =
     record (bike_view s bike) {

@@ -47,10 +47,12 @@ pub struct RentalView {
 }
 
 /// What a decision needs to know of a rider.
-#[derive(Clone, Copy, Debug, PartialEq, Eq)]
+#[derive(Drop)]
 pub struct RiderView {
     /// Whether the rider is blocked.
     pub is_blocked: bool,
+    /// The rider's own plan; none where rides are charged by the plan of the bicycle's type.
+    pub plan: Option<Ident>,
     /// The balance.
     pub balance: Cents,
 }

@@ -17,3 +17,4 @@ mod PageTexts
 mod PageRows
 mod RequestTexts
 mod RequestLemmas
+mod BeginLemmas

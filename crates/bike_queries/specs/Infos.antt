@@ -1,11 +1,12 @@
 -- What queries show of bicycles, riders and rentals.
 use Rattle.std.specs.Prelude.{ℕ, ℤ, Option, option_map}
 use Rattle.std.specs.FinMap as map
-use Rattle.bike_ledger.specs.Ledger.{balance_of, refunded_of}
+use Rattle.bike_ledger.specs.Ledger.{refunded_of}
 use Rattle.bike_operator.specs.declared.records.Place.{Place}
 use Rattle.bike_operator.specs.declared.records.Rental.{Rental}
 use Rattle.bike_operator.specs.declared.records.Closing.{Closing}
 use Rattle.bike_operator.specs.Operator.{Operator, Rider, item_numbered}
+use Rattle.bike_operator.specs.View.{rider_balance}
 use Rattle.bike_office_reads.specs.Newest.{open_number}
 use Rattle.bike_operator.specs.declared.rental_info.ClosingInfo.{ClosingInfo}
 use Rattle.bike_operator.specs.declared.rental_info.RentalInfo.{RentalInfo}
@@ -19,14 +20,13 @@ place_at s bike = option_map (λ b. b.place) (map.get s.bikes bike)
 
 -- ---- riders
 
--- the sum of what the ledger books for a rider
+-- the sum of what the ledger books for a rider, and has booked in entries that were archived
 abbrev pub balance_at : Operator → ℕ → Option ℤ
-balance_at s rider = option_map (λ _. balance_of rider s.entries) (map.get s.riders rider)
+balance_at s rider = option_map (λ _. rider_balance s rider) (map.get s.riders rider)
 
--- a rider's balance is a sum over the entries
 abbrev pub rider_info : Operator → ℕ → Rider → RiderInfo
 rider_info s rider r =
-    record { is_blocked = r.is_blocked; balance = balance_of rider s.entries; rental = open_number s rider }
+    record { is_blocked = r.is_blocked; balance = rider_balance s rider; rental = open_number s rider }
 
 abbrev pub rider_info_at : Operator → ℕ → Option RiderInfo
 rider_info_at s rider = option_map (rider_info s rider) (map.get s.riders rider)
@@ -49,4 +49,4 @@ rental_info refunded r =
     }
 
 abbrev pub rental_info_at : Operator → ℕ → Option RentalInfo
-rental_info_at s rental = option_map (rental_info (refunded_of rental s.entries)) (item_numbered rental s.rentals)
+rental_info_at s rental = option_map (rental_info (refunded_of rental s.entries.items)) (item_numbered rental s.rentals)

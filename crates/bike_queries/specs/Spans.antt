@@ -1,4 +1,4 @@
--- What lies in a span of time, by number.
+-- What lies in a span of time, by number. Nothing that was archived is found.
 use Rattle.std.specs.Prelude.{◌&&◌, ℕ, List, Bool, false, not, nat_lt, find, Option, Some, None, option_map}
 use Rattle.bike_ledger.specs.Entries.{Entry}
 use Rattle.bike_ledger.specs.Ledger.{refunded_of}
@@ -15,7 +15,7 @@ lies_in begin end at = not (nat_lt at begin) && nat_lt at end
 
 -- the first entry of a later number that lies in the span
 abbrev pub entry_after : Operator → ℕ → ℕ → ℕ → Option Entry
-entry_after s number begin end = find (λ e. nat_lt number e.number && lies_in begin end e.at) s.entries
+entry_after s number begin end = find (λ e. nat_lt number e.number && lies_in begin end e.at) s.entries.items
 
 -- ---- rentals
 
@@ -33,4 +33,4 @@ abbrev pub ended_info : List Entry → ℕ × Rental → ℕ × RentalInfo
 ended_info entries e = (e.0, rental_info (refunded_of e.0 entries) e.1)
 
 abbrev pub ended_info_after : Operator → ℕ → ℕ → ℕ → Option (ℕ × RentalInfo)
-ended_info_after s number begin end = option_map (ended_info s.entries) (ended_after s number begin end)
+ended_info_after s number begin end = option_map (ended_info s.entries.items) (ended_after s number begin end)

@@ -2,11 +2,12 @@
 //! or next in order, as a value that owns what it shows, and changes nothing.
 //!
 //! Stored numbers are used as they stand (a rider's balance, a rental's refunds, the numbers of a station): no bicycle
-//! and no entry is counted. A row that holds what the product never writes is `StoreFailed`; memory that is refused is
-//! `NoMemory`.
+//! and no entry is counted. Rentals, entries and requests that were archived aren't found. A row that holds what the
+//! product never writes is `StoreFailed`; memory that is refused is `NoMemory`.
 #![tactic(auto)]
 
 mod after;
+mod begin;
 mod bikes;
 mod columns;
 mod counts;
@@ -24,6 +25,7 @@ mod status;
 mod system;
 mod types;
 
+pub use begin::find_history_begin;
 pub use bikes::find_place;
 pub use counts::find_station_counts;
 pub use entries::find_entry_after;

@@ -79,7 +79,7 @@ fn select_ended<S: Alter>(
     end: Moment,
 ) -> Result<Option<Row>, StatementFault>
     ensures { Answers S.Store conn.old conn.new result
-        (λ s m row. row ≡ option_map (stored_rental s.entries) (ended_after s number begin end)) }
+        (λ s m row. row ≡ option_map (stored_rental s.entries.items) (ended_after s number begin end)) }
 {
     first_row(
         conn,

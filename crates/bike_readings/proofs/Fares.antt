@@ -1,6 +1,6 @@
 -- The Fare entries of rentals: each closed rental has one of its fare, so there are no more closed rentals than entries.
-use Rattle.std.proofs.Common.{◌≡◌, inl, inr, ℕ, ℤ, zero, suc, ◌+◌, ◌<◌, ◌≤◌, List, [], ◌∷◌, length, map, filter, Bool, true, false, cond, not, ◌&&◌, ◌==◌, Option, Some, None, refl, sym, ap, ap₂, ◌∙◌}
-use Rattle.std.proofs.Common.{subst, arith}
+use Rattle.std.proofs.Common.{◌≡◌, inl, inr, ℕ, ℤ, zero, suc, ◌+◌, ◌-◌, ◌<◌, ◌≤◌, List, [], ◌∷◌, length, map, filter, Bool, true, false, cond, not, ◌&&◌, ◌==◌, Option, Some, None}
+use Rattle.std.proofs.Common.{refl, sym, ap, ap₂, ◌∙◌, subst, arith}
 use Rattle.std.proofs.lemmas.Bool.{eq-eqb}
 use Rattle.sqlite_rules.specs.Lists.{Has}
 use Rattle.bike_ledger.specs.Entries.{Entry}
@@ -8,9 +8,10 @@ use Rattle.bike_ledger.specs.declared.entry.EntryKind.{EntryKind}
 use Rattle.bike_ledger.specs.declared.entry.EntryKind.TheVariants.{TopUp, Fare, Refund, Withdrawal, Charge, Credit}
 use Rattle.bike_operator.specs.declared.records.Rental.{Rental}
 use Rattle.bike_operator.specs.declared.records.Closing.{Closing}
-use Rattle.bike_operator.specs.Operator.{item_at, item_numbered}
+use Rattle.bike_operator.specs.Operator.{Numbered, item_at, item_in, item_numbered}
 use Rattle.bike_operator.specs.Counts.{count, is_open}
 use Rattle.bike_operator.specs.Sound.{is_fare, fares_of, fares_in}
+use Rattle.bike_laws.proofs.SingleSteps.ItemLemmas.{number_behind, number_of_place}
 use Rattle.bike_laws.proofs.SingleSteps.TestLemmas.{same_number}
 use Rattle.bike_laws.proofs.SingleSteps.CountLemmas.{count-cons, one}
 
@@ -61,9 +62,12 @@ fare_has rental (suc i) (x ∷ es) e found passes = go (is_fare_of rental x) ref
   go true is rest = subst (λ (zs : List ℤ). Has zs e.amount) (sym (further rental x es true is)) (inr rest)
   go false is rest = subst (λ (zs : List ℤ). Has zs e.amount) (sym (further rental x es false is)) rest
 
-pub fare_among : (rental n : ℕ) (es : List Entry) (e : Entry) → item_numbered n es ≡ Some e → is_fare_of rental e ≡ true → Has (fares_of rental es) e.amount
-fare_among rental zero es e found passes = absurd cc
-fare_among rental (suc i) es e found passes = fare_has rental i es e found passes
+among : (rental n : ℕ) (es : List Entry) (e : Entry) → item_in n es ≡ Some e → is_fare_of rental e ≡ true → Has (fares_of rental es) e.amount
+among rental zero es e found passes = absurd cc
+among rental (suc i) es e found passes = fare_has rental i es e found passes
+
+pub fare_among : (rental n : ℕ) (l : Numbered Entry) (e : Entry) → item_numbered n l ≡ Some e → is_fare_of rental e ≡ true → Has (fares_of rental l.items) e.amount
+fare_among rental n l e found passes = among rental (n - l.archived) l.items e found passes
 
 some_length : (xs : List ℤ) (x : ℤ) → Has xs x → 1 ≤ length xs
 some_length [] x has = elim has [ ]
@@ -83,11 +87,17 @@ two_items rental (suc i) (suc j) (e ∷ es) x y less fx fy px py = go (is_fare_o
   go true is rest = let all = ap (λ (zs : List ℤ). length zs) (further rental e es true is) in omega (arith, rest, all)
   go false is rest = let all = ap (λ (zs : List ℤ). length zs) (further rental e es false is) in omega (arith, rest, all)
 
-pub two_fares : (rental a b : ℕ) (es : List Entry) (x y : Entry) → a < b → item_numbered a es ≡ Some x → item_numbered b es ≡ Some y → is_fare_of rental x ≡ true → is_fare_of rental y ≡ true
+two_places : (rental a b : ℕ) (es : List Entry) (x y : Entry) → a < b → item_in a es ≡ Some x → item_in b es ≡ Some y → is_fare_of rental x ≡ true → is_fare_of rental y ≡ true
     → 2 ≤ length (fares_of rental es)
-two_fares rental zero b es x y less fx fy px py = absurd cc
-two_fares rental (suc i) zero es x y less fx fy px py = absurd cc
-two_fares rental (suc i) (suc j) es x y less fx fy px py = two_items rental i j es x y (omega (arith, less)) fx fy px py
+two_places rental zero b es x y less fx fy px py = absurd cc
+two_places rental (suc i) zero es x y less fx fy px py = absurd cc
+two_places rental (suc i) (suc j) es x y less fx fy px py = two_items rental i j es x y (omega (arith, less)) fx fy px py
+
+pub two_fares : (rental a b : ℕ) (l : Numbered Entry) (x y : Entry) → a < b → item_numbered a l ≡ Some x → item_numbered b l ≡ Some y → is_fare_of rental x ≡ true → is_fare_of rental y ≡ true
+    → 2 ≤ length (fares_of rental l.items)
+two_fares rental a b l x y less fx fy px py =
+    let behind = number_behind b l y fy in
+    two_places rental (a - l.archived) (b - l.archived) l.items x y (omega (arith, less, behind)) fx fy px py
 
 -- ---- none, and one
 
@@ -95,8 +105,8 @@ no_item : (rental : ℕ) (es : List Entry) → ((i : ℕ) (e : Entry) → item_a
 no_item rental [] each = refl
 no_item rental (e ∷ es) each = further rental e es false (each zero e refl) ∙ no_item rental es (λ i x is. each (suc i) x is)
 
-pub no_fares : (rental : ℕ) (es : List Entry) → ((n : ℕ) (e : Entry) → item_numbered n es ≡ Some e → is_fare_of rental e ≡ false) → fares_of rental es ≡ []
-no_fares rental es each = no_item rental es (λ i e is. each (suc i) e is)
+pub no_fares : (rental : ℕ) (l : Numbered Entry) → ((n : ℕ) (e : Entry) → item_numbered n l ≡ Some e → is_fare_of rental e ≡ false) → fares_of rental l.items ≡ []
+no_fares rental l each = no_item rental l.items (λ i e is. each (l.archived + suc i) e (number_of_place i l e is))
 
 one_item : (rental : ℕ) (amount : ℤ) (es : List Entry) → 1 ≤ length (fares_of rental es) → ((i : ℕ) (e : Entry) → item_at i es ≡ Some e → is_fare_of rental e ≡ true → e.amount ≡ amount)
     → ((i j : ℕ) (x y : Entry) → i < j → item_at i es ≡ Some x → item_at j es ≡ Some y → is_fare_of rental x ≡ true → is_fare_of rental y ≡ true → ⊥) → fares_of rental es ≡ amount ∷ []
@@ -121,9 +131,13 @@ one_item rental amount (e ∷ es) some each once = go (is_fare_of rental e) refl
       further rental e es false is ∙ rest (omega (arith, some, all)) (λ i x found. each (suc i) x found) (λ i j x y less fx fy. once (suc i) (suc j) x y (omega (arith, less)) fx fy)
 
 -- one Fare entry at least, each of this amount, and no two
-pub one_fare : (rental : ℕ) (amount : ℤ) (es : List Entry) → 1 ≤ length (fares_of rental es) → ((n : ℕ) (e : Entry) → item_numbered n es ≡ Some e → is_fare_of rental e ≡ true → e.amount ≡ amount)
-    → ((a b : ℕ) (x y : Entry) → a < b → item_numbered a es ≡ Some x → item_numbered b es ≡ Some y → is_fare_of rental x ≡ true → is_fare_of rental y ≡ true → ⊥) → fares_of rental es ≡ amount ∷ []
-one_fare rental amount es some each once = one_item rental amount es some (λ i e is. each (suc i) e is) (λ i j x y less fx fy. once (suc i) (suc j) x y (omega (arith, less)) fx fy)
+pub one_fare : (rental : ℕ) (amount : ℤ) (l : Numbered Entry) → 1 ≤ length (fares_of rental l.items)
+    → ((n : ℕ) (e : Entry) → item_numbered n l ≡ Some e → is_fare_of rental e ≡ true → e.amount ≡ amount)
+    → ((a b : ℕ) (x y : Entry) → a < b → item_numbered a l ≡ Some x → item_numbered b l ≡ Some y → is_fare_of rental x ≡ true → is_fare_of rental y ≡ true → ⊥)
+    → fares_of rental l.items ≡ amount ∷ []
+one_fare rental amount l some each once =
+    one_item rental amount l.items some (λ i e is. each (l.archived + suc i) e (number_of_place i l e is))
+    (λ i j x y less fx fy. once (l.archived + suc i) (l.archived + suc j) x y (omega (arith, less)) (number_of_place i l x fx) (number_of_place j l y fy))
 
 -- ---- no more closed rentals than entries
 
@@ -187,5 +201,9 @@ booked_fit (r ∷ rs) n es each = go r.closing refl (booked_fit rs (suc n)) wher
       let rest = fit (without n es) (λ i x found. others_stay n (suc n + i) (λ e. omega (arith, e)) es ∙ later i x found) in
       omega (arith, closed_one, c, length_one, parts, rest)
 
-pub rentals_few : (rs : List Rental) (es : List Entry) → ((n : ℕ) (r : Rental) → item_numbered n rs ≡ Some r → fares_of n es ≡ fares_in r.closing) → length rs ≤ length es + count is_open rs
-rentals_few rs es each = booked_fit rs 1 es (λ i r found. let number : 1 + i ≡ suc i = omega arith in ap (λ (k : ℕ). fares_of k es) number ∙ each (suc i) r found)
+pub rentals_few : (l : Numbered Rental) (es : List Entry) → ((n : ℕ) (r : Rental) → item_numbered n l ≡ Some r → fares_of n es ≡ fares_in r.closing)
+    → length l.items ≤ length es + count is_open l.items
+rentals_few l es each =
+    booked_fit l.items (suc l.archived) es (λ i r found.
+    let number : suc l.archived + i ≡ l.archived + suc i = omega arith in
+    ap (λ (k : ℕ). fares_of k es) number ∙ each (l.archived + suc i) r (number_of_place i l r found))

@@ -6,9 +6,10 @@ use Rattle.std.specs.declared.cmp.Ordering.{Ordering}
 use Rattle.std.specs.declared.cmp.Ordering.TheVariants.{Less, Equal, Greater}
 use Rattle.std.specs.Cmp.{ranked}
 use Rattle.std.proofs.lemmas.Option.{same_Some}
-use Rattle.bike_operator.specs.Operator.{AcceptedRequest, Key, key_in, kept_under, texts_cmp, item_at, item_numbered}
+use Rattle.bike_operator.specs.Operator.{AcceptedRequest, Key, Numbered, key_in, kept_under, texts_cmp, item_at, item_in, item_numbered}
 use Rattle.bike_operator.specs.Sound.{IsAccepted, IsHistory}
 use Rattle.bike_laws.proofs.RetryLemmas.{key_itself, same_key}
+use Rattle.bike_laws.proofs.SingleSteps.ItemLemmas.{number_behind}
 
 -- ---- none before a request has its caller and key
 
@@ -45,14 +46,13 @@ earlier (y ∷ xs) (suc k) zero x found low = absurd (omega (arith, low))
 earlier (y ∷ xs) (suc k) (suc n) x found low = earlier xs k n x found (omega (arith, low))
 
 -- an item has an item before it
-numbered_before : {A : Type 0} (xs : List A) (k n : ℕ) (x : A) → item_numbered n xs ≡ Some x → 1 ≤ k → k ≤ n → (y : A) × (item_numbered k xs ≡ Some y)
-numbered_before xs zero n x found some low = absurd (omega (arith, some))
-numbered_before xs (suc k) zero x found some low = absurd cc
-numbered_before xs (suc k) (suc n) x found some low = earlier xs k n x found (omega (arith, low))
+before_in : {A : Type 0} (xs : List A) (k n : ℕ) (x : A) → item_in n xs ≡ Some x → 1 ≤ k → k ≤ n → (y : A) × (item_in k xs ≡ Some y)
+before_in xs zero n x found some low = absurd (omega (arith, some))
+before_in xs (suc k) zero x found some low = absurd cc
+before_in xs (suc k) (suc n) x found some low = earlier xs k n x found (omega (arith, low))
 
-number_some : {A : Type 0} (n : ℕ) (xs : List A) (x : A) → item_numbered n xs ≡ Some x → 1 ≤ n
-number_some zero xs x found = absurd cc
-number_some (suc n) xs x found = omega arith
+numbered_before : {A : Type 0} (l : Numbered A) (k n : ℕ) (x : A) → item_numbered n l ≡ Some x → l.archived + 1 ≤ k → k ≤ n → (y : A) × (item_numbered k l ≡ Some y)
+numbered_before l k n x found some low = before_in l.items (k - l.archived) (n - l.archived) x found (omega (arith, some)) (omega (arith, low))
 
 -- what holds of that which is there
 pub if_some : {A : Type 0} (Holds : A → Type 0) (o : Option A) → ((x : A) → o ≡ Some x → Holds x) → IfSome o Holds
@@ -66,13 +66,13 @@ holds_of Holds (Some y) x holds is = subst Holds (same_Some y x is) holds
 -- ---- the history
 
 -- The request stands behind the one before it, and none before it has its caller and key.
-pub record IsNext (h : List AcceptedRequest) (n : ℕ) (a : AcceptedRequest) : Type 0 where
+pub record IsNext (h : Numbered AcceptedRequest) (n : ℕ) (a : AcceptedRequest) : Type 0 where
   pub below : ℕ
-  pub number_is : n ≡ below + 1
-  pub in_order : IfSome (item_numbered below h) (λ b. b.moment ≤ a.moment)
-  pub anew : kept_under (key_in a.request) (take below h) ≡ None
+  pub number_is : n ≡ h.archived + below + 1
+  pub in_order : IfSome (item_in below h.items) (λ b. b.moment ≤ a.moment)
+  pub anew : kept_under (key_in a.request) (take below h.items) ≡ None
 
-module _ (h : List AcceptedRequest) (next : (n : ℕ) (a : AcceptedRequest) → item_numbered n h ≡ Some a → IsNext h n a) where
+module _ (h : Numbered AcceptedRequest) (next : (n : ℕ) (a : AcceptedRequest) → item_numbered n h ≡ Some a → IsNext h n a) where
   rises : (d m n : ℕ) (a b : AcceptedRequest) → n ≡ m + d → item_numbered m h ≡ Some a → item_numbered n h ≡ Some b → a.moment ≤ b.moment
   rises zero m n a b far at found =
       let here : m ≡ n = omega (arith, far) in
@@ -82,18 +82,21 @@ module _ (h : List AcceptedRequest) (next : (n : ℕ) (a : AcceptedRequest) → 
   rises (suc d) m n a b far at found =
       let it = next n b found in
       let number = it.number_is in
-      let low = number_some m h a at in
-      let there = numbered_before h it.below n b found (omega (arith, far, number, low)) (omega (arith, number)) in
-      let before = rises d m it.below a there.0 (omega (arith, far, number)) at there.1 in
-      let last = holds_of (λ (x : AcceptedRequest). x.moment ≤ b.moment) (item_numbered it.below h) there.0 it.in_order there.1 in
+      let low = number_behind m h a at in
+      let there = numbered_before h (h.archived + it.below) n b found (omega (arith, far, number, low)) (omega (arith, number)) in
+      let before = rises d m (h.archived + it.below) a there.0 (omega (arith, far, number)) at there.1 in
+      let place : it.below ≡ (h.archived + it.below) - h.archived = omega arith in
+      let last = holds_of (λ (x : AcceptedRequest). x.moment ≤ b.moment) (item_in it.below h.items) there.0 it.in_order (ap (λ (k : ℕ). item_in k h.items) place ∙ there.1) in
       omega (arith, before, last)
 
   apart : (m n : ℕ) (a b : AcceptedRequest) → item_numbered m h ≡ Some a → item_numbered n h ≡ Some b → key_in a.request ≡ key_in b.request → m < n → ⊥
-  apart zero n a b at found same low = absurd cc
-  apart (suc m) n a b at found same low =
-      let it = next n b found in
-      let number = it.number_is in
-      kept_there (key_in b.request) h it.below m a at (omega (arith, number, low)) (sym same) it.anew
+  apart m n a b at found same low = go (m - h.archived) refl at where
+    go : (k : ℕ) → m - h.archived ≡ k → item_in k h.items ≡ Some a → ⊥
+    go zero place there = absurd cc
+    go (suc i) place there =
+        let it = next n b found in
+        let number = it.number_is in
+        kept_there (key_in b.request) h.items it.below i a there (omega (arith, number, low, place)) (sym same) it.anew
 
   one : (m n : ℕ) (a b : AcceptedRequest) → item_numbered m h ≡ Some a → item_numbered n h ≡ Some b → key_in a.request ≡ key_in b.request → m ≡ n
   one m n a b at found same = go (nat_cmp m n) refl where

@@ -1,5 +1,5 @@
--- The rows of riders, rentals and entries are read exactly.
-use Rattle.std.proofs.Common.{◌≡◌, ℕ, ℤ, pos, negsuc, List, [], ◌∷◌, ◌++◌, length, Option, Some, None, refl, sym, subst, arith}
+-- The rows of riders, rentals and entries, and the row of what was archived, are read exactly.
+use Rattle.std.proofs.Common.{◌≡◌, ℕ, ℤ, pos, negsuc, List, [], ◌∷◌, ◌++◌, length, Option, Some, None, refl, sym, ap, ◌∙◌, subst, arith}
 use Rattle.std.specs.Prelude.{option_and_then}
 use Rattle.std.proofs.lemmas.Int.{ints}
 use Rattle.std.proofs.lemmas.Option.{option_and_then_some, same_Some}
@@ -14,12 +14,13 @@ use Rattle.bike_ledger.specs.Entries.{Entry}
 use Rattle.bike_operator.specs.declared.records.Rental.{Rental}
 use Rattle.bike_operator.specs.Operator.{Rider}
 use Rattle.bike_operator.specs.Sound.{IsPayment}
-use Rattle.bike_book.specs.Rows.{number_value, closing_columns, rider_row, rental_row, entry_row}
+use Rattle.bike_book.specs.Rows.{number_value, closing_columns, rider_row, rental_row, entry_row, books_row}
 use Rattle.bike_schema.specs.Columns.{whole_in, moment_in}
 use Rattle.bike_readings.specs.ColumnReaders.{closing_in, fare_in, rental_in, amount_in, signed_in}
-use Rattle.bike_readings.specs.Bounds.{IsNumbered, IsMoment, IsFare, IsStoredRental, IsStoredEntry, IsIdentOrNone, IsOpenOrStored, IsStoredRentalOf, IsStoredAmount}
-use Rattle.bike_readings.specs.BothWays.{RiderReading, RentalReading, EntryReading}
-use Rattle.bike_readings.proofs.ColumnLaws.{IsColumn, IsBetween, whole_column, number_column, moment_column, signed_column, flag_column, kind_column, ident_column, ident_or_none_column}
+use Rattle.bike_readings.specs.Bounds.{IsMoment, IsFare, IsStoredRider, IsStoredRental, IsStoredEntry, IsStoredBooks, IsIdentOrNone, IsOpenOrStored, IsStoredRentalOf, IsStoredAmount}
+use Rattle.bike_readings.specs.BothWays.{RiderReading, RentalReading, EntryReading, BooksReading}
+use Rattle.bike_readings.proofs.ColumnLaws.{IsColumn, IsBetween, whole_column, number_column, request_count_column, moment_column, signed_column, flag_column, kind_column, ident_column}
+use Rattle.bike_readings.proofs.ColumnLaws.{ident_or_none_column}
 use Rattle.bike_readings.proofs.ChainLaws.{HasColumns, wide, takes, ends, gives, gives_wide, given, pick_null}
 
 -- ---- riders
@@ -27,14 +28,36 @@ use Rattle.bike_readings.proofs.ChainLaws.{HasColumns, wide, takes, ends, gives,
 pub rider_reading : RiderReading
 rider_reading = record {
   sound = λ row x e.
-      wide 3 row e (λ width e.
+      wide 5 row e (λ width e.
       takes _ (number_column 1 999999) e (λ number number_is number_good e.
       takes _ flag_column e (λ blocked blocked_is _ e.
       takes _ whole_column e (λ balance balance_is _ e.
-      ends (λ (x : ℕ × Rider × ℤ). rider_row x.0 x.1.is_blocked x.2) (λ x. IsNumbered x.0) x e width (number_is, (blocked_is, (balance_is, tt))) number_good))));
+      takes _ whole_column e (λ before before_is _ e.
+      takes _ ident_or_none_column e (λ plan plan_is plan_good e.
+      ends (λ (x : ℕ × Rider × ℤ). rider_row x.0 x.1 x.2) (λ x. IsStoredRider x.0 x.1) x e width (number_is, (blocked_is, (balance_is, (before_is, (plan_is, tt)))))
+      (record { good_number = number_good; plan = plan_good })))))));
   full = λ x g.
-      gives _ x.0 (number_column 1 999999) g (
-      gives _ x.1.is_blocked flag_column tt refl);
+      gives _ x.0 (number_column 1 999999) g.good_number (
+      gives _ x.1.is_blocked flag_column tt (
+      gives _ x.1.plan ident_or_none_column g.plan refl));
+}
+
+-- ---- what was archived
+
+pub books_reading : BooksReading
+books_reading = record {
+  sound = λ row x e.
+      wide 4 row e (λ width e.
+      takes _ (number_column 1 1) e (λ one one_is one_good e.
+      takes _ request_count_column e (λ requests requests_is _ e.
+      takes _ (number_column 0 100000000) e (λ entries entries_is entries_good e.
+      takes _ (number_column 0 100000000) e (λ rentals rentals_is rentals_good e.
+      let one_one : one ≡ 1 = omega (arith, one_good.0, one_good.1) in
+      ends (λ (x : ℕ × ℕ × ℕ). books_row x.0 x.1 x.2) (λ x. IsStoredBooks x.1 x.2) x e width (one_is ∙ ap (λ n. Int (pos n)) one_one, (requests_is, (entries_is, (rentals_is, tt))))
+      (record { good_entries = entries_good.1; good_rentals = rentals_good.1 }))))));
+  full = λ x g.
+      gives _ x.1 (number_column 0 100000000) (omega arith, g.good_entries) (
+      gives _ x.2 (number_column 0 100000000) (omega arith, g.good_rentals) refl);
 }
 
 -- ---- rentals

@@ -1,11 +1,12 @@
 -- The moment in the last row of the history of an operator is that of its last request, and no moment that is read off tables is past the last one.
-use Rattle.std.proofs.Common.{◌≡◌, ℕ, suc, max, ◌≤◌, List, [], ◌∷◌, Option, Some, None, refl, ap, arith}
+use Rattle.std.proofs.Common.{◌≡◌, ℕ, suc, ◌+◌, ◌≤◌, List, [], ◌∷◌, Option, Some, None, refl, ap, arith}
 use Rattle.std.specs.Prelude.{map, slice_get, option_and_then, unwrap_or}
 use Rattle.sqlite_value.specs.Order.{Row, column}
 use Rattle.bike_sql.specs.View.{last_of}
 use Rattle.bike_fixed.specs.Whole.{last_moment}
-use Rattle.bike_operator.specs.Operator.{AcceptedRequest, item_at, item_numbered}
+use Rattle.bike_operator.specs.Operator.{AcceptedRequest, Numbered, item_at, item_numbered}
 use Rattle.bike_laws.specs.History.{last_moment_of}
+use Rattle.bike_laws.proofs.SingleSteps.ItemLemmas.{number_of_place}
 use Rattle.bike_book.specs.Tables.{Tables}
 use Rattle.bike_book.specs.Stored.{numbers_from, with_numbers, stored_request}
 use Rattle.bike_schema.specs.Columns.{moment_in}
@@ -20,10 +21,14 @@ moment_from : (n now : ℕ) (a : AcceptedRequest) (history : List AcceptedReques
 moment_from n now a [] each = ap (λ (o : Option ℕ). unwrap_or o 0) (moment_column.full a.moment (each 0 a refl))
 moment_from n now a (b ∷ history) each = moment_from (suc n) a.moment b history (λ i x is. each (suc i) x is)
 
-pub last_back : (history : List AcceptedRequest) → ((number : ℕ) (a : AcceptedRequest) → item_numbered number history ≡ Some a → IsMoment a.moment)
-    → last_moment_in (map stored_request (with_numbers history)) ≡ last_moment_of 0 history
-last_back [] each = refl
-last_back (a ∷ history) each = moment_from 1 0 a history (λ i x is. each (suc i) x is)
+moment_behind : (n : ℕ) (history : List AcceptedRequest) → ((i : ℕ) (x : AcceptedRequest) → item_at i history ≡ Some x → IsMoment x.moment)
+    → last_moment_in (map stored_request (numbers_from n history)) ≡ last_moment_of 0 history
+moment_behind n [] each = refl
+moment_behind n (a ∷ history) each = moment_from n 0 a history each
+
+pub last_back : (history : Numbered AcceptedRequest) → ((number : ℕ) (a : AcceptedRequest) → item_numbered number history ≡ Some a → IsMoment a.moment)
+    → last_moment_in (map stored_request (with_numbers history)) ≡ last_moment_of 0 history.items
+last_back history each = moment_behind (suc history.archived) history.items (λ i x is. each (history.archived + suc i) x (number_of_place i history x is))
 
 -- ---- of tables
 

@@ -14,6 +14,7 @@ use Rattle.bike_sql.specs.View.{by_key, row_with}
 use Rattle.bike_sql.proofs.OrderLemmas.{Rises, all_has}
 use Rattle.bike_sql.proofs.TreeLemmas.{by_key_total}
 use Rattle.bike_sql.proofs.RowListLemmas.{find_only}
+use Rattle.bike_operator.specs.Operator.{Numbered}
 use Rattle.bike_operator.specs.Counts.{count}
 use Rattle.bike_laws.proofs.SingleSteps.CountLemmas.{count-cons, one}
 use Rattle.bike_book.specs.Stored.{numbers_from, with_numbers}
@@ -82,24 +83,23 @@ module _ (keys : ℕ) where
 -- ---- numbered rows
 
 module _ {A : Type 0} (read : Row → Option (ℕ × A)) where
-  -- where each row spells the number of its place, the records have their numbers
-  pub read_numbered : (rows : List Row) → Rises (by_key_total 1) rows → ((r : Row) → Has rows r → (x : A) × (read r ≡ Some (lesser 1 (take 1 r) rows + 1, x)))
-      → filter_map read rows ≡ with_numbers (map (λ e. e.1) (filter_map read rows))
-  read_numbered rows up each = go [] rows refl where
-    go : (before rest : List Row) → rows ≡ before ++ rest → filter_map read rest ≡ numbers_from (suc (length before)) (map (λ e. e.1) (filter_map read rest))
+  -- where each row spells the number of its place behind so many, the records have their numbers
+  pub read_numbered : (archived : ℕ) (rows : List Row) → Rises (by_key_total 1) rows → ((r : Row) → Has rows r → (x : A) × (read r ≡ Some (archived + lesser 1 (take 1 r) rows + 1, x)))
+      → filter_map read rows ≡ numbers_from (suc archived) (map (λ e. e.1) (filter_map read rows))
+  read_numbered archived rows up each = subst (λ (n : ℕ). filter_map read rows ≡ numbers_from n (map (λ e. e.1) (filter_map read rows))) (omega arith) (go [] rows refl) where
+    go : (before rest : List Row) → rows ≡ before ++ rest → filter_map read rest ≡ numbers_from (suc (archived + length before)) (map (λ e. e.1) (filter_map read rest))
     go before [] is = refl
     go before (r ∷ rest) is =
         let has : Has rows r = subst (λ (xs : List Row). Has xs r) (sym is) (has_between 1 before r rest) in
         let it = each r has in
         let at : lesser 1 (take 1 r) rows ≡ length before = ap (lesser 1 (take 1 r)) is ∙ lesser_before 1 before r rest (subst (Rises (by_key_total 1)) is up) in
-        let number : lesser 1 (take 1 r) rows + 1 ≡ suc (length before) = omega (arith, at) in
+        let number : archived + lesser 1 (take 1 r) rows + 1 ≡ suc (archived + length before) = omega (arith, at) in
         let more : length (before ++ r ∷ []) ≡ suc (length before) = length-append before (r ∷ []) ∙ (omega arith) in
-        let later : filter_map read rest ≡ numbers_from (length (before ++ r ∷ []) + 1) (map (λ e. e.1) (filter_map read rest)) =
-        subst (λ (n : ℕ). filter_map read rest ≡ numbers_from n (map (λ e. e.1) (filter_map read rest))) (omega arith) (go (before ++ r ∷ []) rest (is ∙ sym (append_assoc before (r ∷ []) rest))) in
-        let next : filter_map read rest ≡ numbers_from (suc (suc (length before))) (map (λ e. e.1) (filter_map read rest)) =
-        subst (λ (n : ℕ). filter_map read rest ≡ numbers_from n (map (λ e. e.1) (filter_map read rest))) (omega (arith, more)) later in
-        let read_is : read r ≡ Some (suc (length before), it.0) = it.1 ∙ ap (λ (n : ℕ). Some (n, it.0)) number in
-        rw read_is (ap (λ (es : List (ℕ × A)). (suc (length before), it.0) ∷ es) next)
+        let next : filter_map read rest ≡ numbers_from (suc (suc (archived + length before))) (map (λ e. e.1) (filter_map read rest)) =
+        subst (λ (n : ℕ). filter_map read rest ≡ numbers_from n (map (λ e. e.1) (filter_map read rest))) (omega (arith, more))
+        (go (before ++ r ∷ []) rest (is ∙ sym (append_assoc before (r ∷ []) rest))) in
+        let read_is : read r ≡ Some (suc (archived + length before), it.0) = it.1 ∙ ap (λ (n : ℕ). Some (n, it.0)) number in
+        rw read_is (ap (λ (es : List (ℕ × A)). (suc (archived + length before), it.0) ∷ es) next)
 
 -- the rows with numbers below one are one fewer
 module _ {A : Type 0} (row : ℕ × A → Row) (begins : BeginsWithKey numbers row) where
@@ -134,5 +134,8 @@ module _ {A : Type 0} (row : ℕ × A → Row) (begins : BeginsWithKey numbers r
       let c = count-cons (λ r. is_lt (row_cmp (take 1 r) (number_key n))) (row (k, y)) (map row (numbers_from (suc k) xs)) in
       omega (arith, in_it, c, rest)
 
-  pub lesser_numbered : (n : ℕ) (xs : List A) (x : A) → Has (with_numbers xs) (n, x) → lesser 1 (take 1 (row (n, x))) (map row (with_numbers xs)) + 1 ≡ n
-  lesser_numbered n xs x has = ap (λ (key : Row). lesser 1 key (map row (with_numbers xs)) + 1) (begins (n, x)) ∙ lesser_from 1 n xs x has
+  pub lesser_numbered : (n : ℕ) (l : Numbered A) (x : A) → Has (with_numbers l) (n, x) → l.archived + lesser 1 (take 1 (row (n, x))) (map row (with_numbers l)) + 1 ≡ n
+  lesser_numbered n l x has =
+      let key = ap (λ (key : Row). lesser 1 key (map row (with_numbers l))) (begins (n, x)) in
+      let behind = lesser_from (suc l.archived) n l.items x has in
+      omega (arith, key, behind)

@@ -1,12 +1,12 @@
 -- Rows of maps and of numbered lists are read back as they were.
-use Rattle.std.proofs.Common.{◌≡◌, inl, inr, ℕ, zero, suc, ◌+◌, List, [], ◌∷◌, map, Option, Some, refl, sym, ap, ap₂, ◌∙◌, arith}
+use Rattle.std.proofs.Common.{◌≡◌, inl, inr, ℕ, zero, suc, ◌+◌, ◌-◌, List, [], ◌∷◌, map, Option, Some, refl, sym, ap, ap₂, ◌∙◌, arith}
 use Rattle.std.specs.List.{filter_map}
 use Rattle.std.specs.declared.cmp.Ordering.{Ordering}
 use Rattle.std.specs.FinMap as fin
 use Rattle.std.specs.FinMap.{FinMap}
 use Rattle.sqlite_value.specs.Order.{Row}
 use Rattle.sqlite_rules.specs.Lists.{Has}
-use Rattle.bike_operator.specs.Operator.{item_at, item_numbered}
+use Rattle.bike_operator.specs.Operator.{Numbered, item_at, item_in, item_numbered}
 use Rattle.bike_book.specs.Stored.{numbers_from, with_numbers}
 use Rattle.bike_book.proofs.MapRows.{StoresKeys, has_get}
 use Rattle.bike_readings.proofs.ReadLists.{stored_read, same_map, find_has}
@@ -37,27 +37,29 @@ module _ {A : Type 0} where
       let number = it.number_is in
       record { at = suc it.at; number_is = omega (arith, number); found = it.found }
 
-  pub has_numbered : (xs : List A) (n : ℕ) (x : A) → Has (with_numbers xs) (n, x) → item_numbered n xs ≡ Some x
-  has_numbered xs n x has =
-      let it = item_of 1 xs n x has in
+  pub has_numbered : (l : Numbered A) (n : ℕ) (x : A) → Has (with_numbers l) (n, x) → item_numbered n l ≡ Some x
+  has_numbered l n x has =
+      let it = item_of (suc l.archived) l.items n x has in
       let number = it.number_is in
-      let next : n ≡ suc it.at = omega (arith, number) in
-      ap (λ (k : ℕ). item_numbered k xs) next ∙ it.found
+      let place : n - l.archived ≡ suc it.at = omega (arith, number) in
+      ap (λ (k : ℕ). item_in k l.items) place ∙ it.found
 
   item_has : (k : ℕ) (xs : List A) (i : ℕ) (x : A) (n : ℕ) → n ≡ k + i → item_at i xs ≡ Some x → Has (numbers_from k xs) (n, x)
   item_has k [] i x n number found = absurd cc
   item_has k (y ∷ xs) zero x n number found = let first : n ≡ k = omega (arith, number) in let same : y ≡ x = cc in inl (ap₂ (λ (a : ℕ) (b : A). (a, b)) first (sym same))
   item_has k (y ∷ xs) (suc i) x n number found = inr (item_has (suc k) xs i x n (omega (arith, number)) found)
 
-  pub numbered_has : (xs : List A) (n : ℕ) (x : A) → item_numbered n xs ≡ Some x → Has (with_numbers xs) (n, x)
-  numbered_has xs zero x found = absurd cc
-  numbered_has xs (suc i) x found = item_has 1 xs i x (suc i) (omega arith) found
+  pub numbered_has : (l : Numbered A) (n : ℕ) (x : A) → item_numbered n l ≡ Some x → Has (with_numbers l) (n, x)
+  numbered_has l n x found = go (n - l.archived) refl found where
+    go : (k : ℕ) → n - l.archived ≡ k → item_in k l.items ≡ Some x → Has (with_numbers l) (n, x)
+    go zero place there = absurd cc
+    go (suc i) place there = item_has (suc l.archived) l.items i x n (omega (arith, place)) there
 
   without_numbers : (k : ℕ) (xs : List A) → map (λ e. e.1) (numbers_from k xs) ≡ xs
   without_numbers k [] = refl
   without_numbers k (x ∷ xs) = ap (λ (ys : List A). x ∷ ys) (without_numbers (suc k) xs)
 
   module _ (read : Row → Option (ℕ × A)) (row : ℕ × A → Row) where
-    pub numbered_back : (xs : List A) → ((n : ℕ) (x : A) → item_numbered n xs ≡ Some x → read (row (n, x)) ≡ Some (n, x)) → map (λ e. e.1) (filter_map read (map row (with_numbers xs))) ≡ xs
-    numbered_back xs back =
-        ap (map (λ (e : ℕ × A). e.1)) (stored_read read row (with_numbers xs) (λ e has. back e.0 e.1 (has_numbered xs e.0 e.1 has))) ∙ without_numbers 1 xs
+    pub numbered_back : (l : Numbered A) → ((n : ℕ) (x : A) → item_numbered n l ≡ Some x → read (row (n, x)) ≡ Some (n, x)) → map (λ e. e.1) (filter_map read (map row (with_numbers l))) ≡ l.items
+    numbered_back l back =
+        ap (map (λ (e : ℕ × A). e.1)) (stored_read read row (with_numbers l) (λ e has. back e.0 e.1 (has_numbered l e.0 e.1 has))) ∙ without_numbers (suc l.archived) l.items

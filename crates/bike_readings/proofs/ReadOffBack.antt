@@ -1,6 +1,7 @@
 -- The operator is what is read off its tables.
-use Rattle.std.proofs.Common.{◌≡◌, ℕ, ◌+◌, ◌≤◌, max, pos, List, [], true, Option, Some, None, is_some, refl, sym, ap, ◌∙◌, subst, arith, Bool}
+use Rattle.std.proofs.Common.{◌≡◌, ℕ, ℤ, ◌+◌, ◌+ℤ◌, ◌==◌, ◌≤◌, max, pos, List, [], ◌∷◌, Bool, true, false, cond, Option, Some, None, is_some, refl, sym, ap, ◌∙◌, subst, arith}
 use Rattle.std.specs.Prelude.{map, option_map, unwrap_or}
+use Rattle.std.proofs.lemmas.Bool.{eqb-true}
 use Rattle.std.specs.List.{filter_map, cons_option}
 use Rattle.std.specs.FinMap as fin
 use Rattle.std.specs.FinSet as set
@@ -19,33 +20,33 @@ use Rattle.bike_operator.specs.Sound.{IsSound, IsSetSystem, HasDock, IsNameAt}
 use Rattle.bike_laws.specs.History.{last_moment_of}
 use Rattle.bike_book.specs.declared.version.TheConstants.{NEWEST}
 use Rattle.bike_book.specs.ByType.{types_at, by_type_text}
-use Rattle.bike_book.specs.Stored.{Listed, IsListing, tables_for, meta_rows, system_rows, plans_segments, stored_plan, stored_type, stored_region, stored_station, stored_dock, stored_bike}
+use Rattle.bike_book.specs.Stored.{Listed, IsListing, tables_for, meta_rows, books_rows, system_rows, plans_segments, stored_plan, stored_type, stored_region, stored_station, stored_dock, stored_bike}
 use Rattle.bike_book.specs.Stored.{stored_truck, stored_rider, stored_rental, stored_order, stored_entry, stored_request, stored_name, with_numbers}
 use Rattle.bike_book.proofs.Keys.{numbers, texts, triples, docks}
 use Rattle.bike_readings.specs.Readings.{meta_read, system_read, plan_read, type_read, region_read, station_read, dock_read, bike_read, truck_read, rider_read, rental_read, order_read, entry_read}
 use Rattle.bike_readings.specs.Readings.{request_read, name_read}
-use Rattle.bike_readings.specs.Bounds.{IsStoredSegment}
+use Rattle.bike_readings.specs.Bounds.{IsStoredSegment, IsStoredBooks}
 use Rattle.bike_readings.proofs.CatalogueRows.{meta_reading, plan_reading, type_reading, region_reading, station_reading, dock_reading, name_reading, system_reading}
 use Rattle.bike_readings.proofs.FleetRows.{bike_reading, truck_reading, order_reading}
-use Rattle.bike_readings.proofs.LedgerRows.{rider_reading, rental_reading, entry_reading}
+use Rattle.bike_readings.proofs.LedgerRows.{rider_reading, rental_reading, entry_reading, books_reading}
 use Rattle.bike_readings.proofs.RequestRows.{request_reading}
-use Rattle.bike_readings.specs.ReadOff.{first, since_of, last_moment_in, moment_of, with_segments, plan_in, station_in, rider_in, rental_in, entry_in, name_in, dock_in, segments_of, operator_of, listed_of, first_of}
-use Rattle.bike_readings.specs.ReadOff.{misplaced_bike, bike_in}
+use Rattle.bike_readings.specs.ReadOff.{first, since_of, sums_in, past_of, archived_of, last_moment_in, moment_of, with_segments, plan_in, station_in, rider_in, rental_in, entry_in, name_in, dock_in}
+use Rattle.bike_readings.specs.ReadOff.{segments_of, operator_of, listed_of, first_of, misplaced_bike, bike_in}
 use Rattle.bike_readings.proofs.ReadBack.{map_back, numbered_back}
 use Rattle.bike_readings.proofs.Segments.{segments_back}
 use Rattle.bike_readings.proofs.Broken.{broken_back}
 use Rattle.bike_readings.proofs.Moments.{last_back}
 use Rattle.bike_readings.proofs.SoundBounds.{meta_stored, segment_stored, dock_stored, type_stored, region_stored, station_stored, bike_stored, truck_stored, rider_stored, rental_stored, order_stored}
-use Rattle.bike_readings.proofs.SoundBounds.{entry_stored, request_stored}
-use Rattle.bike_book.specs.Rows.{meta_row}
+use Rattle.bike_readings.proofs.SoundBounds.{entry_stored, request_stored, books_stored}
+use Rattle.bike_book.specs.Rows.{meta_row, books_row}
 
 module _ (s : Operator) (m : Listed) (sound : IsSound s) (listing : IsListing s m) where
   -- ---- what the rows of each table spell
 
-  pub meta_is : meta_read (meta_row NEWEST m.since (pos 0) (pos 0)) ≡ Some (NEWEST, m.since, pos 0, pos 0)
+  pub meta_is : meta_read (meta_row NEWEST m.since s.past.cash s.past.revenue) ≡ Some (NEWEST, m.since, s.past.cash, s.past.revenue)
   meta_is =
       let now = listing.now_is in
-      meta_reading.full (NEWEST, m.since, pos 0, pos 0) (meta_stored s sound m.since (subst (λ (n : ℕ). m.since ≤ n) (sym now) (le-max_left m.since (last_moment_of 0 s.history))))
+      meta_reading.full (NEWEST, m.since, s.past.cash, s.past.revenue) (meta_stored s sound m.since (subst (λ (n : ℕ). m.since ≤ n) (sym now) (le-max_left m.since (last_moment_of 0 s.history.items))))
 
   abbrev bare : PlanRow → PlanRow
   bare p = record p { segments = [] }
@@ -93,11 +94,11 @@ module _ (s : Operator) (m : Listed) (sound : IsSound s) (listing : IsListing s 
   pub truck_is : (n : ℕ) (x : Truck) → fin.get s.trucks n ≡ Some x → truck_read (stored_truck (n, x)) ≡ Some (n, x)
   truck_is n x found = truck_reading.full (n, x) (truck_stored s sound n x found)
 
-  pub rider_is : (n : ℕ) (r : Rider) → fin.get s.riders n ≡ Some r → rider_read (stored_rider s.entries (n, r)) ≡ Some (n, r, balance_of n s.entries)
-  rider_is n r found = rider_reading.full (n, r, balance_of n s.entries) (rider_stored s sound n r found)
+  pub rider_is : (n : ℕ) (r : Rider) → fin.get s.riders n ≡ Some r → rider_read (stored_rider s.entries.items (n, r)) ≡ Some (n, r, r.before +ℤ balance_of n s.entries.items)
+  rider_is n r found = rider_reading.full (n, r, r.before +ℤ balance_of n s.entries.items) (rider_stored s sound n r found)
 
-  pub rental_is : (n : ℕ) (r : Rental) → item_numbered n s.rentals ≡ Some r → rental_read (stored_rental s.entries (n, r)) ≡ Some (n, r, refunded_of n s.entries)
-  rental_is n r found = rental_reading.full (n, r, refunded_of n s.entries) (rental_stored s sound n r found)
+  pub rental_is : (n : ℕ) (r : Rental) → item_numbered n s.rentals ≡ Some r → rental_read (stored_rental s.entries.items (n, r)) ≡ Some (n, r, refunded_of n s.entries.items)
+  rental_is n r found = rental_reading.full (n, r, refunded_of n s.entries.items) (rental_stored s sound n r found)
 
   pub order_is : (n : ℕ) (o : Order) → item_numbered n s.orders ≡ Some o → order_read (stored_order (n, o)) ≡ Some (n, o)
   order_is n o found = order_reading.full (n, o) (order_stored s sound n o found)
@@ -126,12 +127,27 @@ module _ (s : Operator) (m : Listed) (sound : IsSound s) (listing : IsListing s 
   system_back None good = refl
   system_back (Some x) good = ap (λ (o : Option SystemRow). first (cons_option o [])) (system_reading.full x good)
 
-  since_back : since_of (meta_rows m.since) ≡ m.since
+  since_back : since_of (meta_rows m.since s.past) ≡ m.since
   since_back = ap (λ (o : _). unwrap_or (option_map (λ (e : _). e.1) (first (cons_option o []))) 0) meta_is
+
+  past_back : past_of (meta_rows m.since s.past) ≡ s.past
+  past_back =
+      ap (λ (o : Option (ℕ × ℕ × ℤ × ℤ)). unwrap_or (option_map sums_in (first (cons_option o []))) (record { cash = pos 0; revenue = pos 0 })) meta_is
+
+  archived_back : (requests entries rentals : ℕ) → IsStoredBooks entries rentals → archived_of (books_rows requests entries rentals) ≡ (requests, entries, rentals)
+  archived_back requests entries rentals good = go (requests + entries + rentals == 0) refl where
+    go : (b : Bool) → (requests + entries + rentals == 0) ≡ b → archived_of (cond b [] (books_row requests entries rentals ∷ [])) ≡ (requests, entries, rentals)
+    go true none =
+        let all = eqb-true (requests + entries + rentals) 0 none in
+        let a : 0 ≡ requests = omega (arith, all) in
+        let b : 0 ≡ entries = omega (arith, all) in
+        let c : 0 ≡ rentals = omega (arith, all) in
+        λ i. (a i, b i, c i)
+    go false some = ap (λ (o : Option (ℕ × ℕ × ℕ)). unwrap_or (first (cons_option o [])) (0, 0, 0)) (books_reading.full (requests, entries, rentals) good)
 
   moment_back : moment_of (tables_for s m) ≡ s.now
   moment_back =
-      let last : last_moment_in (map stored_request (with_numbers s.history)) ≡ last_moment_of 0 s.history = last_back s.history (λ n a found. (request_stored s sound n a found).moment) in
+      let last : last_moment_in (map stored_request (with_numbers s.history)) ≡ last_moment_of 0 s.history.items = last_back s.history (λ n a found. (request_stored s sound n a found).moment) in
       (λ i. max (since_back i) (last i)) ∙ sym listing.now_is
 
   dock_back : (key : DockKey) → fin.contains_key m.docks key ≡ true → (station : List ℕ) × (dock : ℕ) × (key ≡ dock_key station dock)
@@ -153,8 +169,8 @@ module _ (s : Operator) (m : Listed) (sound : IsSound s) (listing : IsListing s 
       let broken = broken_back s.broken m.docks listing.marked dock_back in
       let bikes = map_back numbers bike_in stored_bike s.bikes bike_back in
       let trucks = map_back numbers truck_read stored_truck s.trucks truck_is in
-      let riders = map_back numbers rider_in (stored_rider s.entries) s.riders (λ n r found. ap (option_map (λ (e : _). (e.0, e.1))) (rider_is n r found)) in
-      let rentals = numbered_back rental_in (stored_rental s.entries) s.rentals (λ n r found. ap (option_map (λ (e : _). (e.0, e.1))) (rental_is n r found)) in
+      let riders = map_back numbers rider_in (stored_rider s.entries.items) s.riders (λ n r found. ap (option_map (λ (e : _). (e.0, e.1))) (rider_is n r found)) in
+      let rentals = numbered_back rental_in (stored_rental s.entries.items) s.rentals (λ n r found. ap (option_map (λ (e : _). (e.0, e.1))) (rental_is n r found)) in
       let orders = numbered_back order_read stored_order s.orders order_is in
       let entries =
       numbered_back entry_in stored_entry s.entries
@@ -162,6 +178,9 @@ module _ (s : Operator) (m : Listed) (sound : IsSound s) (listing : IsListing s 
       let history = numbered_back request_read stored_request s.history request_is in
       let more_names = map_back triples name_in stored_name s.more_names name_back in
       let now = moment_back in
+      let archived = archived_back s.history.archived s.entries.archived s.rentals.archived (books_stored s sound) in
+      let all_orders = sound.orders.all_orders in
+      let past = past_back in
       λ i. record {
         system = system i;
         plans = plans i;
@@ -172,10 +191,11 @@ module _ (s : Operator) (m : Listed) (sound : IsSound s) (listing : IsListing s 
         bikes = bikes i;
         trucks = trucks i;
         riders = riders i;
-        rentals = rentals i;
-        orders = orders i;
-        entries = entries i;
-        history = history i;
+        rentals = record { archived = (archived i).2; items = rentals i };
+        orders = record { archived = sym all_orders i; items = orders i };
+        entries = record { archived = (archived i).1; items = entries i };
+        history = record { archived = (archived i).0; items = history i };
+        past = past i;
         more_names = more_names i;
         now = now i;
       }

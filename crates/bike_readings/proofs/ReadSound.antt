@@ -1,10 +1,11 @@
 -- The operator that is read off tables whose keys are all good is sound, and its docks are listed right.
-use Rattle.std.proofs.Common.{◌≡◌, inl, ℕ, ℤ, max, ◌+◌, ◌-◌, ◌<◌, ◌≤◌, List, [], ◌∷◌, length, Bool, true, false, Option, Some, None, is_some, refl, sym, ap, ◌∙◌, subst, arith}
+use Rattle.std.proofs.Common.{◌≡◌, ◌⊎◌, inl, inr, ℕ, ℤ, pos, max, ◌+◌, ◌+ℤ◌, ◌-◌, ◌<◌, ◌≤◌, List, [], ◌∷◌, length, Bool, true, false, Option, Some, None, is_some, refl, sym, ap, ◌∙◌, subst, arith}
 use Rattle.std.specs.Prelude.{option_map, take}
 use Rattle.std.specs.Ordering.{nat_cmp}
 use Rattle.std.specs.declared.cmp.Ordering.{Ordering}
 use Rattle.std.specs.declared.cmp.Ordering.TheVariants.{Less, Equal, Greater}
 use Rattle.std.specs.Cmp.{ranked}
+use Rattle.std.proofs.lemmas.Int.{ints}
 use Rattle.std.proofs.lemmas.Option.{same_Some}
 use Rattle.std.specs.FinMap as fin
 use Rattle.std.specs.FinSet as set
@@ -24,12 +25,14 @@ use Rattle.bike_operator.specs.declared.records.Bike.{Bike}
 use Rattle.bike_operator.specs.declared.records.Rental.{Rental}
 use Rattle.bike_operator.specs.declared.records.Closing.{Closing}
 use Rattle.bike_operator.specs.declared.records.Order.{Order}
-use Rattle.bike_operator.specs.Operator.{Operator, Station, Truck, Rider, AcceptedRequest, NameKey, DockKey, dock_key, name_key, item_numbered}
+use Rattle.bike_operator.specs.Operator.{Operator, Station, Truck, Rider, AcceptedRequest, NameKey, DockKey, dock_key, name_key, item_numbered, last_number}
 use Rattle.bike_operator.specs.Counts.{is_open, open_rentals}
 use Rattle.bike_operator.specs.Names.{part_at}
 use Rattle.bike_operator.specs.Sound.{IsSound, IsCatalogueSound, AreNamesSound, IsNameAt, AreBikesSound, AreOrdersSound, AreRentalsSound, IsLedgerSound, IsTypeAt, IsRegionAt, IsStationAt, HasDock}
-use Rattle.bike_operator.specs.Sound.{IsBrokenDock, IsBikeAt, IsPlace, IsTruckAt, IsOrderAt, IsRentalAt, IsRiderNumber, IsEntryAt, IsAccepted, IsHistory, fares_of, fares_in}
+use Rattle.bike_operator.specs.Sound.{IsBrokenDock, IsBikeAt, IsPlace, IsTruckAt, IsOrderAt, IsRentalAt, IsRiderAt, IsArchived, IsSumOf, IsPast, IsEntryAt, IsAccepted, IsHistory, befores}
+use Rattle.bike_operator.specs.Sound.{fares_of, fares_in}
 use Rattle.bike_laws.specs.History.{last_moment_of}
+use Rattle.bike_laws.proofs.SingleSteps.ItemLemmas.{number_behind}
 use Rattle.bike_laws.proofs.SingleSteps.MapLemmas.{there_of}
 use Rattle.bike_book.specs.Tables.{TableName, Tables, keys_of, Meta, Plans, Types, Regions, Stations, Docks, Bikes, Trucks, Riders, Rentals, Orders, Entries, History, MoreNames}
 use Rattle.bike_book.specs.Rows.{number_value}
@@ -43,9 +46,9 @@ use Rattle.bike_readings.proofs.CatalogueRows.{region_reading, name_reading}
 use Rattle.bike_readings.proofs.LedgerRows.{rental_reading}
 use Rattle.bike_readings.proofs.RequestRows.{request_reading}
 use Rattle.bike_readings.proofs.Histories.{IsNext, history_of}
-use Rattle.bike_readings.specs.ReadOff.{plan_in, station_in, rider_in, rental_in, dock_in, since_of, last_moment_in, operator_of, listed_of, first_of, misplaced_bike, bike_in}
+use Rattle.bike_readings.specs.ReadOff.{plan_in, station_in, rider_in, rental_in, dock_in, since_of, archived_of, last_moment_in, operator_of, listed_of, first_of, misplaced_bike, bike_in}
 use Rattle.bike_readings.specs.Demands.{IsGoodPlan, IsGoodType, IsGoodRegion, IsGoodStation, IsGoodDock, IsGoodPlace, IsGoodBike, IsGoodTruck, IsGoodRider, IsGoodRental, IsGoodOrder, IsGoodEntry}
-use Rattle.bike_readings.specs.Demands.{IsGoodRequest, IsGoodName, names_before, IsRiding, HasFare, IsFareOf, IsFirstFare, IsOneFare}
+use Rattle.bike_readings.specs.Demands.{IsGoodRequest, IsGoodName, IsGoodBooks, names_before, IsRiding, HasFare, IsFareOf, IsFirstFare, IsOneFare}
 use Rattle.bike_readings.specs.Rules.{AreInOrder, rows_below, AreOf}
 use Rattle.bike_readings.proofs.ReadLists.{has_read}
 use Rattle.bike_readings.proofs.ByNumber.{at_number}
@@ -57,7 +60,18 @@ use Rattle.bike_readings.proofs.RowRules.{some_with, some_is, AreGoodRows, Lacks
 use Rattle.bike_readings.proofs.ReadRows.{mapped, few_in, IsMeta, meta_are}
 use Rattle.bike_readings.proofs.Moments.{last_back, moment_by_last}
 use Rattle.bike_readings.proofs.TablesRead.{system_table, plans_table, plan_read_off, segments_table, types_table, regions_table, stations_table, docks_table, bikes_table, trucks_table}
-use Rattle.bike_readings.proofs.TablesRead.{riders_table, names_table, rentals_table, orders_table, entries_table, requests_table}
+use Rattle.bike_readings.proofs.TablesRead.{riders_table, names_table, rentals_table, orders_table, entries_table, requests_table, books_table}
+
+-- no entries come to no sum
+none_of : {n : ℕ} {sum : ℤ} → n ≡ 0 → IsSumOf n sum → sum ≡ pos 0
+none_of none it = let low = it.low in let high = it.high in omega (arith, ints, none, low, high)
+
+none_had : (es : List (ℕ × Rider)) → ((e : ℕ × Rider) → Has es e → e.1.before ≡ pos 0) → befores es ≡ pos 0
+none_had [] each = refl
+none_had (e ∷ es) each =
+    let here = each e (inl refl) in
+    let rest = none_had es (λ x has. each x (inr has)) in
+    omega (arith, ints, here, rest)
 
 module _ (t : Tables) (up : AreInOrder t) (rows : AreGoodRows (operator_of t) t) where
   abbrev s : Operator
@@ -102,18 +116,18 @@ module _ (t : Tables) (up : AreInOrder t) (rows : AreGoodRows (operator_of t) t)
       let at = (trucks_table t up rows).found n x found in
       (some_is (IsGoodTruck s (below_of Trucks at.item)) (truck_read at.item) (n, x) (rows Trucks at.item at.has) at.read_is).good
 
-  -- a rider's number, and that at most one rental of him is open
-  record IsRider (n : ℕ) : Type 0 where
-    good : IsRiderNumber n
+  -- what is demanded of a rider, and that at most one rental of the rider is open
+  record IsRider (n : ℕ) (r : Rider) : Type 0 where
+    good : IsRiderAt s n r
     riding_once : (a b : ℕ) → IsRiding s n a → IsRiding s n b → a ≡ b
 
-  rider_fact : (n : ℕ) (r : Rider) → fin.get s.riders n ≡ Some r → IsRider n
+  rider_fact : (n : ℕ) (r : Rider) → fin.get s.riders n ≡ Some r → IsRider n r
   rider_fact n r found =
       let at = (riders_table t up rows).found n r found in
       let it = mapped (λ (e : ℕ × Rider × ℤ). (e.0, e.1)) (rider_read at.item) (n, r) at.read_is in
       let fact = some_is (IsGoodRider s (below_of Riders at.item)) (rider_read at.item) it.value (rows Riders at.item at.has) it.value_is in
-      let here : IsRider it.value.0 = record { good = fact.good; riding_once = fact.riding_once } in
-      subst IsRider (ap (λ (e : ℕ × Rider). e.0) it.part_is) here
+      let here : IsRider it.value.0 it.value.1 = record { good = fact.good; riding_once = fact.riding_once } in
+      subst (λ (e : ℕ × Rider). IsRider e.0 e.1) it.part_is here
 
   -- what is demanded of a rental, whatever number is stored beside it
   abbrev IsRentalFact : ℕ × Rental → Type 0
@@ -245,7 +259,7 @@ module _ (t : Tables) (up : AreInOrder t) (rows : AreGoodRows (operator_of t) t)
   placed_at bike type_id (place.Dock station dock) it = it
   placed_at bike type_id (place.Rental rental) it =
       let rentals = rentals_table t up rows in
-      let same = at_number (stored_rental s.entries) (λ e. refl) rental_in t.rentals s.rentals rentals.rows_are rentals.back rental in
+      let same = at_number (stored_rental s.entries.items) (λ e. refl) rental_in t.rentals s.rentals rentals.rows_are rentals.back rental in
       record { row = it.row; found = sym same ∙ it.found; not_closed = it.not_closed; bike_is = it.bike_is }
   placed_at bike type_id (place.Truck truck order) it =
       let orders = orders_table t up rows in
@@ -270,12 +284,12 @@ module _ (t : Tables) (up : AreInOrder t) (rows : AreGoodRows (operator_of t) t)
       let most_trucks = within 1 t.trucks MOST_TRUCKS (up Trucks) (λ r has. (some_with (IsGoodTruck s (below_of Trucks r)) (truck_read r) (rows Trucks r has)).fact.room) in
       let orders = (orders_table t up rows).length_is in
       let most_orders = within 1 t.orders MOST_ORDERS (up Orders) (λ r has. (some_with (IsGoodOrder s (below_of Orders r)) (order_read r) (rows Orders r has)).fact.room) in
-      record { trucks = truck_fact; orders = order_fact; few_trucks = omega (arith, trucks, most_trucks); few_orders = omega (arith, orders, most_orders) }
+      record { trucks = truck_fact; orders = order_fact; few_trucks = omega (arith, trucks, most_trucks); few_orders = omega (arith, orders, most_orders); all_orders = refl }
 
   -- ---- rentals
 
-  -- a Fare entry is of a rental closed at its amount
-  fare_of_rental : (e : Entry) (k : EntryKind) → e.kind ≡ k → k ≡ Fare → IsOneFare s e k → IsFareOf s e.rental e.amount × IsFirstFare s e.number e.rental
+  -- a Fare entry is of a rental that was archived, or of one closed at its amount
+  fare_of_rental : (e : Entry) (k : EntryKind) → e.kind ≡ k → k ≡ Fare → IsOneFare s e k → IsArchived e.rental s.rentals ⊎ (IsFareOf s e.rental e.amount × IsFirstFare s e.number e.rental)
   fare_of_rental e TopUp is fare it = absurd cc
   fare_of_rental e Fare is fare it = it
   fare_of_rental e Refund is fare it = absurd cc
@@ -283,19 +297,31 @@ module _ (t : Tables) (up : AreInOrder t) (rows : AreGoodRows (operator_of t) t)
   fare_of_rental e Charge is fare it = absurd cc
   fare_of_rental e Credit is fare it = absurd cc
 
-  fare_fact : (rental n : ℕ) (e : Entry) → item_numbered n s.entries ≡ Some e → is_fare_of rental e ≡ true → IsFareOf s rental e.amount × IsFirstFare s n rental
-  fare_fact rental n e found passes =
-      let parts = fare_parts rental e passes in
-      let fact = entry_fact n e found in
-      let it = fare_of_rental e e.kind refl parts.0 fact.1 in
-      (subst (λ (k : ℕ). IsFareOf s k e.amount) parts.1 it.0, subst (λ (k : ℕ). IsFirstFare s k rental) fact.0.number_is (subst (λ (k : ℕ). IsFirstFare s e.number k) parts.1 it.1))
+  -- .. and of the latter where the rental is there
+  fare_fact : (rental : ℕ) (r : Rental) → item_numbered rental s.rentals ≡ Some r → (n : ℕ) (e : Entry) → item_numbered n s.entries ≡ Some e → is_fare_of rental e ≡ true
+      → IsFareOf s rental e.amount × IsFirstFare s n rental
+  fare_fact rental r there n e found passes = go (fare_of_rental e e.kind refl parts.0 fact.1) where
+    parts : (e.kind ≡ Fare) × (e.rental ≡ rental)
+    parts = fare_parts rental e passes
 
-  rental_booked : (n : ℕ) (r : Rental) → item_numbered n s.rentals ≡ Some r → (c : Option Closing) → r.closing ≡ c → HasFare s n c → fares_of n s.entries ≡ fares_in c
+    fact : IsEntryFact (n, e)
+    fact = entry_fact n e found
+
+    go : IsArchived e.rental s.rentals ⊎ (IsFareOf s e.rental e.amount × IsFirstFare s e.number e.rental) → IsFareOf s rental e.amount × IsFirstFare s n rental
+    go (inl archived) =
+        let behind = number_behind rental s.rentals r there in
+        let high = archived.high in
+        let same = parts.1 in
+        absurd (omega (arith, behind, high, same))
+    go (inr it) =
+        (subst (λ (k : ℕ). IsFareOf s k e.amount) parts.1 it.0, subst (λ (k : ℕ). IsFirstFare s k rental) fact.0.number_is (subst (λ (k : ℕ). IsFirstFare s e.number k) parts.1 it.1))
+
+  rental_booked : (n : ℕ) (r : Rental) → item_numbered n s.rentals ≡ Some r → (c : Option Closing) → r.closing ≡ c → HasFare s n c → fares_of n s.entries.items ≡ fares_in c
   rental_booked n r found None is booked = no_fares n s.entries (λ i e there. go i e there (is_fare_of n e) refl) where
     go : (i : ℕ) (e : Entry) → item_numbered i s.entries ≡ Some e → (b : Bool) → is_fare_of n e ≡ b → is_fare_of n e ≡ false
     go i e there false fails = fails
     go i e there true passes =
-        let it = (fare_fact n i e there passes).0 in
+        let it = (fare_fact n r found i e there passes).0 in
         let same : ◌≡◌ {A = Option Rental} (Some it.row) (Some r) = sym it.found ∙ found in
         let row : it.row ≡ r = cc in
         let closed : ◌≡◌ {A = Option Closing} (Some it.closing) None = sym it.closed ∙ ap (λ (x : Rental). x.closing) row ∙ is in
@@ -303,7 +329,7 @@ module _ (t : Tables) (up : AreInOrder t) (rows : AreGoodRows (operator_of t) t)
   rental_booked n r found (Some c) is booked = one_fare n c.fare s.entries booked each once where
     each : (i : ℕ) (e : Entry) → item_numbered i s.entries ≡ Some e → is_fare_of n e ≡ true → e.amount ≡ c.fare
     each i e there passes =
-        let it = (fare_fact n i e there passes).0 in
+        let it = (fare_fact n r found i e there passes).0 in
         let same : ◌≡◌ {A = Option Rental} (Some it.row) (Some r) = sym it.found ∙ found in
         let row : it.row ≡ r = cc in
         let closed : ◌≡◌ {A = Option Closing} (Some it.closing) (Some c) = sym it.closed ∙ ap (λ (x : Rental). x.closing) row ∙ is in
@@ -311,7 +337,7 @@ module _ (t : Tables) (up : AreInOrder t) (rows : AreGoodRows (operator_of t) t)
         it.fare_is ∙ ap (λ (x : Closing). x.fare) closing
 
     once : (a b : ℕ) (x y : Entry) → a < b → item_numbered a s.entries ≡ Some x → item_numbered b s.entries ≡ Some y → is_fare_of n x ≡ true → is_fare_of n y ≡ true → ⊥
-    once a b x y less fx fy px py = let kind = fare_parts n x px in (fare_fact n b y fy py).1 a x less fx kind.0 kind.1
+    once a b x y less fx fy px py = let kind = fare_parts n x px in (fare_fact n r found b y fy py).1 a x less fx kind.0 kind.1
 
   pub rental_sound : (n : ℕ) (r : Rental) → item_numbered n s.rentals ≡ Some r → IsRentalAt s n r
   rental_sound n r found =
@@ -332,13 +358,21 @@ module _ (t : Tables) (up : AreInOrder t) (rows : AreGoodRows (operator_of t) t)
       let rider = there_of (fin.get s.riders r.rider) (rental_sound b r fr).rider_is in
       (rider_fact r.rider rider.0 rider.1).riding_once a b (record { row = q; found = fq; not_closed = oq; rider_is = same }) (record { row = r; found = fr; not_closed = or; rider_is = refl })
 
+  -- each rental that is there is open or has an entry; of those that were archived the row of books tells
+  few_rentals : (archived_of t.books ≡ (0, 0, 0)) ⊎ IsGoodBooks s (archived_of t.books) → last_number s.rentals ≤ last_number s.entries + open_rentals s
+  few_rentals (inl none) =
+      let archived : s.rentals.archived ≡ 0 = ap (λ (e : ℕ × ℕ × ℕ). e.2) none in
+      let few = rentals_few s.rentals s.entries.items (λ n r found. (rental_sound n r found).booked) in
+      omega (arith, archived, few)
+  few_rentals (inr good) = good.few_rentals
+
   pub rentals_sound : AreRentalsSound s
-  rentals_sound = record { rentals = rental_sound; riding = riding; few_rentals = rentals_few s.rentals s.entries (λ n r found. (rental_sound n r found).booked) }
+  rentals_sound = record { rentals = rental_sound; riding = riding; few_rentals = few_rentals (books_table t up rows).good }
 
   -- ---- riders and entries
 
   -- there are no more rentals than numbers for them
-  rentals_within : length s.rentals ≤ MOST_ENTRIES
+  rentals_within : length s.rentals.items ≤ MOST_ENTRIES
   rentals_within =
       let all = (rentals_table t up rows).length_is in
       let most =
@@ -349,29 +383,49 @@ module _ (t : Tables) (up : AreInOrder t) (rows : AreGoodRows (operator_of t) t)
       omega (arith, number, serial)) in
       omega (arith, all, most)
 
-  entries_within : (rs : List Row) → t.entries ≡ rs → length s.entries + open_rentals s ≤ MOST_ENTRIES
+  entries_within : (rs : List Row) → t.entries ≡ rs → length s.entries.items + open_rentals s ≤ MOST_ENTRIES
   entries_within [] none =
       let all = (entries_table t up rows).length_is in
       let empty : length t.entries ≡ 0 = ap (λ (xs : List Row). length xs) none in
-      let some = counted is_open s.rentals in
+      let some = counted is_open s.rentals.items in
       let most = rentals_within in
       omega (arith, all, empty, some, most)
   entries_within (r ∷ rs) is =
-      let room : (x : Row) → Has t.entries x → below_of Entries x + open_rentals s < MOST_ENTRIES = λ x has. (some_with (IsGoodEntry s (below_of Entries x)) (entry_read x) (rows Entries x has)).fact.room in
+      let room : (x : Row) → Has t.entries x → below_of Entries x + open_rentals s < MOST_ENTRIES =
+      λ x has. let behind = (some_with (IsGoodEntry s (below_of Entries x)) (entry_read x) (rows Entries x has)).fact.room in omega (arith, behind) in
       let first = room r (subst (λ (xs : List Row). Has xs r) (sym is) (inl refl)) in
       let most = within 1 t.entries (MOST_ENTRIES - open_rentals s) (up Entries) (λ x has. let low = room x has in omega (arith, low)) in
       let all = (entries_table t up rows).length_is in
       omega (arith, first, most, all)
 
-  pub ledger_sound : IsLedgerSound s
-  ledger_sound =
-      let riders = few_in numbers (stored_rider s.entries) (λ e. refl) rider_in t.riders s.riders (riders_table t up rows) in
+  few_entries : (archived_of t.books ≡ (0, 0, 0)) ⊎ IsGoodBooks s (archived_of t.books) → last_number s.entries + open_rentals s ≤ MOST_ENTRIES
+  few_entries (inl none) =
+      let archived : s.entries.archived ≡ 0 = ap (λ (e : ℕ × ℕ × ℕ). e.1) none in
+      let few = entries_within t.entries refl in
+      omega (arith, archived, few)
+  few_entries (inr good) = good.few_entries
+
+  -- where nothing was archived, nothing was had, earned and paid in by it
+  conserved : (archived_of t.books ≡ (0, 0, 0)) ⊎ IsGoodBooks s (archived_of t.books) → IsSumOf s.entries.archived s.past.cash → IsSumOf s.entries.archived s.past.revenue
+      → befores (fin.entries s.riders) +ℤ s.past.revenue ≡ s.past.cash
+  conserved (inl none) cash revenue =
+      let archived : s.entries.archived ≡ 0 = ap (λ (e : ℕ × ℕ × ℕ). e.1) none in
+      let had = none_had (fin.entries s.riders) (λ e has. none_of archived (rider_fact e.0 e.1 (has_get numbers.total s.riders e has)).good.before) in
+      let paid = none_of archived cash in
+      let earned = none_of archived revenue in
+      omega (arith, ints, had, paid, earned)
+  conserved (inr good) cash revenue = good.conserved
+
+  pub ledger_sound : IsPast s → IsLedgerSound s
+  ledger_sound past =
+      let riders = few_in numbers (stored_rider s.entries.items) (λ e. refl) rider_in t.riders s.riders (riders_table t up rows) in
       let most = within 1 t.riders MOST_RIDERS (up Riders) (λ r has. (some_with (IsGoodRider s (below_of Riders r)) (rider_read r) (rows Riders r has)).fact.room) in
       record {
         riders = λ n r found. (rider_fact n r found).good;
         entries = λ n e found. (entry_fact n e found).0;
+        past = past;
         few_riders = omega (arith, riders, most);
-        few_entries = entries_within t.entries refl;
+        few_entries = few_entries (books_table t up rows).good;
       }
 
   -- ---- docks that are listed
@@ -398,7 +452,7 @@ module _ (t : Tables) (up : AreInOrder t) (rows : AreGoodRows (operator_of t) t)
 
   module _ (lacks : LacksNone t) where
     -- the last row of the history has the moment of the last request
-    last_read : last_moment_in t.history ≡ last_moment_of 0 s.history
+    last_read : last_moment_in t.history ≡ last_moment_of 0 s.history.items
     last_read =
         ap last_moment_in (requests_table t up rows).rows_are
         ∙ last_back s.history (λ n a found. let at = (requests_table t up rows).found n a found in (request_reading.sound at.item (n, a) at.read_is).1.moment)
@@ -409,9 +463,21 @@ module _ (t : Tables) (up : AreInOrder t) (rows : AreGoodRows (operator_of t) t)
     meta : IsMeta s t.meta
     meta = meta_are s t.meta (up Meta) (λ r has. (below_of Meta r, rows Meta r has)) (λ none. lacks Meta (number_value 1 ∷ []) none refl)
 
+    past : IsPast s
+    past = record { cash = meta.cash; revenue = meta.revenue; conserved = conserved (books_table t up rows).good meta.cash meta.revenue }
+
     sound : IsSound s
     sound =
-        record { catalogue = catalogue_sound; bikes = bikes_sound; orders = orders_sound; rentals = rentals_sound; ledger = ledger_sound; history = history_sound; names = names_sound; now = moment_by_last t meta.by_last }
+        record {
+          catalogue = catalogue_sound;
+          bikes = bikes_sound;
+          orders = orders_sound;
+          rentals = rentals_sound;
+          ledger = ledger_sound past;
+          history = history_sound;
+          names = names_sound;
+          now = moment_by_last t meta.by_last;
+        }
 
     tables : t ≡ tables_for s (listed_of t)
     tables =
@@ -431,6 +497,7 @@ module _ (t : Tables) (up : AreInOrder t) (rows : AreGoodRows (operator_of t) t)
         let entries = (entries_table t up rows).rows_are in
         let history = (requests_table t up rows).rows_are in
         let more_names = (names_table t up rows).rows_are in
+        let books = (books_table t up rows).rows_are in
         λ i. record {
           meta = meta_rows i;
           system = system i;
@@ -448,6 +515,7 @@ module _ (t : Tables) (up : AreInOrder t) (rows : AreGoodRows (operator_of t) t)
           entries = entries i;
           history = history i;
           more_names = more_names i;
+          books = books i;
         }
 
     pub are_of : AreOf t s (listed_of t)

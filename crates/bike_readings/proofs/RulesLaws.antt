@@ -16,7 +16,7 @@ use Rattle.bike_sql.proofs.OrderLemmas.{Rises, rises}
 use Rattle.bike_sql.proofs.TreeLemmas.{by_key_total}
 use Rattle.bike_operator.specs.Operator.{Operator}
 use Rattle.bike_book.specs.Tables.{TableName, Tables, rows_in as rows_in_tables, tables_by, keys_of, table_place, Meta, System, Plans, Segments, Types, Regions, Stations, Docks, Bikes, Trucks, Riders}
-use Rattle.bike_book.specs.Tables.{Rentals, Orders, Entries, History, MoreNames}
+use Rattle.bike_book.specs.Tables.{Rentals, Orders, Entries, History, MoreNames, Books}
 use Rattle.bike_book.specs.Stored.{tables_for}
 use Rattle.sqlite_trees.specs.Tree.{Trees}
 use Rattle.bike_schema.specs.Layouts.{every_table, name_of}
@@ -73,6 +73,7 @@ its_own Orders = refl
 its_own Entries = refl
 its_own History = refl
 its_own MoreNames = refl
+its_own Books = refl
 
 module _ (t : Tables) (a b : TableName) (k l : Row) (first : IsFirstBad t a k) (other : IsFirstBad t b l) where
   same_table : (o : Ordering) → o ≡ nat_cmp (table_place a) (table_place b) → a ≡ b
@@ -120,6 +121,7 @@ rows_by rows Orders = refl
 rows_by rows Entries = refl
 rows_by rows History = refl
 rows_by rows MoreNames = refl
+rows_by rows Books = refl
 
 pub stored_in_order : StoredInOrder
 stored_in_order db name =

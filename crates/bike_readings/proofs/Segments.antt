@@ -17,7 +17,7 @@ use Rattle.bike_sql.proofs.OrderLemmas.{Rises, rises_append, all_from, same_list
 use Rattle.bike_sql.proofs.TreeLemmas.{by_key_total}
 use Rattle.bike_fields.specs.Values.{SegmentRow}
 use Rattle.bike_catalogue.specs.Rows.{PlanRow}
-use Rattle.bike_operator.specs.Operator.{text_cmp, dock_key, item_at, item_numbered}
+use Rattle.bike_operator.specs.Operator.{text_cmp, dock_key, item_at, item_in}
 use Rattle.bike_laws.proofs.SingleSteps.MapLemmas.{text_order}
 use Rattle.bike_book.specs.Rows.{number_value, segment_row}
 use Rattle.bike_book.specs.Stored.{segment_rows, plans_segments}
@@ -237,7 +237,7 @@ module _ (plans : FinMap text_cmp PlanRow) (rows : List Row) (up : Rises (by_key
     pub plan : PlanRow
     pub row_is : r ≡ segment_row id seq segment
     pub found : fin.get plans id ≡ Some plan
-    pub segment_is : item_numbered seq plan.segments ≡ Some segment
+    pub segment_is : item_in seq plan.segments ≡ Some segment
 
   pub segments_are : ((r : Row) → Has rows r → IsOfPlan r) → ((id : List ℕ) (p : PlanRow) → fin.get plans id ≡ Some p → p.segments ≡ segments_of rows id) → rows ≡ plans_segments (fin.entries plans)
   segments_are each gathered = same_list (by_key_total 2) rows (plans_segments (fin.entries plans)) up (segments_rise (fin.entries plans) (fin.entries_sorted plans)) there back where
@@ -247,7 +247,7 @@ module _ (plans : FinMap text_cmp PlanRow) (rows : List Row) (up : Rises (by_key
         subst (Has (plans_segments (fin.entries plans))) (sym it.row_is)
         (has_among (fin.entries plans) (it.id, it.plan) (segment_row it.id it.seq it.segment) (get_has texts plans it.id it.plan it.found) (number it.seq it.segment_is))
       where
-        number : (n : ℕ) → item_numbered n (each r has).plan.segments ≡ Some (each r has).segment
+        number : (n : ℕ) → item_in n (each r has).plan.segments ≡ Some (each r has).segment
             → Has (segment_rows (each r has).id 1 (each r has).plan.segments) (segment_row (each r has).id n (each r has).segment)
         number zero is = absurd cc
         number (suc i) is = has_row (each r has).id 1 (each r has).plan.segments i (suc i) (each r has).segment (omega arith) is

@@ -1,5 +1,5 @@
 -- The records of a sound operator keep the bounds of stored rows.
-use Rattle.std.proofs.Common.{◌≡◌, ℕ, zero, suc, ◌+◌, ◌≤◌, List, [], ◌∷◌, length, filter, Bool, true, false, cond, Option, Some, None, is_some, refl, sym, ap, ◌∙◌, subst, arith}
+use Rattle.std.proofs.Common.{◌≡◌, inl, inr, ℕ, zero, suc, ◌+◌, ◌≤◌, List, [], ◌∷◌, length, filter, Bool, true, false, cond, Option, Some, None, is_some, refl, sym, ap, ◌∙◌, subst, arith}
 use Rattle.std.specs.FinMap as fin
 use Rattle.std.proofs.lemmas.List.{length-append}
 use Rattle.bike_fields.specs.Bytes.{is_ident, is_language}
@@ -18,18 +18,18 @@ use Rattle.bike_operator.specs.declared.records.Bike.{Bike}
 use Rattle.bike_operator.specs.declared.records.Rental.{Rental}
 use Rattle.bike_operator.specs.declared.records.Closing.{Closing}
 use Rattle.bike_operator.specs.declared.records.Order.{Order}
-use Rattle.bike_operator.specs.Operator.{Operator, Station, Truck, Rider, AcceptedRequest, name_key, item_at, item_numbered}
+use Rattle.bike_operator.specs.Operator.{Operator, Station, Truck, Rider, AcceptedRequest, Numbered, name_key, item_at, item_numbered}
 use Rattle.bike_operator.specs.Counts.{count, docks_up_to, docks_broken, is_broken}
 use Rattle.bike_operator.specs.View.{has_end, has_region}
-use Rattle.bike_operator.specs.Sound.{IsSetSystem, HasDock, IsPlace, IsStop, IsOpenOrClosed, IsBooking, IsSound}
-use Rattle.bike_laws.proofs.SingleSteps.ItemLemmas.{number_within}
+use Rattle.bike_operator.specs.Sound.{IsSetSystem, HasDock, IsPlace, IsStop, IsOpenOrClosed, IsPlanOrNone, IsOfRental, IsBooking, IsSound}
+use Rattle.bike_laws.proofs.SingleSteps.ItemLemmas.{number_within, number_behind}
 use Rattle.bike_book.specs.declared.version.TheConstants.{NEWEST}
 use Rattle.bike_book.specs.ByType.{types_at, by_type_text}
 use Rattle.bike_book.specs.Rows.{second_text, third_text}
 use Rattle.bike_readings.specs.SoundRows.{HasBounds}
 use Rattle.bike_readings.specs.Bounds.{IsNumbered, IsSerial, IsMoment, IsIdentOrNone, IsStoredMeta, IsStoredPlan, IsStoredSegment, IsStoredType, IsStoredRegion, IsStoredStation, IsStoredDock}
-use Rattle.bike_readings.specs.Bounds.{IsStoredPlace, IsStoredBike, IsStoredTruck, IsOpenOrStored, IsStoredRental, IsStoredOrder, IsStoredRentalOf, IsStoredAmount, IsStoredEntry}
-use Rattle.bike_readings.specs.Bounds.{IsStoredRequest, IsStoredName}
+use Rattle.bike_readings.specs.Bounds.{IsStoredPlace, IsStoredBike, IsStoredTruck, IsStoredRider, IsOpenOrStored, IsStoredRental, IsStoredOrder, IsStoredRentalOf, IsStoredAmount, IsStoredEntry}
+use Rattle.bike_readings.specs.Bounds.{IsStoredRequest, IsStoredName, IsStoredBooks}
 use Rattle.bike_readings.proofs.StationTexts.{station_utf8}
 
 -- ---- what is there
@@ -39,9 +39,8 @@ some_there : {A P : Type 0} (o : Option A) → is_some o ≡ true → ((x : A) �
 some_there None e k = absurd cc
 some_there (Some x) e k = k x refl
 
-number_least : {A : Type 0} (n : ℕ) (xs : List A) (x : A) → item_numbered n xs ≡ Some x → 1 ≤ n
-number_least zero xs x e = absurd cc
-number_least (suc n) xs x e = omega arith
+number_least : {A : Type 0} (n : ℕ) (l : Numbered A) (x : A) → item_numbered n l ≡ Some x → 1 ≤ n
+number_least n l x e = let behind = number_behind n l x e in omega (arith, behind)
 
 filtered_within : {A : Type 0} (test : A → Bool) (xs : List A) → count test xs ≤ length xs
 filtered_within test [] = omega arith
@@ -95,6 +94,22 @@ module _ (s : Operator) (sound : IsSound s) where
       let most = sound.ledger.few_entries in
       let within = number_within n s.entries e found in
       (number_least n s.entries e found, omega (arith, most, within))
+
+  -- of a rental that is there, or that was archived
+  of_rental : (e : Entry) → IsOfRental s e → IsSerial e.rental
+  of_rental e (inl archived) =
+      let few = sound.rentals.few_rentals in
+      let most = sound.ledger.few_entries in
+      let low = archived.low in
+      let high = archived.high in
+      (low, omega (arith, few, most, high))
+  of_rental e (inr closed) = rental_number e.rental closed.row closed.found
+
+  pub books_stored : IsStoredBooks s.entries.archived s.rentals.archived
+  books_stored =
+      let few = sound.rentals.few_rentals in
+      let most = sound.ledger.few_entries in
+      record { good_entries = omega (arith, most); good_rentals = omega (arith, few, most) }
 
   by_now : (n : ℕ) → n ≤ s.now → IsMoment n
   by_now n up = let now = sound.now in omega (arith, up, now)
@@ -185,8 +200,12 @@ module _ (s : Operator) (sound : IsSound s) where
   pub truck_stored : (number : ℕ) (t : Truck) → fin.get s.trucks number ≡ Some t → IsStoredTruck number t
   truck_stored number t found = let it = sound.orders.trucks number t found in record { good_number = (it.low, it.high); capacity = (it.some, it.most) }
 
-  pub rider_stored : (number : ℕ) (r : Rider) → fin.get s.riders number ≡ Some r → IsNumbered number
-  rider_stored number r found = let it = sound.ledger.riders number r found in (it.low, it.high)
+  own_plan : (plan : Option (List ℕ)) → IsPlanOrNone s plan → IsIdentOrNone plan
+  own_plan None there = tt
+  own_plan (Some plan) there = plan_ident plan there
+
+  pub rider_stored : (number : ℕ) (r : Rider) → fin.get s.riders number ≡ Some r → IsStoredRider number r
+  rider_stored number r found = let it = sound.ledger.riders number r found in record { good_number = (it.low, it.high); plan = own_plan r.plan it.plan }
 
   stop_stored : (to : Option (List ℕ)) → IsStop s to → IsIdentOrNone to
   stop_stored None stop = tt
@@ -233,8 +252,8 @@ module _ (s : Operator) (sound : IsSound s) where
 
   booked_rental : (e : Entry) (kind : EntryKind) → IsBooking s e kind → IsStoredRentalOf kind e.rental
   booked_rental e TopUp it = it.0
-  booked_rental e Fare it = rental_number e.rental it.0.row it.0.found
-  booked_rental e Refund it = rental_number e.rental it.0.row it.0.found
+  booked_rental e Fare it = of_rental e it.0
+  booked_rental e Refund it = of_rental e it.0
   booked_rental e Withdrawal it = it.0
   booked_rental e Charge it = it.0
   booked_rental e Credit it = it.0
@@ -288,4 +307,5 @@ has_bounds s sound = record {
   entries = entry_stored s sound;
   requests = request_stored s sound;
   more_names = name_stored s sound;
+  books = books_stored s sound;
 }

@@ -1,5 +1,5 @@
 -- Tables whose rows are all good are those of the operator that is read off them: table by table.
-use Rattle.std.proofs.Common.{◌≡◌, ℕ, ℤ, zero, suc, ◌+◌, List, [], ◌∷◌, Bool, Option, Some, refl, sym, ap, ◌∙◌, subst}
+use Rattle.std.proofs.Common.{◌≡◌, ℕ, ℤ, zero, suc, ◌+◌, List, [], ◌∷◌, Bool, Option, Some, refl, sym, ap, ◌∙◌, subst, arith}
 use Rattle.std.specs.Prelude.{option_map, take}
 use Rattle.std.specs.FinMap as fin
 use Rattle.sqlite_value.specs.Order.{Row}
@@ -14,7 +14,7 @@ use Rattle.bike_operator.specs.declared.records.Bike.{Bike}
 use Rattle.bike_operator.specs.declared.records.Rental.{Rental}
 use Rattle.bike_operator.specs.Operator.{Operator, NameKey, DockKey, dock_key, name_key, item_at}
 use Rattle.bike_operator.specs.Sound.{IsPlanAt}
-use Rattle.bike_book.specs.Tables.{Tables, System, Plans, Segments, Types, Regions, Stations, Docks, Bikes, Trucks, Riders, Rentals, Orders, Entries, History, MoreNames, TableName, keys_of}
+use Rattle.bike_book.specs.Tables.{Tables, System, Plans, Segments, Types, Regions, Stations, Docks, Bikes, Trucks, Riders, Rentals, Orders, Entries, History, MoreNames, Books, TableName, keys_of}
 use Rattle.bike_book.specs.Stored.{plans_segments, stored_plan, stored_type, stored_region, stored_station, stored_dock, stored_bike, stored_truck, stored_rider, stored_rental, stored_order}
 use Rattle.bike_book.specs.Stored.{stored_entry, stored_request, stored_name}
 use Rattle.bike_book.proofs.Keys.{numbers, texts, triples, docks, IsTriple, IsDockPair}
@@ -32,7 +32,7 @@ use Rattle.bike_readings.proofs.ReadLists.{IsStored, AreRowsOf, read_map}
 use Rattle.bike_readings.proofs.Segments.{IsOfPlan, segments_are, item_found, segment_found, few_found}
 use Rattle.bike_readings.proofs.Broken.{broken_as}
 use Rattle.bike_readings.proofs.RowRules.{some_with, AreGoodRows}
-use Rattle.bike_readings.proofs.ReadRows.{mapped, stored_plain, stored_part, AreRowsOfList, read_list, IsSystemOf, system_are}
+use Rattle.bike_readings.proofs.ReadRows.{mapped, stored_plain, stored_part, AreRowsOfList, read_list, IsSystemOf, system_are, IsBooksOf, books_are}
 use Rattle.bike_book.specs.Rows.{dock_row, rental_row, rider_row, station_row}
 
 are_segments : (gs : List SegmentRow) → ((i : ℕ) (g : SegmentRow) → item_at i gs ≡ Some g → IsSegment g) → AreSegments gs
@@ -133,11 +133,11 @@ module _ (t : Tables) (up : AreInOrder t) (rows : AreGoodRows (operator_of t) t)
   trucks_table =
       read_map numbers stored_truck (λ e. refl) truck_read t.trucks (up Trucks) (λ r has. stored_plain truck_reading (IsGoodTruck s (below_of Trucks r)) r (rows Trucks r has)) (λ r e has is. tt)
 
-  pub riders_table : AreRowsOf numbers (stored_rider s.entries) (λ e. refl) rider_in t.riders s.riders
+  pub riders_table : AreRowsOf numbers (stored_rider s.entries.items) (λ e. refl) rider_in t.riders s.riders
   riders_table =
-      read_map numbers (stored_rider s.entries) (λ e. refl) rider_in t.riders (up Riders)
-      (λ r has. stored_part rider_reading (λ e. (e.0, e.1)) (stored_rider s.entries) (IsGoodRider s (below_of Riders r)) r (rows Riders r has)
-      (λ a is fact. ap (λ (z : ℤ). rider_row a.0 a.1.is_blocked z) fact.balance_is))
+      read_map numbers (stored_rider s.entries.items) (λ e. refl) rider_in t.riders (up Riders)
+      (λ r has. stored_part rider_reading (λ e. (e.0, e.1)) (stored_rider s.entries.items) (IsGoodRider s (below_of Riders r)) r (rows Riders r has)
+      (λ a is fact. ap (λ (z : ℤ). rider_row a.0 a.1 z) fact.balance_is))
       (λ r e has is. tt)
 
   -- ---- names in further languages
@@ -155,10 +155,10 @@ module _ (t : Tables) (up : AreInOrder t) (rows : AreGoodRows (operator_of t) t)
 
   -- ---- rentals, orders, entries, requests
 
-  pub rentals_table : AreRowsOfList (stored_rental s.entries) rental_in t.rentals s.rentals
+  pub rentals_table : AreRowsOfList (stored_rental s.entries.items) rental_in t.rentals s.rentals
   rentals_table =
-      read_list (stored_rental s.entries) rental_in t.rentals (up Rentals)
-      (λ r has. stored_part rental_reading (λ e. (e.0, e.1)) (stored_rental s.entries) (IsGoodRental s (below_of Rentals r)) r (rows Rentals r has)
+      read_list (stored_rental s.entries.items) rental_in t.rentals s.rentals.archived (up Rentals)
+      (λ r has. stored_part rental_reading (λ e. (e.0, e.1)) (stored_rental s.entries.items) (IsGoodRental s (below_of Rentals r)) r (rows Rentals r has)
       (λ a is fact. ap (λ (z : ℤ). rental_row a.0 a.1 z) fact.refunded_is))
       (λ r has.
       let it = some_with (IsGoodRental s (below_of Rentals r)) (rental_read r) (rows Rentals r has) in
@@ -166,15 +166,17 @@ module _ (t : Tables) (up : AreInOrder t) (rows : AreGoodRows (operator_of t) t)
 
   pub orders_table : AreRowsOfList stored_order order_read t.orders s.orders
   orders_table =
-      read_list stored_order order_read t.orders (up Orders)
+      read_list stored_order order_read t.orders 0 (up Orders)
       (λ r has. stored_plain order_reading (IsGoodOrder s (below_of Orders r)) r (rows Orders r has))
       (λ r has.
       let it = some_with (IsGoodOrder s (below_of Orders r)) (order_read r) (rows Orders r has) in
-      (it.value.1, it.value_is ∙ ap (λ (n : ℕ). Some (n, it.value.1)) it.fact.number_is))
+      let number = it.fact.number_is in
+      let first : it.value.0 ≡ 0 + below_of Orders r + 1 = omega (arith, number) in
+      (it.value.1, it.value_is ∙ ap (λ (n : ℕ). Some (n, it.value.1)) first))
 
   pub entries_table : AreRowsOfList stored_entry entry_in t.entries s.entries
   entries_table =
-      read_list stored_entry entry_in t.entries (up Entries)
+      read_list stored_entry entry_in t.entries s.entries.archived (up Entries)
       (λ r has. stored_part entry_reading (λ (e : Entry). (e.number, e)) stored_entry (IsGoodEntry s (below_of Entries r)) r (rows Entries r has) (λ a is fact. refl))
       (λ r has.
       let it = some_with (IsGoodEntry s (below_of Entries r)) (entry_read r) (rows Entries r has) in
@@ -182,8 +184,13 @@ module _ (t : Tables) (up : AreInOrder t) (rows : AreGoodRows (operator_of t) t)
 
   pub requests_table : AreRowsOfList stored_request request_read t.history s.history
   requests_table =
-      read_list stored_request request_read t.history (up History)
+      read_list stored_request request_read t.history s.history.archived (up History)
       (λ r has. stored_plain request_reading (IsGoodRequest s (below_of History r)) r (rows History r has))
       (λ r has.
       let it = some_with (IsGoodRequest s (below_of History r)) (request_read r) (rows History r has) in
       (it.value.1, it.value_is ∙ ap (λ (n : ℕ). Some (n, it.value.1)) it.fact.number_is))
+
+  -- ---- what was archived
+
+  pub books_table : IsBooksOf s t.books
+  books_table = books_are s t.books (up Books) (λ r has. rows Books r has)

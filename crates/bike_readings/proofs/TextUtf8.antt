@@ -38,7 +38,7 @@ use Rattle.bike_commands.specs.Replies.{reply_word, reply_fields, IsReply, reply
 use Rattle.bike_operator.specs.Sound.{is_refused}
 use Rattle.bike_book.specs.declared.by_type.CountedType.{CountedType}
 use Rattle.bike_book.specs.ByType.{counted_text, by_type_text}
-use Rattle.bike_requests.proofs.Escaping.{char_stays, escapes_of-append}
+use Rattle.bike_texts.proofs.Escaping.{char_stays, escapes_of-append}
 use Rattle.bike_readings.proofs.ColumnLaws.{ascii_utf8, word_utf8, named_printable, ident_utf8, language_utf8, currency_utf8, ascii_field_utf8, name_utf8}
 
 printed : (word : List ℕ) → list_all is_printable word ≡ true → IsUtf8 word

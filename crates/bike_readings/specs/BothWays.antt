@@ -13,13 +13,14 @@ use Rattle.bike_operator.specs.Operator.{Station, Truck, Rider, name_key}
 use Rattle.bike_book.specs.Stored.{stored_request}
 use Rattle.bike_book.specs.Rows.{meta_row, system_row, plan_row, segment_row, type_row, region_row, station_row}
 use Rattle.bike_book.specs.Rows.{dock_row, bike_row, truck_row, rider_row, rental_row, order_row, entry_row}
-use Rattle.bike_book.specs.Rows.{name_row}
+use Rattle.bike_book.specs.Rows.{name_row, books_row}
 use Rattle.bike_readings.specs.Readings.{meta_read, system_read, plan_read, segment_read, type_read, region_read}
 use Rattle.bike_readings.specs.Readings.{station_read, dock_read, bike_read, truck_read, rider_read, rental_read}
-use Rattle.bike_readings.specs.Readings.{order_read, entry_read, request_read, name_read}
-use Rattle.bike_readings.specs.Bounds.{IsNumbered, IsStoredMeta, IsStoredPlan, IsStoredSegment, IsStoredType}
-use Rattle.bike_readings.specs.Bounds.{IsStoredRegion, IsStoredStation, IsStoredDock, IsStoredBike, IsStoredTruck}
+use Rattle.bike_readings.specs.Readings.{order_read, entry_read, request_read, name_read, books_read}
+use Rattle.bike_readings.specs.Bounds.{IsStoredMeta, IsStoredPlan, IsStoredSegment, IsStoredType, IsStoredRegion}
+use Rattle.bike_readings.specs.Bounds.{IsStoredStation, IsStoredDock, IsStoredBike, IsStoredTruck, IsStoredRider}
 use Rattle.bike_readings.specs.Bounds.{IsStoredRental, IsStoredOrder, IsStoredEntry, IsStoredRequest, IsStoredName}
+use Rattle.bike_readings.specs.Bounds.{IsStoredBooks}
 
 -- The reader gives exactly the values within their bounds of which rows are made.
 pub record IsReading {X : Type 0} (read : Row → Option X) (row_of : X → Row) (Good : X → Type 0) : Type 0 where
@@ -62,7 +63,7 @@ abbrev pub TruckReading : Type 0
 TruckReading = IsReading truck_read (λ (x : ℕ × Truck). truck_row x.0 x.1.capacity) (λ x. IsStoredTruck x.0 x.1)
 
 abbrev pub RiderReading : Type 0
-RiderReading = IsReading rider_read (λ (x : ℕ × Rider × ℤ). rider_row x.0 x.1.is_blocked x.2) (λ x. IsNumbered x.0)
+RiderReading = IsReading rider_read (λ (x : ℕ × Rider × ℤ). rider_row x.0 x.1 x.2) (λ x. IsStoredRider x.0 x.1)
 
 abbrev pub RentalReading : Type 0
 RentalReading = IsReading rental_read (λ (x : ℕ × Rental × ℤ). rental_row x.0 x.1 x.2) (λ x. IsStoredRental x.0 x.1)
@@ -82,3 +83,7 @@ abbrev pub NameReading : Type 0
 NameReading =
     IsReading name_read (λ (x : NameKind × List ℕ × MoreNameRow). name_row (name_key x.0 x.1 x.2.language) x.2.name)
     (λ x. IsStoredName x.1 x.2)
+
+abbrev pub BooksReading : Type 0
+BooksReading =
+    IsReading books_read (λ (x : ℕ × ℕ × ℕ). books_row x.0 x.1 x.2) (λ x. IsStoredBooks x.1 x.2)

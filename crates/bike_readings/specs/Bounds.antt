@@ -19,7 +19,7 @@ use Rattle.bike_operator.specs.declared.records.Closing.{Closing}
 use Rattle.bike_operator.specs.declared.records.Order.{Order}
 use Rattle.bike_commands.specs.Requests.{IsRequest}
 use Rattle.bike_commands.specs.Replies.{IsReply}
-use Rattle.bike_operator.specs.Operator.{Station, Truck, AcceptedRequest}
+use Rattle.bike_operator.specs.Operator.{Station, Truck, Rider, AcceptedRequest}
 use Rattle.bike_operator.specs.Sound.{IsPayment, is_refused}
 use Rattle.bike_readings.specs.ColumnReaders.{greatest_count}
 
@@ -49,7 +49,7 @@ IsFare z = (pos 0 ≤ℤ z) × (z ≤ℤ greatest_amount)
 
 -- ---- names
 
--- the region of a station; the station at which a rental ended
+-- the region of a station; the rider's own plan; the station at which a rental ended
 abbrev pub IsIdentOrNone : Option (List ℕ) → Type 0
 IsIdentOrNone None = Unit {0}
 IsIdentOrNone (Some id) = is_ident id ≡ true
@@ -103,6 +103,10 @@ pub record IsStoredBike (number : ℕ) (b : Bike) : Type 0 where
 pub record IsStoredTruck (number : ℕ) (t : Truck) : Type 0 where
   pub good_number : IsNumbered number
   pub capacity : IsWithin 1 MOST_CARRIED t.capacity
+
+pub record IsStoredRider (number : ℕ) (r : Rider) : Type 0 where
+  pub good_number : IsNumbered number
+  pub plan : IsIdentOrNone r.plan
 
 pub record IsStoredClosing (c : Closing) : Type 0 where
   pub to_station : IsIdentOrNone c.to_station
@@ -165,3 +169,8 @@ pub record IsStoredRequest (e : ℕ × AcceptedRequest) : Type 0 where
 pub record IsStoredName (id : List ℕ) (m : MoreNameRow) : Type 0 where
   pub good_id : is_ident id ≡ true
   pub good : IsMoreName m
+
+-- so many entries and rentals were archived; of requests there may be any number
+pub record IsStoredBooks (entries rentals : ℕ) : Type 0 where
+  pub good_entries : entries ≤ GREATEST_SERIAL
+  pub good_rentals : rentals ≤ GREATEST_SERIAL

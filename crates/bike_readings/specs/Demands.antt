@@ -19,12 +19,19 @@
 --   refunds over the fare                                       the rental
 --   delivered and bicycles on the truck over the count          the order
 --   entries and open rentals over their limit                   the first entry past it
+--   a rider's plan that isn't there                             the rider
+--   more before than so many archived entries come to           the rider
+--   more cash or revenue than so many archived entries come to  meta
+--   nothing archived                                            the row of books
+--   more rentals than entries and open rentals                  the row of books
+--   archived entries and open rentals over their limit          the row of books
+--   what riders had and was earned isn't what was paid in       the row of books
 --   a request after now, or of a moment before the last         the request
 --   two requests of one caller and key                          the later request
 --   a number stored beside a record that isn't the figure       the row that has it
 --   a text of bicycles by type that isn't the station's         the row that has it
-use Rattle.std.specs.Prelude.{◌≡◌, ℕ, ℤ, ◌+◌, ◌<◌, ◌≤◌, ◌≤ℤ◌, pos, List, Bool, true, false, filter, length, Option}
-use Rattle.std.specs.Prelude.{Some, None, is_some, IfSome, take}
+use Rattle.std.specs.Prelude.{◌≡◌, ◌⊎◌, ℕ, ℤ, ◌+◌, ◌+ℤ◌, ◌<◌, ◌≤◌, ◌≤ℤ◌, pos, List, Bool, true, false, filter, length}
+use Rattle.std.specs.Prelude.{Option, Some, None, is_some, IfSome, take}
 use Rattle.std.specs.Ordering.{is_lt}
 use Rattle.std.specs.FinMap as fin
 use Rattle.bike_fields.specs.declared.numbers.TheConstants.{GREATEST_NUMBER}
@@ -44,12 +51,12 @@ use Rattle.bike_operator.specs.declared.records.Bike.{Bike}
 use Rattle.bike_operator.specs.declared.records.Rental.{Rental}
 use Rattle.bike_operator.specs.declared.records.Closing.{Closing}
 use Rattle.bike_operator.specs.declared.records.Order.{Order}
-use Rattle.bike_operator.specs.Operator.{Operator, Station, Truck, Rider, AcceptedRequest, text_cmp, item_numbered}
-use Rattle.bike_operator.specs.Operator.{key_in, kept_under}
+use Rattle.bike_operator.specs.Operator.{Operator, Station, Truck, Rider, AcceptedRequest, text_cmp, item_in}
+use Rattle.bike_operator.specs.Operator.{item_numbered, last_number, key_in, kept_under}
 use Rattle.bike_operator.specs.Counts.{is_open, is_retired, open_rentals, docks_available, docks_broken}
 use Rattle.bike_operator.specs.Names.{has_named, is_own_language, further_names}
 use Rattle.bike_operator.specs.Sound.{IsTypeAt, IsStationAt, HasDock, IsTruckAt, IsOrderAt, IsOpenOrClosed}
-use Rattle.bike_operator.specs.Sound.{most_refunded, fares_of, IsRiderNumber, IsEntryAt}
+use Rattle.bike_operator.specs.Sound.{most_refunded, fares_of, IsSumOf, IsArchived, IsRiderAt, IsEntryAt, befores}
 use Rattle.bike_book.specs.declared.version.TheConstants.{NEWEST}
 use Rattle.bike_book.specs.ByType.{types_at, by_type_text}
 use Rattle.bike_book.specs.Tables.{Tables}
@@ -76,7 +83,7 @@ module _ (s : Operator) where
   -- a closed rental has a Fare entry
   abbrev pub HasFare : ℕ → Option Closing → Type 0
   HasFare number None = Unit {0}
-  HasFare number (Some c) = 1 ≤ length (fares_of number s.entries)
+  HasFare number (Some c) = 1 ≤ length (fares_of number s.entries.items)
 
   -- the rental was closed at this fare
   pub record IsFareOf (rental : ℕ) (amount : ℤ) : Type 0 where
@@ -92,10 +99,10 @@ module _ (s : Operator) where
       (other : ℕ) (x : Entry) → other < number → item_numbered other s.entries ≡ Some x → x.kind ≡ Fare
       → x.rental ≡ rental → ⊥
 
-  -- a fare is its rental's, and the first of it
+  -- a fare is its rental's, and the first of it; of a rental that was archived nothing is asked
   abbrev pub IsOneFare : Entry → EntryKind → Type 0
   IsOneFare e TopUp = Unit {0}
-  IsOneFare e Fare = IsFareOf e.rental e.amount × IsFirstFare e.number e.rental
+  IsOneFare e Fare = IsArchived e.rental s.rentals ⊎ (IsFareOf e.rental e.amount × IsFirstFare e.number e.rental)
   IsOneFare e Refund = Unit {0}
   IsOneFare e Withdrawal = Unit {0}
   IsOneFare e Charge = Unit {0}
@@ -138,11 +145,11 @@ module _ (t : Tables) (s : Operator) where
 module _ (s : Operator) (below : ℕ) where
   -- ---- the system and the catalogue
 
-  -- version, moment, cash, revenue: no sum is stored
+  -- version, moment, cash, revenue: the sums are of what was archived
   pub record IsGoodMeta (e : ℕ × ℕ × ℤ × ℤ) : Type 0 where
     pub version_is : e.0 ≡ NEWEST
-    pub cash_is : e.2 ≡ pos 0
-    pub revenue_is : e.3 ≡ pos 0
+    pub cash : IsSumOf s.entries.archived e.2
+    pub revenue : IsSumOf s.entries.archived e.3
 
   pub record IsGoodPlan (e : List ℕ × PlanRow) : Type 0 where
     pub room : below < MOST_PLANS
@@ -151,7 +158,7 @@ module _ (s : Operator) (below : ℕ) where
   pub record IsGoodSegment (e : List ℕ × ℕ × SegmentRow) : Type 0 where
     pub plan : PlanRow
     pub found : fin.get s.plans e.0 ≡ Some plan
-    pub segment_is : item_numbered e.1 plan.segments ≡ Some e.2
+    pub segment_is : item_in e.1 plan.segments ≡ Some e.2
 
   pub record IsGoodType (e : List ℕ × TypeRow) : Type 0 where
     pub room : below < MOST_TYPES
@@ -185,14 +192,14 @@ module _ (s : Operator) (below : ℕ) where
 
   pub record IsGoodRider (e : ℕ × Rider × ℤ) : Type 0 where
     pub room : below < MOST_RIDERS
-    pub good : IsRiderNumber e.0
-    pub balance_is : e.2 ≡ balance_of e.0 s.entries
+    pub good : IsRiderAt s e.0 e.1
+    pub balance_is : e.2 ≡ e.1.before +ℤ balance_of e.0 s.entries.items
     pub riding_once : (a b : ℕ) → IsRiding s e.0 a → IsRiding s e.0 b → a ≡ b
 
   -- ---- rentals and orders
 
   pub record IsGoodRental (e : ℕ × Rental × ℤ) : Type 0 where
-    pub number_is : e.0 ≡ below + 1
+    pub number_is : e.0 ≡ s.rentals.archived + below + 1
     pub rider_is : fin.contains_key s.riders e.1.rider ≡ true
     pub bike_is : fin.contains_key s.bikes e.1.bike ≡ true
     pub plan_is : fin.contains_key s.plans e.1.plan ≡ true
@@ -200,8 +207,8 @@ module _ (s : Operator) (below : ℕ) where
     pub by_now : e.1.start ≤ s.now
     pub closing : IsOpenOrClosed s e.0 e.1 e.1.closing
     pub booked : HasFare s e.0 e.1.closing
-    pub refunded_is : e.2 ≡ refunded_of e.0 s.entries
-    pub refunded : refunded_of e.0 s.entries ≤ℤ most_refunded e.1.closing
+    pub refunded_is : e.2 ≡ refunded_of e.0 s.entries.items
+    pub refunded : refunded_of e.0 s.entries.items ≤ℤ most_refunded e.1.closing
 
   pub record IsGoodOrder (e : ℕ × Order) : Type 0 where
     pub number_is : e.0 ≡ below + 1
@@ -211,14 +218,23 @@ module _ (s : Operator) (below : ℕ) where
   -- ---- entries and accepted requests
 
   pub record IsGoodEntry (e : Entry) : Type 0 where
-    pub number_is : e.number ≡ below + 1
-    pub room : below + open_rentals s < MOST_ENTRIES
+    pub number_is : e.number ≡ s.entries.archived + below + 1
+    pub room : s.entries.archived + below + open_rentals s < MOST_ENTRIES
     pub good : IsEntryAt s e.number e
     pub fare : IsOneFare s e e.kind
 
   -- not before the request before it, and the first of its caller and key
   pub record IsGoodRequest (e : ℕ × AcceptedRequest) : Type 0 where
-    pub number_is : e.0 ≡ below + 1
+    pub number_is : e.0 ≡ s.history.archived + below + 1
     pub by_now : e.1.moment ≤ s.now
-    pub in_order : IfSome (item_numbered below s.history) (λ a. a.moment ≤ e.1.moment)
-    pub anew : kept_under (key_in e.1.request) (take below s.history) ≡ None
+    pub in_order : IfSome (item_in below s.history.items) (λ a. a.moment ≤ e.1.moment)
+    pub anew : kept_under (key_in e.1.request) (take below s.history.items) ≡ None
+
+-- ---- what was archived
+
+-- how many requests, entries and rentals: what only all numbers and all riders together tell, and so no other row
+pub record IsGoodBooks (s : Operator) (e : ℕ × ℕ × ℕ) : Type 0 where
+  pub some_archived : 1 ≤ e.0 + e.1 + e.2
+  pub few_rentals : last_number s.rentals ≤ last_number s.entries + open_rentals s
+  pub few_entries : last_number s.entries + open_rentals s ≤ MOST_ENTRIES
+  pub conserved : befores (fin.entries s.riders) +ℤ s.past.revenue ≡ s.past.cash

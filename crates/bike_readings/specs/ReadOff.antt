@@ -1,7 +1,7 @@
 -- The operator that is read off tables, and what they hold beside it:
 -- what the rows spell. A row that spells nothing is absent.
--- No sum and no count is read: they are figures of the records.
-use Rattle.std.specs.Prelude.{ℕ, zero, suc, List, [], ◌∷◌, map, if◌then◌else◌, Option, Some, None, option_map}
+-- No sum and no count of the records is read: they are figures of them. What was archived is read: its sums and counts.
+use Rattle.std.specs.Prelude.{ℕ, ℤ, zero, suc, pos, List, [], ◌∷◌, map, if◌then◌else◌, Option, Some, None, option_map}
 use Rattle.std.specs.Prelude.{option_and_then, unwrap_or, max, slice_get}
 use Rattle.std.specs.List.{filter_map}
 use Rattle.std.specs.FinMap as fin
@@ -18,7 +18,7 @@ use Rattle.bike_operator.specs.declared.records.Place.TheVariants as place
 use Rattle.bike_operator.specs.declared.records.Bike.{Bike}
 use Rattle.bike_operator.specs.declared.records.Rental.{Rental}
 use Rattle.bike_operator.specs.declared.records.Order.{Order}
-use Rattle.bike_operator.specs.Operator.{Operator, Station, Rider, NameKey, DockKey, name_key, dock_key}
+use Rattle.bike_operator.specs.Operator.{Operator, Station, Rider, Past, NameKey, DockKey, name_key, dock_key}
 use Rattle.bike_sql.specs.View.{row_with, last_of}
 use Rattle.bike_book.specs.Tables.{Tables}
 use Rattle.bike_book.specs.Rows.{number_value}
@@ -27,7 +27,7 @@ use Rattle.bike_schema.specs.Columns.{ident_in, state_in, moment_in, or_none}
 use Rattle.bike_readings.specs.ColumnReaders.{where_wide, numbered_in, serial_in, dock_in as dock_number_in}
 use Rattle.bike_readings.specs.Readings.{meta_read, system_read, plan_read, segment_read, type_read, region_read}
 use Rattle.bike_readings.specs.Readings.{station_read, dock_read, bike_read, truck_read, rider_read, rental_read}
-use Rattle.bike_readings.specs.Readings.{order_read, entry_read, request_read, name_read}
+use Rattle.bike_readings.specs.Readings.{order_read, entry_read, request_read, name_read, books_read}
 
 abbrev pub first : {A : Type 0} → List A → Option A
 first [] = None
@@ -157,6 +157,19 @@ broken_in row = option_and_then (λ e. if e.2 then Some (dock_key e.0 e.1) else 
 abbrev pub since_of : List Row → ℕ
 since_of rows = unwrap_or (option_map (λ e. e.1) (first (filter_map meta_read rows))) 0
 
+-- cash and revenue of what was archived, among what a row of meta spells
+abbrev pub sums_in : ℕ × ℕ × ℤ × ℤ → Past
+sums_in e = record { cash = e.2; revenue = e.3 }
+
+-- .. in the one row of meta, and 0 where there is none
+abbrev pub past_of : List Row → Past
+past_of rows =
+    unwrap_or (option_map sums_in (first (filter_map meta_read rows))) (record { cash = pos 0; revenue = pos 0 })
+
+-- how many requests, entries and rentals were archived, in the one row of books, and 0 where there is none
+abbrev pub archived_of : List Row → ℕ × ℕ × ℕ
+archived_of rows = unwrap_or (first (filter_map books_read rows)) (0, 0, 0)
+
 -- the moment in the last row of the history; 0 where there is no row, and where no moment stands in its place
 abbrev pub last_moment_in : List Row → ℕ
 last_moment_in rows = unwrap_or (option_and_then (λ row. moment_in (column row 1)) (slice_get (last_of rows) 0)) 0
@@ -177,10 +190,11 @@ operator_of t = record {
   bikes = fin.from_sorted (filter_map bike_in t.bikes);
   trucks = fin.from_sorted (filter_map truck_read t.trucks);
   riders = fin.from_sorted (filter_map rider_in t.riders);
-  rentals = map (λ e. e.1) (filter_map rental_in t.rentals);
-  orders = map (λ e. e.1) (filter_map order_read t.orders);
-  entries = map (λ e. e.1) (filter_map entry_in t.entries);
-  history = map (λ e. e.1) (filter_map request_read t.history);
+  rentals = record { archived = (archived_of t.books).2; items = map (λ e. e.1) (filter_map rental_in t.rentals) };
+  orders = record { archived = 0; items = map (λ e. e.1) (filter_map order_read t.orders) };
+  entries = record { archived = (archived_of t.books).1; items = map (λ e. e.1) (filter_map entry_in t.entries) };
+  history = record { archived = (archived_of t.books).0; items = map (λ e. e.1) (filter_map request_read t.history) };
+  past = past_of t.meta;
   more_names = fin.from_sorted (filter_map name_in t.more_names);
   now = moment_of t;
 }

@@ -3,8 +3,8 @@
 -- stands for a record isn't asked here.
 use Rattle.std.specs.Prelude.{ℕ, ℤ, List, [], Bool, if◌then◌else◌, Option, Some, None, codes}
 use Rattle.sqlite_value.specs.Order.{Row, column}
-use Rattle.bike_fields.specs.declared.numbers.TheConstants.{GREATEST_PRICE, GREATEST_RANGE, LAST_MINUTE}
-use Rattle.bike_fields.specs.declared.numbers.TheConstants.{LONGEST_TIME_TO_LIVE, MOST_CARRIED}
+use Rattle.bike_fields.specs.declared.numbers.TheConstants.{GREATEST_PRICE, GREATEST_RANGE, GREATEST_SERIAL}
+use Rattle.bike_fields.specs.declared.numbers.TheConstants.{LAST_MINUTE, LONGEST_TIME_TO_LIVE, MOST_CARRIED}
 use Rattle.bike_fields.specs.declared.limits.TheConstants.{MOST_SEGMENTS}
 use Rattle.bike_fields.specs.Caller.{◌>>=◌}
 use Rattle.bike_fields.specs.Values.{SegmentRow, is_range, is_after}
@@ -169,13 +169,15 @@ truck_read row = where_wide 2 row (do
   capacity ← number_in 1 MOST_CARRIED (column row 1)
   Some (truck, record { capacity = capacity }))
 
--- with his balance in hundredths
+-- with the rider's balance, in hundredths
 abbrev pub rider_read : Row → Option (ℕ × Rider × ℤ)
-rider_read row = where_wide 3 row (do
+rider_read row = where_wide 5 row (do
   rider ← numbered_in (column row 0)
   blocked ← flag_in (column row 1)
   balance ← whole_in (column row 2)
-  Some (rider, record { is_blocked = blocked }, balance))
+  before ← whole_in (column row 3)
+  plan ← or_none ident_in (column row 4)
+  Some (rider, record { is_blocked = blocked; plan = plan; before = before }, balance))
 
 -- with what was refunded of it, in hundredths
 abbrev pub rental_read : Row → Option (ℕ × Rental × ℤ)
@@ -256,3 +258,12 @@ name_read row = where_wide 4 row (do
   language ← language_in (column row 2)
   name ← name_in (column row 3)
   Some (kind, id, record { language = language; name = name }))
+
+-- how many requests, entries and rentals were archived
+abbrev pub books_read : Row → Option (ℕ × ℕ × ℕ)
+books_read row = where_wide 4 row (do
+  one ← number_in 1 1 (column row 0)
+  requests ← request_count_in (column row 1)
+  entries ← number_in 0 GREATEST_SERIAL (column row 2)
+  rentals ← number_in 0 GREATEST_SERIAL (column row 3)
+  Some (requests, entries, rentals))

@@ -10,16 +10,16 @@ use Rattle.bike_operator.specs.Counts.{count}
 use Rattle.bike_operator.specs.Sound.{IsSound}
 use Rattle.bike_book.specs.Tables.{TableName, Tables, rows_in, keys_of, table_place, Meta, System, Plans, Segments}
 use Rattle.bike_book.specs.Tables.{Types, Regions, Stations, Docks, Bikes, Trucks, Riders, Rentals, Orders, Entries}
-use Rattle.bike_book.specs.Tables.{History, MoreNames}
+use Rattle.bike_book.specs.Tables.{History, MoreNames, Books}
 use Rattle.bike_book.specs.Rows.{number_value}
 use Rattle.bike_book.specs.Stored.{Listed, IsListing, tables_for}
 use Rattle.bike_readings.specs.Readings.{meta_read, system_read, plan_read, segment_read, type_read, region_read}
 use Rattle.bike_readings.specs.Readings.{station_read, dock_read, bike_read, truck_read, rider_read, rental_read}
-use Rattle.bike_readings.specs.Readings.{order_read, entry_read, request_read, name_read}
+use Rattle.bike_readings.specs.Readings.{order_read, entry_read, request_read, name_read, books_read}
 use Rattle.bike_readings.specs.ReadOff.{operator_of}
 use Rattle.bike_readings.specs.Demands.{IsGoodMeta, IsGoodPlan, IsGoodSegment, IsGoodType, IsGoodRegion, IsGoodStation}
 use Rattle.bike_readings.specs.Demands.{IsGoodDock, IsGoodBike, IsGoodTruck, IsGoodRider, IsGoodRental, IsGoodOrder}
-use Rattle.bike_readings.specs.Demands.{IsGoodEntry, IsGoodRequest, IsGoodName}
+use Rattle.bike_readings.specs.Demands.{IsGoodEntry, IsGoodRequest, IsGoodName, IsGoodBooks}
 
 -- ---- tables
 
@@ -54,6 +54,7 @@ IsGoodRow t s below Orders row = IsSomeAnd (order_read row) (IsGoodOrder s below
 IsGoodRow t s below Entries row = IsSomeAnd (entry_read row) (IsGoodEntry s below)
 IsGoodRow t s below History row = IsSomeAnd (request_read row) (IsGoodRequest s below)
 IsGoodRow t s below MoreNames row = IsSomeAnd (name_read row) (IsGoodName s below)
+IsGoodRow t s below Books row = IsSomeAnd (books_read row) (IsGoodBooks s)
 
 -- There need be no row under the key: only row 1 of meta has to be there.
 abbrev pub MayLack : TableName → Row → Type 0

@@ -14,9 +14,10 @@ use Rattle.bike_operator.specs.Counts.{docks_broken}
 use Rattle.bike_operator.specs.Sound.{HasDock}
 use Rattle.bike_book.specs.declared.version.TheConstants.{NEWEST}
 use Rattle.bike_book.specs.ByType.{types_at, by_type_text}
-use Rattle.bike_readings.specs.Bounds.{IsNumbered, IsStoredMeta, IsStoredPlan, IsStoredSegment, IsStoredType}
-use Rattle.bike_readings.specs.Bounds.{IsStoredRegion, IsStoredStation, IsStoredDock, IsStoredBike, IsStoredTruck}
+use Rattle.bike_readings.specs.Bounds.{IsStoredMeta, IsStoredPlan, IsStoredSegment, IsStoredType, IsStoredRegion}
+use Rattle.bike_readings.specs.Bounds.{IsStoredStation, IsStoredDock, IsStoredBike, IsStoredTruck, IsStoredRider}
 use Rattle.bike_readings.specs.Bounds.{IsStoredRental, IsStoredOrder, IsStoredEntry, IsStoredRequest, IsStoredName}
+use Rattle.bike_readings.specs.Bounds.{IsStoredBooks}
 
 -- Each record keeps the bounds of its row. The segment at position n of its plan, from 0, has the number n + 1. The
 -- moment in meta is any that isn't after the operator's.
@@ -33,7 +34,7 @@ pub record HasBounds (s : Operator) : Type 0 where
   pub docks : (station : List ℕ) (dock : ℕ) → HasDock s station dock → IsStoredDock station dock
   pub bikes : (number : ℕ) (b : Bike) → fin.get s.bikes number ≡ Some b → IsStoredBike number b
   pub trucks : (number : ℕ) (t : Truck) → fin.get s.trucks number ≡ Some t → IsStoredTruck number t
-  pub riders : (number : ℕ) (r : Rider) → fin.get s.riders number ≡ Some r → IsNumbered number
+  pub riders : (number : ℕ) (r : Rider) → fin.get s.riders number ≡ Some r → IsStoredRider number r
   pub rentals : (number : ℕ) (r : Rental) → item_numbered number s.rentals ≡ Some r → IsStoredRental number r
   pub orders : (number : ℕ) (o : Order) → item_numbered number s.orders ≡ Some o → IsStoredOrder number o
   pub entries : (number : ℕ) (e : Entry) → item_numbered number s.entries ≡ Some e → IsStoredEntry e
@@ -42,3 +43,4 @@ pub record HasBounds (s : Operator) : Type 0 where
   pub more_names : (kind : NameKind) (id language name : List ℕ)
       → fin.get s.more_names (name_key kind id language) ≡ Some name
       → IsStoredName id (record { language = language; name = name })
+  pub books : IsStoredBooks s.entries.archived s.rentals.archived

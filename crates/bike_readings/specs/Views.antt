@@ -34,6 +34,7 @@ use Rattle.bike_readings.specs.declared.ledger.StoredRider.{StoredRider}
 use Rattle.bike_readings.specs.declared.ledger.StoredClosing.{StoredClosing}
 use Rattle.bike_readings.specs.declared.ledger.StoredRental.{StoredRental}
 use Rattle.bike_readings.specs.declared.ledger.StoredEntry.{StoredEntry}
+use Rattle.bike_readings.specs.declared.books.StoredBooks.{StoredBooks}
 
 abbrev pub meta_of : StoredMeta → ℕ × ℕ × ℤ × ℤ
 meta_of x = (x.version, x.now, x.cash, x.revenue)
@@ -137,7 +138,11 @@ order_of x = (
 )
 
 abbrev pub rider_of : StoredRider → ℕ × Rider × ℤ
-rider_of x = (x.rider, record { is_blocked = x.is_blocked }, x.balance)
+rider_of x = (
+  x.rider,
+  record { is_blocked = x.is_blocked; plan = option_map (λ text. text.now) x.plan; before = x.before },
+  x.balance,
+)
 
 abbrev pub closing_of : StoredClosing → Closing
 closing_of x = record { to_station = option_map (λ text. text.now) x.to_station; finish = x.finish; fare = x.fare }
@@ -170,3 +175,7 @@ request_of x = (
     reply = x.reply;
   },
 )
+
+-- how many requests, entries and rentals were archived
+abbrev pub books_of : StoredBooks → ℕ × ℕ × ℕ
+books_of x = (x.requests, x.entries, x.rentals)

@@ -26,9 +26,9 @@ pub struct StoredMeta {
     pub version: Within<1, 4_294_967_295>,
     /// The moment of the last request of an earlier version, and 0 where there was none.
     pub now: Moment,
-    /// 0 in a good row, in hundredths.
+    /// The cash by the entries that were archived, in hundredths.
     pub cash: Cents,
-    /// 0 in a good row, in hundredths.
+    /// The revenue by the entries that were archived, in hundredths.
     pub revenue: Cents,
 }
 

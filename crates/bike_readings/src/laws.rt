@@ -5,7 +5,7 @@ ghost use Rattle.bike_operator.specs.Sound.{IsSound};
 ghost use Rattle.bike_readings.specs.BothWays.{MetaReading, SystemReading, PlanReading, SegmentReading, TypeReading};
 ghost use Rattle.bike_readings.specs.BothWays.{RegionReading, StationReading, DockReading, BikeReading, TruckReading};
 ghost use Rattle.bike_readings.specs.BothWays.{RiderReading, RentalReading, OrderReading, EntryReading, RequestReading};
-ghost use Rattle.bike_readings.specs.BothWays.{NameReading};
+ghost use Rattle.bike_readings.specs.BothWays.{NameReading, BooksReading};
 ghost use Rattle.bike_readings.specs.SoundRows.{HasBounds};
 
 /// The law of readings: what a row spells is that of which it is made, and each record within its bounds is spelled by
@@ -31,6 +31,8 @@ pub fn reads_both_ways()
     ensures history { RequestReading }
     // Names in further languages.
     ensures more_names { NameReading }
+    // What was archived.
+    ensures books { BooksReading }
 {}
 
 /// The law of bounds: the records of a sound operator keep the bounds of rows.

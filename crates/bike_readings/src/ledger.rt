@@ -18,11 +18,15 @@ use bike_ledger::{EntryKind, EntryNumber};
 
 /// A row of `riders`.
 #[derive(Clone, Copy)]
-pub struct StoredRider {
+pub struct StoredRider<'a> {
     pub rider: RiderNumber,
     pub is_blocked: bool,
-    /// His balance as the row has it, in hundredths.
+    /// The rider's balance as the row has it, in hundredths.
     pub balance: Cents,
+    /// The balance by the entries that were archived, in hundredths.
+    pub before: Cents,
+    /// The rider's own plan, if any.
+    pub plan: Option<&'a str>,
 }
 
 /// How a rental was closed.
@@ -64,7 +68,7 @@ pub struct StoredEntry {
 }
 
 /// What a row of `riders` spells.
-pub fn read_rider(part: Part<'_>) -> Option<StoredRider>
+pub fn read_rider(part: Part<'_>) -> Option<StoredRider<'_>>
     ensures { option_map rider_of result ≡ rider_read part.entry }
 {
     if part.column_count() != riders::COLUMNS {
@@ -73,10 +77,14 @@ pub fn read_rider(part: Part<'_>) -> Option<StoredRider>
     let rider = number_in(&part, riders::RIDER)?;
     let is_blocked = flag_in(&part, riders::BLOCKED)?;
     let balance = cents_in(&part, riders::BALANCE)?;
+    let before = cents_in(&part, riders::BEFORE)?;
+    let plan = ident_or_none_in(&part, riders::PLAN_ID)?;
     Some(StoredRider {
         rider,
         is_blocked,
         balance,
+        before,
+        plan,
     })
 }
 

@@ -10,6 +10,7 @@
 //! are all good exactly where the tables are those of a sound operator.
 #![tactic(auto)]
 
+mod books;
 mod catalogue;
 mod columns;
 mod fleet;
@@ -21,6 +22,7 @@ mod network;
 mod part;
 mod rules;
 
+pub use books::{StoredBooks, read_books};
 pub use catalogue::{
     StoredMeta, StoredPlan, StoredSegment, StoredSystem, StoredType, read_meta, read_plan,
     read_segment, read_system, read_type,

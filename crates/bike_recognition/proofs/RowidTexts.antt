@@ -14,14 +14,14 @@ use Rattle.bike_sql.specs.Reads.{draft_of, of_query, one_select, IsDraft}
 use Rattle.bike_sql.proofs.ReadLaws.{select_is}
 use Rattle.bike_sql.specs.Layout.{Layout, table_of}
 use Rattle.bike_sql.proofs.TextLemmas.{IsSelect, Drafts, alone, select_means}
-use Rattle.bike_book.specs.Tables.{Meta, System, Plans, Segments, Types, Regions, Stations, Docks, Bikes, Trucks, Riders, Rentals, Orders, Entries, History, MoreNames}
+use Rattle.bike_book.specs.Tables.{Meta, System, Plans, Segments, Types, Regions, Stations, Docks, Bikes, Trucks, Riders, Rentals, Orders, Entries, History, MoreNames, Books}
 use Rattle.bike_schema.specs.Layouts.{layout_of}
 use Rattle.bike_recognition.specs.Rowids.{rowids_query}
 use Rattle.bike_recognition.specs.Wanted.{AsksRowidsOf}
 
 -- ---- by the name of the key, which is one number
 
-by_key : (layout : Layout) (text : List ℕ) → IsSelect (rowids_query 0) layout text → AsksRowidsOf layout text
+pub by_key : (layout : Layout) (text : List ℕ) → IsSelect (rowids_query 0) layout text → AsksRowidsOf layout text
 by_key layout text is s at tree has = select_means (rowids_query 0) layout text is s at tree has
 
 pub meta_rowids : AsksRowidsOf (layout_of Meta) (codes "SELECT one FROM meta ORDER BY one")
@@ -40,9 +40,9 @@ pub trucks_rowids : AsksRowidsOf (layout_of Trucks) (codes "SELECT truck FROM tr
 unfolding everything
 trucks_rowids = by_key (layout_of Trucks) (codes "SELECT truck FROM trucks ORDER BY truck") (λ tree. refl, refl)
 
-pub riders_rowids : AsksRowidsOf (layout_of Riders) (codes "SELECT rider FROM riders ORDER BY rider")
+pub riders_rowids : AsksRowidsOf (layout_of Riders) (codes "SELECT rider FROM riders_4 ORDER BY rider")
 unfolding everything
-riders_rowids = by_key (layout_of Riders) (codes "SELECT rider FROM riders ORDER BY rider") (λ tree. refl, refl)
+riders_rowids = by_key (layout_of Riders) (codes "SELECT rider FROM riders_4 ORDER BY rider") (λ tree. refl, refl)
 
 pub rentals_rowids : AsksRowidsOf (layout_of Rentals) (codes "SELECT rental FROM rentals ORDER BY rental")
 unfolding everything
@@ -59,6 +59,10 @@ entries_rowids = by_key (layout_of Entries) (codes "SELECT entry FROM entries OR
 pub history_rowids : AsksRowidsOf (layout_of History) (codes "SELECT number FROM history ORDER BY number")
 unfolding everything
 history_rowids = by_key (layout_of History) (codes "SELECT number FROM history ORDER BY number") (λ tree. refl, refl)
+
+pub books_rowids : AsksRowidsOf (layout_of Books) (codes "SELECT one FROM books ORDER BY one")
+unfolding everything
+books_rowids = by_key (layout_of Books) (codes "SELECT one FROM books ORDER BY one") (λ tree. refl, refl)
 
 -- ---- by the word `rowid`
 

@@ -34,7 +34,7 @@ is_product_name name = list_any (λ t. same_name name (name_of t)) every_table
 abbrev pub is_hindered : Schema → Table → Bool
 is_hindered schema table = is_product_name table.name && has_added schema table
 
--- SOMEBODY ADDED a UNIQUE index to a table of the product's. Earlier versions have these tables too, but for that of
--- stations: theirs is only read, and goes when the database is raised.
+-- SOMEBODY ADDED a UNIQUE index to a table of the product's. Earlier versions have these tables too, but for those of
+-- stations and of riders: theirs are only read, and go when the database is raised.
 abbrev pub has_added_unique : Schema → Bool
 has_added_unique schema = list_any (is_hindered schema) schema.tables

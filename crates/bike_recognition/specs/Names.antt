@@ -3,7 +3,7 @@ use Rattle.bike_book.specs.Tables as book
 use Rattle.bike_recognition.specs.declared.table.TableName.{TableName}
 use Rattle.bike_recognition.specs.declared.table.TableName.TheVariants.{Meta, System, Plans, Segments, Types, Regions}
 use Rattle.bike_recognition.specs.declared.table.TableName.TheVariants.{Stations, Docks, Bikes, Trucks, Riders, Rentals}
-use Rattle.bike_recognition.specs.declared.table.TableName.TheVariants.{Orders, Entries, History, MoreNames}
+use Rattle.bike_recognition.specs.declared.table.TableName.TheVariants.{Orders, Entries, History, MoreNames, Books}
 
 abbrev pub table_named : TableName → book.TableName
 table_named Meta = book.Meta
@@ -22,3 +22,4 @@ table_named Orders = book.Orders
 table_named Entries = book.Entries
 table_named History = book.History
 table_named MoreNames = book.MoreNames
+table_named Books = book.Books

@@ -3,7 +3,8 @@
 //! There is one operator and one family of tables. A version is a way in which a database holds them: the first has no
 //! regions and no further names, the second no further names, and both have stations of at most 200 docks. The first
 //! three have their stations in tables of other names, and a table `counts` of the bicycles there by type. They have
-//! the accepted requests in a table `kept`, which tells no moments and no order but that of its rowids.
+//! their riders in a table `riders`, without plans of their own, and the accepted requests in a table `kept`, which
+//! tells no moments and no order but that of its rowids. Nothing of them was archived.
 
 mod earlier;
 mod found;

@@ -13,7 +13,7 @@ use sqlite::{Alter, Connection};
 use std::alloc::Global;
 
 /// The tables in the order of the schema.
-pub const EVERY_TABLE: [TableName; 16] = [
+pub const EVERY_TABLE: [TableName; 17] = [
     TableName::Meta,
     TableName::System,
     TableName::Plans,
@@ -30,6 +30,7 @@ pub const EVERY_TABLE: [TableName; 16] = [
     TableName::Entries,
     TableName::History,
     TableName::MoreNames,
+    TableName::Books,
 ];
 
 /// Finds out whether the connection is open, by a statement that names no table. One that was shut by a fault of the

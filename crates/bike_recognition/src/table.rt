@@ -32,6 +32,7 @@ pub enum TableName {
     Entries,
     History,
     MoreNames,
+    Books,
 }
 
 impl TableName {
@@ -56,6 +57,7 @@ impl TableName {
             TableName::Entries => table!(name entries),
             TableName::History => table!(name history),
             TableName::MoreNames => table!(name more_names),
+            TableName::Books => table!(name books),
         }
     }
 
@@ -80,6 +82,7 @@ impl TableName {
             TableName::Entries => table!(create entries),
             TableName::History => table!(create history),
             TableName::MoreNames => table!(create more_names),
+            TableName::Books => table!(create books),
         }
     }
 
@@ -98,12 +101,13 @@ impl TableName {
             TableName::Docks => "SELECT rowid FROM docks ORDER BY rowid",
             TableName::Bikes => "SELECT bike FROM bikes ORDER BY bike",
             TableName::Trucks => "SELECT truck FROM trucks ORDER BY truck",
-            TableName::Riders => "SELECT rider FROM riders ORDER BY rider",
+            TableName::Riders => "SELECT rider FROM riders_4 ORDER BY rider",
             TableName::Rentals => "SELECT rental FROM rentals ORDER BY rental",
             TableName::Orders => "SELECT ord FROM orders ORDER BY ord",
             TableName::Entries => "SELECT entry FROM entries ORDER BY entry",
             TableName::History => "SELECT number FROM history ORDER BY number",
             TableName::MoreNames => "SELECT rowid FROM more_names ORDER BY rowid",
+            TableName::Books => "SELECT one FROM books ORDER BY one",
         }
     }
 

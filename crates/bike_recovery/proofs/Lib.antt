@@ -3,3 +3,4 @@ pub mod FrontLemmas
 pub mod FileLemmas
 pub mod StopLemmas
 pub mod SessionsLemmas
+pub mod FeedLemmas

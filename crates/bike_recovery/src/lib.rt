@@ -5,9 +5,12 @@
 //! most one more. It is said of any two stores, of one that crashes, and of files: those that a process leaves, and
 //! those that the next one opens.
 //!
+//! `archived_feeds_law` says that what is published doesn't change by archiving.
+//!
 //! `bounds` says the numbers behind the bounds that contracts name.
 #![tactic(auto)]
 
+mod archiving;
 mod bounds;
 mod crash;
 mod files;
@@ -17,6 +20,7 @@ mod reopening;
 mod sessions;
 mod stop;
 
+pub use archiving::archived_feeds_law;
 pub use bounds::{input_bounds, number_bounds, record_limits, text_bounds};
 pub use crash::{Acknowledged, Lost, run_adopt_and_read, run_crash_and_read, run_in_memory};
 pub use files::{NotOpened, stop_and_open};

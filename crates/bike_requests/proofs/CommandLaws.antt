@@ -16,6 +16,7 @@ use Rattle.bike_fields.proofs.Lengths.{both_hold}
 use Rattle.bike_texts.specs.Parts.{Parts}
 use Rattle.bike_texts.specs.Fields.{Field, HasNoTab, AreGood}
 use Rattle.bike_texts.specs.Reading.{◌>>=◌, part_at}
+use Rattle.bike_texts.specs.Kinds.{Kind, Value, reads, fields_with}
 use Rattle.bike_texts.proofs.Splitting.{is_tab}
 use Rattle.bike_texts.proofs.TabFree.{AreRead, split_join, parts_no_tab, part_is}
 use Rattle.bike_texts.proofs.Chains.{pick}
@@ -24,9 +25,8 @@ use Rattle.bike_commands.specs.declared.command.Command.TheVariants as command
 use Rattle.bike_commands.specs.Commands.{word_of, fields_of, IsCommand, IsSpelling}
 use Rattle.bike_requests.specs.declared.unread.Unread.{Unread}
 use Rattle.bike_requests.specs.declared.unread.Unread.TheVariants.{BadField, NoMemory}
-use Rattle.bike_requests.specs.Unread.{IsReading}
+use Rattle.bike_requests.specs.Unread.{IsReading, all_at}
 use Rattle.bike_requests.specs.Spelling.{SpellsCommand}
-use Rattle.bike_requests.specs.Kinds.{Kind, Value, reads, fields_with, all_at}
 use Rattle.bike_requests.specs.Readers.{Row, rows, row_by, made_at, plan_kind, type_kind, station_kind, position_kind, command_by, command_at}
 use Rattle.bike_requests.proofs.KindLaws.{is_fit, exact, all_sound, all_full}
 

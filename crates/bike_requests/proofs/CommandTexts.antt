@@ -33,8 +33,8 @@ use Rattle.bike_texts.proofs.Absent.{all_weaker}
 use Rattle.bike_texts.proofs.Chains.{pick}
 use Rattle.bike_commands.specs.declared.command.Command.{Command}
 use Rattle.bike_commands.specs.Commands.{word_of, IsCommand, text_of}
-use Rattle.bike_requests.specs.Kinds.{Kind, Numbers, Idents, Languages, Currencies, Names, Asciis, Choices, Coordinates, Forms, Ranges, SegmentLists, Ends, IdentsOrNone, Sides, NameKinds, ◌&◌, Value}
-use Rattle.bike_requests.specs.Kinds.{fields_with}
+use Rattle.bike_texts.specs.Kinds.{Kind, Numbers, Idents, Languages, Currencies, Names, Asciis, Choices, Coordinates, Forms, Ranges, SegmentLists, Ends, IdentsOrNone, Sides, NameKinds, ◌&◌, Value}
+use Rattle.bike_texts.specs.Kinds.{fields_with}
 use Rattle.bike_requests.specs.Readers.{Row, rows, row_by}
 use Rattle.bike_requests.proofs.CommandLaws.{of_row}
 use Rattle.bike_requests.proofs.KindLaws.{fields_text_append}

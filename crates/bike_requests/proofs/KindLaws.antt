@@ -13,8 +13,9 @@ use Rattle.bike_texts.specs.Reading.{◌>>=◌, field_at, no_more}
 use Rattle.bike_texts.proofs.TabFree.{AreRead}
 use Rattle.bike_texts.proofs.Chains.{IsReader, number_reader, choice_reader, ident_reader, language_reader, currency_reader, name_reader, ascii_reader, degrees_reader, form_reader, propulsion_reader}
 use Rattle.bike_texts.proofs.Chains.{metres_reader, segments_reader, end_reader, ident_or_none_reader, side_reader, kind_reader}
-use Rattle.bike_requests.specs.Kinds.{Kind, Numbers, Idents, Languages, Currencies, Names, Asciis, Choices, Coordinates, Forms, Ranges, SegmentLists, Ends, IdentsOrNone, Sides, NameKinds, ◌&◌}
-use Rattle.bike_requests.specs.Kinds.{then_at, reads, fields_with, all_at}
+use Rattle.bike_texts.specs.Kinds.{Kind, Numbers, Idents, Languages, Currencies, Names, Asciis, Choices, Coordinates, Forms, Ranges, SegmentLists, Ends, IdentsOrNone, Sides, NameKinds, ◌&◌}
+use Rattle.bike_texts.specs.Kinds.{then_at, reads, fields_with}
+use Rattle.bike_requests.specs.Unread.{all_at}
 
 -- the fields stand first in the parts
 pub record IsFirst (fields : List Field) (ps rest : Parts) : Type 0 where

@@ -1,5 +1,3 @@
-pub mod Escaping
-pub mod SegmentTexts
 pub mod KindLaws
 pub mod CommandLaws
 pub mod OneText

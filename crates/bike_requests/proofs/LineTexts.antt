@@ -17,8 +17,8 @@ use Rattle.bike_fields.specs.Bytes.{is_printable}
 use Rattle.bike_fields.proofs.Lengths.{both_hold}
 use Rattle.bike_texts.specs.Fields.{escape, escapes_of}
 use Rattle.bike_texts.proofs.Absent.{all_append, all_weaker, set_lacks}
+use Rattle.bike_texts.proofs.Escaping.{char_stays, escapes_of-append}
 use Rattle.bike_requests.specs.Lines.{HasNoFeed}
-use Rattle.bike_requests.proofs.Escaping.{char_stays, escapes_of-append}
 
 -- the text has at most so many bytes, is UTF-8, and has no line feed
 pub record FitsLine (most : ℕ) (text : List ℕ) : Type 0 where

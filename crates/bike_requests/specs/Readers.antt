@@ -13,9 +13,10 @@ use Rattle.bike_texts.specs.Parts.{Parts}
 use Rattle.bike_texts.specs.Reading.{◌>>=◌, part_at}
 use Rattle.bike_commands.specs.declared.command.Command.{Command}
 use Rattle.bike_commands.specs.declared.command.Command.TheVariants as command
-use Rattle.bike_requests.specs.Kinds.{Kind, Numbers, Idents, Languages, Currencies, Names, Asciis, Choices, Coordinates}
-use Rattle.bike_requests.specs.Kinds.{Forms, Ranges, SegmentLists, Ends, IdentsOrNone, Sides, NameKinds, ◌&◌, Value}
-use Rattle.bike_requests.specs.Kinds.{From, at_values, reads, all_at}
+use Rattle.bike_texts.specs.Kinds.{Kind, Numbers, Idents, Languages, Currencies, Names, Asciis, Choices, Coordinates}
+use Rattle.bike_texts.specs.Kinds.{Forms, Ranges, SegmentLists, Ends, IdentsOrNone, Sides, NameKinds, ◌&◌, Value}
+use Rattle.bike_texts.specs.Kinds.{reads}
+use Rattle.bike_requests.specs.Unread.{all_at}
 
 -- truth values; riders, bicycles, trucks; docks, and 0 at the depot; rentals, orders; payments; bicycles on a truck
 abbrev pub Flags : Kind
@@ -61,6 +62,16 @@ station_kind = Idents & Names & Latitudes & Longitudes & Docks
 
 abbrev pub position_kind : Kind
 position_kind = Idents & Latitudes & Longitudes
+
+-- a function of the values, one after the other
+abbrev pub From : Kind → Type 0 → Type 0
+From (k & l) R = From k (From l R)
+From k R = Value k → R
+
+-- .. at all of them
+abbrev pub at_values : {R : Type 0} → (k : Kind) → From k R → Value k → R
+at_values (k & l) f v = at_values l (at_values k f v.0) v.1
+at_values k f v = f v
 
 pub record Row : Type 0 where
   pub word : List ℕ

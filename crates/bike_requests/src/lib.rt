@@ -11,7 +11,6 @@ mod again;
 mod line;
 mod owned;
 mod plain;
-mod put_texts;
 mod readers;
 mod reading;
 mod records;

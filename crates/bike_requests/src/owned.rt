@@ -1,14 +1,13 @@
 //! The values that need memory: texts, segments, and what holds an identifier.
 #![tactic(auto, unfolding(bike_texts::specs::Fields::fields_text))]
 
-ghost use Rattle.bike_requests.specs.Kinds.{Asciis, Currencies, Ends, Idents, IdentsOrNone, Languages, Names};
-ghost use Rattle.bike_requests.specs.Kinds.{SegmentLists, fields_with, reads};
+ghost use Rattle.bike_texts.specs.Kinds.{Asciis, Currencies, Ends, Idents, IdentsOrNone, Languages, Names};
+ghost use Rattle.bike_texts.specs.Kinds.{SegmentLists, fields_with, reads};
 
-use crate::put_texts::{put_escaped, put_segments, put_text};
 use crate::spelled::{FieldReferences, Spelled};
 use crate::unread::Unread;
 use bike_fields::{Ascii, Currency, Ident, Language, Name, Segment};
-use bike_texts::{Fields, OrderEnd};
+use bike_texts::{Fields, OrderEnd, put_escaped, put_segments, put_text};
 use std::alloc::{AllocError, Global};
 use std::marker::Model;
 

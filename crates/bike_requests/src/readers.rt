@@ -5,11 +5,10 @@ ghost use Rattle.std.specs.Prelude.{codes};
 ghost use Rattle.bike_requests.specs.Readers.{command_by};
 ghost use Rattle.bike_requests.specs.Unread.{IsReading};
 
-use crate::plain::{BlockedField, BrokenField, DisabledField};
 use crate::spelled::read;
 use crate::unread::Unread;
 use bike_commands::Command;
-use bike_texts::Fields;
+use bike_texts::{BlockedField, BrokenField, DisabledField, Fields};
 use std::alloc::Global;
 
 /// The pattern of values one behind another. A name stands with the type that says how its value is spelled, where the

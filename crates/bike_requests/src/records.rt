@@ -9,14 +9,13 @@ ghost use Rattle.bike_requests.specs.Readers.{command_by};
 ghost use Rattle.bike_requests.specs.Unread.{IsReading};
 
 use crate::owned::Segments;
-use crate::plain::{Degrees, Range};
 use crate::spelled::{put, read};
 use crate::unread::Unread;
 use bike_catalogue::{Plan, Region, Settings, Station, System, VehicleType};
 use bike_commands::Command;
 use bike_fields::{GREATEST_LATITUDE, Ident, Position};
 use bike_fixed::GREATEST_COORDINATE;
-use bike_texts::Fields;
+use bike_texts::{Degrees, Fields, Range};
 use std::alloc::{AllocError, Global};
 
 type Latitude = Degrees<GREATEST_LATITUDE>;

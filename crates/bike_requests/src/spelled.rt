@@ -4,8 +4,7 @@ ghost use Rattle.std.specs.Prelude.{◌≡◌, ◌++◌, List, OnOk, Option, str
 ghost use Rattle.bike_texts.specs.Fields.{Field, fields_text};
 ghost use Rattle.bike_texts.specs.Parts.{Parts};
 ghost use Rattle.bike_texts.specs.Reading.{Takes};
-ghost use Rattle.bike_requests.specs.Kinds.{IsTaken, all_at, passed};
-ghost use Rattle.bike_requests.specs.Unread.{IsReading};
+ghost use Rattle.bike_requests.specs.Unread.{IsReading, IsTaken, all_at, passed};
 
 use crate::unread::Unread;
 use bike_texts::Fields;
@@ -33,7 +32,7 @@ pub trait Spelled: Drop {
 
 impl<A: Spelled, B: Spelled> Spelled for (A, B) {
     ghost use Rattle.std.specs.Prelude.{◌++◌};
-    ghost use Rattle.bike_requests.specs.Kinds.{then_at};
+    ghost use Rattle.bike_texts.specs.Kinds.{then_at};
 
     ghost read = { then_at A.read (λ _. B.read) };
 

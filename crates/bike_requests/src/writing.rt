@@ -4,13 +4,13 @@ ghost use Rattle.std.specs.Prelude.{◌≡◌, ◌++◌, ℕ, List, IfOk, OnOk, 
 ghost use Rattle.bike_commands.specs.declared.command.Command.{Command};
 ghost use Rattle.bike_commands.specs.Commands.{text_of, IsCommand, IsSpelling, IsWrittenSpelling};
 
-use crate::plain::{BlockedField, BrokenField, DisabledField};
 use crate::records::{
     put_add_plan, put_add_region, put_add_station, put_add_type, put_change_system,
     put_move_station, put_set_system,
 };
 use crate::spelled::put;
 use bike_commands::Command;
+use bike_texts::{BlockedField, BrokenField, DisabledField};
 use std::alloc::{AllocError, Global};
 
 /// References to values one behind another. A name stands with the type that says how its value is spelled, where the

@@ -20,7 +20,7 @@ use Rattle.bike_sql.proofs.CallLaws.{Does}
 use Rattle.bike_sql.proofs.WriteLaws.{Inserts, row_put}
 use Rattle.bike_operator.specs.Operator.{no_operator}
 use Rattle.bike_book.specs.Tables.{TableName, Tables, keys_of, rows_in, tables_by, with_rows, Meta, System, Plans, Segments, Types, Regions, Stations, Docks, Bikes, Trucks, Riders, Rentals, Orders}
-use Rattle.bike_book.specs.Tables.{Entries, History, MoreNames}
+use Rattle.bike_book.specs.Tables.{Entries, History, MoreNames, Books}
 use Rattle.bike_book.specs.Rows.{meta_row}
 use Rattle.bike_book.specs.Stored.{none_listed, tables_for, stored_plan, plans_segments, stored_type, stored_region, stored_station, stored_dock, stored_bike, stored_truck, stored_rider}
 use Rattle.bike_book.specs.Stored.{stored_name}
@@ -150,6 +150,7 @@ first_rows Orders = refl
 first_rows Entries = refl
 first_rows History = refl
 first_rows MoreNames = sym (ap (map stored_name) (none_in _))
+first_rows Books = refl
 
 -- ---- all of it
 

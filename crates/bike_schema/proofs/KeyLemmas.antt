@@ -2,7 +2,7 @@
 use Rattle.std.proofs.Common.{List, ℕ, if◌then◌else◌, is_none, ◌∷◌, [], refl}
 use Rattle.std.specs.List.{range_with_len}
 use Rattle.bike_sql.proofs.KeyLemmas.{IsKeyAt, IsUniqueAt, number_unique_at, columns_unique_at}
-use Rattle.bike_book.specs.Tables.{TableName, keys_of, Meta, System, Plans, Segments, Types, Regions, Stations, Docks, Bikes, Trucks, Riders, Rentals, Orders, Entries, History, MoreNames}
+use Rattle.bike_book.specs.Tables.{TableName, keys_of, Meta, System, Plans, Segments, Types, Regions, Stations, Docks, Bikes, Trucks, Riders, Rentals, Orders, Entries, History, MoreNames, Books}
 use Rattle.bike_schema.specs.Layouts.{layout_of}
 
 -- where the columns of the key stand in a stored row
@@ -26,6 +26,7 @@ unique_key Rentals = number_unique_at (layout_of Rentals) (λ row. refl)
 unique_key Orders = number_unique_at (layout_of Orders) (λ row. refl)
 unique_key Entries = number_unique_at (layout_of Entries) (λ row. refl)
 unique_key History = number_unique_at (layout_of History) (λ row. refl)
+unique_key Books = number_unique_at (layout_of Books) (λ row. refl)
 unique_key MoreNames = columns_unique_at 3 (layout_of MoreNames) 0 (key_places MoreNames) refl refl refl (λ row. refl)
 
 -- where the key's columns stand, whatever keeps it

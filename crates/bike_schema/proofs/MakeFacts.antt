@@ -5,7 +5,7 @@ use Rattle.sqlite_resolve.specs.Compile.{first, table_defined_by}
 use Rattle.sqlite_tied.specs.Compute.{everything}
 use Rattle.bike_sql.specs.Layout.{Layout, table_of}
 use Rattle.bike_sql.proofs.IndexLaw.{IsOnlyIndex}
-use Rattle.bike_book.specs.Tables.{TableName, table_place, Meta, System, Plans, Segments, Types, Regions, Stations, Docks, Bikes, Trucks, Riders, Rentals, Orders, Entries, History, MoreNames}
+use Rattle.bike_book.specs.Tables.{TableName, table_place, Meta, System, Plans, Segments, Types, Regions, Stations, Docks, Bikes, Trucks, Riders, Rentals, Orders, Entries, History, MoreNames, Books}
 use Rattle.bike_schema.specs.Layouts.{layout_of, every_table}
 use Rattle.bike_schema.specs.Creates.{table_texts, index_texts}
 use Rattle.bike_schema.specs.Indexes.{every_index}
@@ -41,6 +41,7 @@ declared Orders = record { only = (refl, refl); defined = refl }
 declared Entries = record { only = (refl, refl); defined = refl }
 declared History = record { only = (refl, refl); defined = refl }
 declared MoreNames = record { only = (refl, refl); defined = refl }
+declared Books = record { only = (refl, refl); defined = refl }
 
 pub index_only : AllByRecursion (λ text. IsOnlyIndex (first text)) index_texts
 unfolding everything

@@ -6,7 +6,7 @@ use Rattle.sqlite_value.specs.Order.{Row}
 use Rattle.bike_sql.specs.Stands.{is_same_text}
 use Rattle.bike_sql.proofs.RowListLemmas.{same_some, all_at}
 use Rattle.bike_book.specs.Tables.{TableName, table_place, is_table, rows_in, tables_by, Meta, System, Plans, Segments, Types, Regions, Stations, Docks, Bikes, Trucks, Riders, Rentals, Orders}
-use Rattle.bike_book.specs.Tables.{Entries, History, MoreNames}
+use Rattle.bike_book.specs.Tables.{Entries, History, MoreNames, Books}
 use Rattle.bike_schema.specs.Layouts.{name_of, every_table}
 
 -- ---- a line for each table
@@ -28,6 +28,7 @@ at_place Orders = refl
 at_place Entries = refl
 at_place History = refl
 at_place MoreNames = refl
+at_place Books = refl
 
 pub rows_in_by : (rows : TableName → List Row) (t : TableName) → rows_in (tables_by rows) t ≡ rows t
 rows_in_by rows Meta = refl
@@ -46,6 +47,7 @@ rows_in_by rows Orders = refl
 rows_in_by rows Entries = refl
 rows_in_by rows History = refl
 rows_in_by rows MoreNames = refl
+rows_in_by rows Books = refl
 
 -- ---- what follows
 

@@ -5,7 +5,7 @@ use Rattle.sqlite_schema.specs.declared.schema.Column.{Column}
 use Rattle.sqlite_schema.specs.declared.schema.Kind.TheVariants.{Integer, Text}
 use Rattle.bike_sql.specs.Layout.{Layout, strict}
 use Rattle.bike_book.specs.Tables.{TableName, Meta, System, Plans, Segments, Types, Regions, Stations, Docks}
-use Rattle.bike_book.specs.Tables.{Bikes, Trucks, Riders, Rentals, Orders, Entries, History, MoreNames}
+use Rattle.bike_book.specs.Tables.{Bikes, Trucks, Riders, Rentals, Orders, Entries, History, MoreNames, Books}
 
 -- a column of whole numbers or of texts, NOT NULL
 abbrev pub number : List ℕ → Column
@@ -70,8 +70,8 @@ layout_of Bikes = numbered_layout (codes "bikes") (codes "bike")
     ∷ number_or_null (codes "rental") ∷ number_or_null (codes "truck") ∷ number_or_null (codes "ord") ∷ [])
 layout_of Trucks = numbered_layout (codes "trucks") (codes "truck")
     (number (codes "capacity") ∷ [])
-layout_of Riders = numbered_layout (codes "riders") (codes "rider")
-    (number (codes "blocked") ∷ number (codes "balance") ∷ [])
+layout_of Riders = numbered_layout (codes "riders_4") (codes "rider")
+    (number (codes "blocked") ∷ number (codes "balance") ∷ number (codes "before") ∷ text_or_null (codes "plan_id") ∷ [])
 layout_of Rentals = numbered_layout (codes "rentals") (codes "rental")
     (number (codes "rider") ∷ number (codes "bike") ∷ text (codes "plan_id") ∷ text (codes "from_station")
     ∷ number (codes "start") ∷ text_or_null (codes "to_station") ∷ number_or_null (codes "finish")
@@ -87,6 +87,8 @@ layout_of History = numbered_layout (codes "history") (codes "number")
     ∷ text (codes "reply") ∷ [])
 layout_of MoreNames = keyed_layout (codes "more_names") (1 ∷ 2 ∷ 3 ∷ [])
     (text (codes "kind") ∷ text (codes "id") ∷ text (codes "language") ∷ text (codes "name") ∷ [])
+layout_of Books = numbered_layout (codes "books") (codes "one")
+    (number (codes "requests") ∷ number (codes "entries") ∷ number (codes "rentals") ∷ [])
 
 abbrev pub name_of : TableName → List ℕ
 name_of t = (layout_of t).name
@@ -95,4 +97,4 @@ name_of t = (layout_of t).name
 abbrev pub every_table : List TableName
 every_table =
     Meta ∷ System ∷ Plans ∷ Segments ∷ Types ∷ Regions ∷ Stations ∷ Docks ∷ Bikes ∷ Trucks ∷ Riders ∷ Rentals ∷ Orders
-    ∷ Entries ∷ History ∷ MoreNames ∷ []
+    ∷ Entries ∷ History ∷ MoreNames ∷ Books ∷ []

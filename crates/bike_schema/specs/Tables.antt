@@ -24,7 +24,7 @@ pub record IsOurs (db : Database) : Type 0 where
 
 -- the names of tables that only an earlier schema has
 abbrev pub other_names : List (List ℕ)
-other_names = codes "stations" ∷ codes "stations_2" ∷ codes "stations_3" ∷ codes "kept" ∷ codes "counts" ∷ []
+other_names = codes "stations" ∷ codes "stations_2" ∷ codes "stations_3" ∷ codes "kept" ∷ codes "counts" ∷ codes "riders" ∷ []
 
 abbrev pub product_names : List (List ℕ)
 product_names = map name_of every_table ++ other_names

@@ -21,7 +21,7 @@ pub type OpenTransaction<'conn, S> = Transaction<'conn, S>;
 pub const APP: &str = "bikeshare";
 
 /// The statements that make the tables, in the order of the schema.
-pub const TABLES: [&str; 16] = [
+pub const TABLES: [&str; 17] = [
     table!(create meta),
     table!(create system),
     table!(create plans),
@@ -38,6 +38,7 @@ pub const TABLES: [&str; 16] = [
     table!(create entries),
     table!(create history),
     table!(create more_names),
+    table!(create books),
 ];
 
 /// The statements that make the indexes beside those of the keys.

@@ -12,7 +12,7 @@ use sqlite_schema::names::same_name;
 use sqlite_schema::schema::{Schema, Table};
 
 /// The names of the tables.
-const TABLE_NAMES: [&str; 16] = [
+const TABLE_NAMES: [&str; 17] = [
     table!(name meta),
     table!(name system),
     table!(name plans),
@@ -29,10 +29,18 @@ const TABLE_NAMES: [&str; 16] = [
     table!(name entries),
     table!(name history),
     table!(name more_names),
+    table!(name books),
 ];
 
 /// The names of the tables that only an earlier schema has.
-const OTHER_NAMES: [&str; 5] = ["stations", "stations_2", "stations_3", "kept", "counts"];
+const OTHER_NAMES: [&str; 6] = [
+    "stations",
+    "stations_2",
+    "stations_3",
+    "kept",
+    "counts",
+    "riders",
+];
 
 /// The names of the indexes beside those of the keys.
 const INDEX_NAMES: [&str; 6] = [

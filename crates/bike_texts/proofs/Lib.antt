@@ -7,3 +7,5 @@ pub mod SegmentSteps
 pub mod SegmentLaws
 pub mod Chains
 pub mod OneSpelling
+pub mod Escaping
+pub mod SegmentTexts

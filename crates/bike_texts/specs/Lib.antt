@@ -3,3 +3,5 @@ pub mod Parts
 pub mod Reading
 pub mod Escapes
 pub mod SegmentReading
+pub mod Kinds
+pub mod Writing

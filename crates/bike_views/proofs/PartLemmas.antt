@@ -4,11 +4,11 @@ use Rattle.std.specs.FinMap as map
 use Rattle.std.specs.Prelude.{option_map}
 use Rattle.bike_catalogue.specs.Rows.{PlanRow, TypeRow}
 use Rattle.bike_ledger.specs.Entries.{Entry}
-use Rattle.bike_ledger.specs.Ledger.{balance_of, refunded_of}
+use Rattle.bike_ledger.specs.Ledger.{refunded_of}
 use Rattle.bike_operator.specs.declared.records.Bike.{Bike}
 use Rattle.bike_operator.specs.declared.records.Rental.{Rental}
 use Rattle.bike_operator.specs.Operator.{Operator, dock_key}
-use Rattle.bike_operator.specs.View.{planned_rental, typed_bike}
+use Rattle.bike_operator.specs.View.{planned_rental, rider_balance, typed_bike}
 use Rattle.bike_book.specs.Stored.{Listed}
 use Rattle.bike_fleet_reads.specs.declared.stations.StationNumbers.{StationNumbers}
 use Rattle.bike_fleet_reads.specs.Fleet.{AreNumbersAt}
@@ -54,7 +54,7 @@ rental_lacks number entries None read none = refl
 rental_lacks number entries (Some r) read none = absurd cc
 
 pub planned_some : (s : Operator) (number : ℕ) (r : Rental) (o : Option PlanRow) {x : Option PlanRow} {plan : PlanRow} {refunded balance : ℤ} → x ≡ o → x ≡ Some plan
-    → refunded ≡ refunded_of number s.entries → balance ≡ balance_of r.rider s.entries
+    → refunded ≡ refunded_of number s.entries.items → balance ≡ rider_balance s r.rider
     → Some (record { number = number; rental = r; plan = plan; refunded = refunded; balance = balance }) ≡ planned_rental s number r o
 planned_some s number r o {plan = plan} read some refunds balances =
     (λ i. Some (record { number = number; rental = r; plan = plan; refunded = refunds i; balance = balances i })) ∙ ap (planned_rental s number r) (sym some ∙ read)

@@ -1,6 +1,7 @@
 //! What is known of the operator when a request is read, and whether the ledger has room for one more entry.
 
-ghost use Rattle.std.specs.Prelude.{◌≡◌, length, IfSome};
+ghost use Rattle.std.specs.Prelude.{◌≡◌, IfSome};
+ghost use Rattle.bike_operator.specs.Operator.{last_number};
 ghost use Rattle.bike_operator.specs.View.{has_full_ledger};
 ghost use Rattle.bike_booking.specs.Figures.{figures_of};
 ghost use Rattle.bike_schema.specs.Answers.{Answers};
@@ -23,7 +24,8 @@ pub struct KnownFigures {
     pub newest_tells: bool,
 }
 
-/// The operator's figures, by five look-ups. It fails as `know_figures` does.
+/// The operator's figures, by five look-ups, and one more for each of rentals, entries and requests that has no row. It
+/// fails as `know_figures` does.
 pub fn find_figures<S: Alter>(conn: &mut Connection<S>) -> Result<Figures, StatementFault>
     ensures { Answers S.Store conn.old conn.new result (λ s m figures. figures ≡ figures_of s) }
 {
@@ -65,7 +67,7 @@ pub(crate) fn is_ledger_full<S: Alter>(
     entries: u32,
 ) -> Result<bool, StatementFault>
     ensures { AnswersOpen S.Store conn.old conn.new result
-        (λ s m full. entries ≡ length s.entries → full ≡ has_full_ledger s) }
+        (λ s m full. entries ≡ last_number s.entries → full ≡ has_full_ledger s) }
 {
     ledger_room_law();
     if entries < MOST_ENTRIES - MOST_BIKES {

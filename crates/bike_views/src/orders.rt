@@ -1,9 +1,9 @@
 //! What the commands on trucks and their orders name.
 
-ghost use Rattle.std.specs.Prelude.{◌≡◌, ℕ, length};
+ghost use Rattle.std.specs.Prelude.{◌≡◌, ℕ};
 ghost use Rattle.bike_commands.specs.declared.command.Command.TheVariants as command;
 ghost use Rattle.bike_operator.specs.Counts.{order_load};
-ghost use Rattle.bike_operator.specs.Operator.{item_numbered};
+ghost use Rattle.bike_operator.specs.Operator.{item_numbered, last_number};
 ghost use Rattle.bike_operator.specs.View.{end_at as end_of_order, end_view, has_end, side_view, view_of};
 ghost use Rattle.bike_schema.specs.Answers.{Answers};
 ghost use Rattle.bike_fleet_reads.specs.Fleet.{IsTruckLoad};
@@ -61,7 +61,7 @@ pub(crate) fn view_to_open_order<S: Alter>(
     type_id: &Ident,
     orders: u32,
 ) -> Result<View, StatementFault>
-    ensures { Answers S.Store conn.old conn.new result (λ s m view. orders ≡ length s.orders → (count : ℕ)
+    ensures { Answers S.Store conn.old conn.new result (λ s m view. orders ≡ last_number s.orders → (count : ℕ)
         → view ≡ view_of s (command.OpenOrder truck from_end.now to_end.now type_id.now count)) }
 {
     let truck = find_truck(conn, truck)?;

@@ -1,9 +1,10 @@
 //! What the commands on rentals name.
 
-ghost use Rattle.std.specs.Prelude.{◌≡◌, ℕ, length};
+ghost use Rattle.std.specs.Prelude.{◌≡◌, ℕ};
 ghost use Rattle.std.specs.FinMap as map;
 ghost use Rattle.bike_ledger.specs.Ledger.{refunded_of};
 ghost use Rattle.bike_commands.specs.declared.command.Command.TheVariants as command;
+ghost use Rattle.bike_operator.specs.Operator.{last_number};
 ghost use Rattle.bike_operator.specs.View.{planned_rental, rental_at, rental_of, view_of};
 ghost use Rattle.bike_schema.specs.Answers.{Answers};
 ghost use Rattle.bike_views.specs.Known.{IsKnown};
@@ -39,7 +40,7 @@ fn find_planned_rental<S: Alter>(
     rental: Rental,
     refunded: Cents,
 ) -> Result<Option<RentalView>, StatementFault>
-    ensures { Answers S.Store conn.old conn.new result (λ s m found. refunded ≡ refunded_of number s.entries
+    ensures { Answers S.Store conn.old conn.new result (λ s m found. refunded ≡ refunded_of number s.entries.items
         → found ≡ planned_rental s number rental (map.get s.plans rental.plan)) }
 {
     let balance = find_rider_balance(conn, rental.rider)?;
@@ -98,7 +99,7 @@ pub(crate) fn view_to_start<S: Alter>(
     ensures { Answers S.Store conn.old conn.new result
         (λ s m x. IsKnown s known.now → IsFoundFor s m (command.Start rider station.now dock) x) }
 {
-    let rider_view = find_rider(conn, rider)?;
+    let rider_view = find_rider(alloc, conn, rider)?;
     let is_riding = is_riding(conn, rider, known.newest_tells)?;
     let is_ledger_full = is_ledger_full(conn, known.figures.entries)?;
     let mut found = find_dock_view(alloc, conn, station, dock.get())?;
@@ -119,7 +120,7 @@ pub(crate) fn view_to_end<S: Alter>(
     entries: u32,
 ) -> Result<ViewAndDocks, StatementFault>
     ensures { Answers S.Store conn.old conn.new result
-        (λ s m x. entries ≡ length s.entries → IsFoundFor s m (command.End bike station.now dock) x) }
+        (λ s m x. entries ≡ last_number s.entries → IsFoundFor s m (command.End bike station.now dock) x) }
 {
     let bike = find_bike(alloc, conn, bike)?;
     let rental = find_rental_of(alloc, conn, &bike)?;
@@ -138,7 +139,7 @@ fn find_rental_bike<S: Alter>(
     rental: Rental,
     refunded: Cents,
 ) -> Result<RentalBike, StatementFault>
-    ensures { Answers S.Store conn.old conn.new result (λ s m ridden. refunded ≡ refunded_of number s.entries
+    ensures { Answers S.Store conn.old conn.new result (λ s m ridden. refunded ≡ refunded_of number s.entries.items
         → ridden ≡ rental_bike s number rental) }
 {
     let bike = find_bike(alloc, conn, rental.bike)?;
@@ -171,7 +172,7 @@ pub(crate) fn view_to_recover<S: Alter>(
     entries: u32,
 ) -> Result<View, StatementFault>
     ensures { Answers S.Store conn.old conn.new result
-        (λ s m view. entries ≡ length s.entries → view ≡ view_of s (command.Recover rental)) }
+        (λ s m view. entries ≡ last_number s.entries → view ≡ view_of s (command.Recover rental)) }
 {
     let recovered = find_rental_bike_at(alloc, conn, rental)?;
     Ok(View {
@@ -189,7 +190,7 @@ pub(crate) fn view_to_refund<S: Alter>(
     rental: RentalNumber,
     entries: u32,
 ) -> Result<View, StatementFault>
-    ensures { Answers S.Store conn.old conn.new result (λ s m view. entries ≡ length s.entries → (amount : ℕ)
+    ensures { Answers S.Store conn.old conn.new result (λ s m view. entries ≡ last_number s.entries → (amount : ℕ)
         → view ≡ view_of s (command.Refund rental amount)) }
 {
     let rental = find_rental_view(alloc, conn, rental)?;

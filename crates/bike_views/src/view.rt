@@ -58,6 +58,7 @@ pub fn find_view<S: Alter>(
         Command::AddRider { rider } => without_docks(view_to_add_rider(conn, *rider)),
         Command::SetRider { rider, .. } => without_docks(view_to_set_rider(conn, *rider)),
         Command::TopUp { rider, .. } => without_docks(view_to_top_up(
+            alloc,
             conn,
             *rider,
             figures.entries,

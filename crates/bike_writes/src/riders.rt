@@ -1,4 +1,4 @@
-//! The statements on `riders`.
+//! The statements on `riders_4`.
 
 ghost use Rattle.bike_accepted.specs.declared.change.Change.TheVariants as change;
 ghost use Rattle.bike_book.specs.declared.row_change.RowChange.TheVariants as row;
@@ -11,14 +11,18 @@ use bike_schema::{OpenTransaction, StatementFault};
 use bike_sql::write::run;
 use sqlite::{Alter, params};
 
-/// Adds the row, not blocked and with balance 0.
+/// Adds the row, not blocked, with balance 0, nothing archived and no plan of its own.
 pub(crate) fn add_rider<S: Alter>(
     tx: &mut OpenTransaction<'_, S>,
     rider: u32,
 ) -> Result<(), StatementFault>
     ensures { Writes S.Store tx.old.conn tx.new.conn result (record_write (change.AddRider rider)) }
 {
-    run(tx, table!(insert riders), params![rider, false, 0_i64])
+    run(
+        tx,
+        table!(insert riders),
+        params![rider, false, 0_i64, 0_i64, None::<&str>],
+    )
 }
 
 /// Sets whether the rider is blocked.
@@ -31,7 +35,7 @@ pub(crate) fn set_rider<S: Alter>(
 {
     run(
         tx,
-        "UPDATE riders SET blocked = ?2 WHERE rider = ?1",
+        "UPDATE riders_4 SET blocked = ?2 WHERE rider = ?1",
         params![rider, is_blocked],
     )
 }
@@ -46,7 +50,7 @@ pub(crate) fn set_balance<S: Alter>(
 {
     run(
         tx,
-        "UPDATE riders SET balance = ?2 WHERE rider = ?1",
+        "UPDATE riders_4 SET balance = ?2 WHERE rider = ?1",
         params![rider, balance.hundredths()],
     )
 }

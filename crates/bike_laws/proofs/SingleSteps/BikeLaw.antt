@@ -22,11 +22,11 @@ use Rattle.bike_operator.specs.declared.records.Rental.{Rental}
 use Rattle.bike_operator.specs.declared.records.Order.{Order}
 use Rattle.bike_operator.specs.declared.view.DockedBike.{DockedBike}
 use Rattle.bike_operator.specs.declared.view.RentalView.{RentalView}
-use Rattle.bike_operator.specs.Operator.{Operator, Station, AcceptedRequest, item_numbered}
+use Rattle.bike_operator.specs.Operator.{Operator, Station, AcceptedRequest, item_numbered, last_number, Numbered}
 use Rattle.bike_operator.specs.Counts.{docked_at, is_fit, is_retired, is_depot, is_on_truck, is_for_order, order_load}
 use Rattle.bike_operator.specs.Names.{is_own_language}
 use Rattle.bike_operator.specs.View.{view_of, docked_view, rental_of, rental_view, end_at}
-use Rattle.bike_operator.specs.Steps.{on, tests, effect, key_changed, with_report, place_reported, bike_reported, bike_marked, bike_placed, rental_added, rental_closed, with_fare, fare_now}
+use Rattle.bike_operator.specs.Steps.{plan_for, own_plan, on, tests, effect, key_changed, with_report, place_reported, bike_reported, bike_marked, bike_placed, rental_added, rental_closed, with_fare, fare_now}
 use Rattle.bike_operator.specs.Steps.{after_start, after_end, after_recovery, refunded_by, placed_at_end, with_delivery, own_name_set, further_name_set, new_station, dock_marked}
 use Rattle.bike_operator.specs.Sound.{HasDock, IsRidden, IsPlace, AreBikesSound}
 use Rattle.bike_laws.specs.SingleSteps.Accepted.{AcceptedKeeps}
@@ -42,23 +42,23 @@ use Rattle.bike_laws.proofs.SingleSteps.BikeLemmas.{bike_parts, same_bikes, type
 use Rattle.bike_laws.proofs.SingleSteps.BikeLemmas.{order_delivered_bikes, IsFree, free_rental, free_truck, free_depot, bike_added_bikes, IsPlaceable, bike_placed_bikes, rental_left}
 use Rattle.bike_laws.proofs.SingleSteps.BikeLemmas.{bike_marked_bikes}
 
-later_bikes : (s : Operator) (now : ℕ) (k : List AcceptedRequest) → AreBikesSound s → AreBikesSound (at_moment s now k)
+later_bikes : (s : Operator) (now : ℕ) (k : Numbered AcceptedRequest) → AreBikesSound s → AreBikesSound (at_moment s now k)
 later_bikes s now k h = same_bikes s (at_moment s now k) refl h
 
 -- ---- stations that report
 
-reported_bikes : (s : Operator) (now : ℕ) (k : List AcceptedRequest) (station : List ℕ) → AreBikesSound (at_moment s now k) → AreBikesSound (at_moment (with_report station now s) now k)
+reported_bikes : (s : Operator) (now : ℕ) (k : Numbered AcceptedRequest) (station : List ℕ) → AreBikesSound (at_moment s now k) → AreBikesSound (at_moment (with_report station now s) now k)
 reported_bikes s now k station h =
     stations_bikes (at_moment s now k) (key_changed s.stations station (reports now))
     (docks_changed (at_moment s now k) (at_moment (with_report station now s) now k) station (reports now) (λ x. omega arith) refl) h
 
-place_reported_bikes : (s : Operator) (now : ℕ) (k : List AcceptedRequest) (p : Place) → AreBikesSound (at_moment s now k) → AreBikesSound (at_moment (place_reported p now s) now k)
+place_reported_bikes : (s : Operator) (now : ℕ) (k : Numbered AcceptedRequest) (p : Place) → AreBikesSound (at_moment s now k) → AreBikesSound (at_moment (place_reported p now s) now k)
 place_reported_bikes s now k (place.Dock station dock) h = reported_bikes s now k station h
 place_reported_bikes s now k (place.Rental rental) h = h
 place_reported_bikes s now k (place.Truck truck order) h = h
 place_reported_bikes s now k place.Depot h = h
 
-bike_reported_bikes : (s : Operator) (now : ℕ) (k : List AcceptedRequest) (o : Option Bike) → AreBikesSound (at_moment s now k) → AreBikesSound (at_moment (bike_reported o now s) now k)
+bike_reported_bikes : (s : Operator) (now : ℕ) (k : Numbered AcceptedRequest) (o : Option Bike) → AreBikesSound (at_moment s now k) → AreBikesSound (at_moment (bike_reported o now s) now k)
 bike_reported_bikes s now k None h = h
 bike_reported_bikes s now k (Some b) h = place_reported_bikes s now k b.place h
 
@@ -69,13 +69,13 @@ fit_bike Fit e f = absurd cc
 fit_bike Disabled e f = absurd cc
 fit_bike Retired e f = absurd cc
 
-started_bikes : (s : Operator) (now : ℕ) (k : List AcceptedRequest) (rider : ℕ) (station : List ℕ) (dock : ℕ) (o : Option DockedBike) → docked_view s (docked_at s station dock) ≡ o
+started_bikes : (s : Operator) (now : ℕ) (k : Numbered AcceptedRequest) (rider : ℕ) (station : List ℕ) (dock : ℕ) (o : Option DockedBike) → docked_view s (docked_at s station dock) ≡ o
     → on o (λ b. not (is_fit b.state)) ≡ false → AreBikesSound (at_moment s now k) → AreBikesSound (at_moment (after_start rider station now o s) now k)
 started_bikes s now k rider station dock None e fit h = h
 started_bikes s now k rider station dock (Some d) e fit h =
-    let r : Rental = record { rider = rider; bike = d.bike; plan = d.plan; from_station = station; start = now; closing = None } in
+    let r : Rental = record { rider = rider; bike = d.bike; plan = plan_for (own_plan (map.get s.riders rider)) d.plan; from_station = station; start = now; closing = None } in
     let n : Operator = rental_added r (at_moment s now k) in
-    let p : Place = place.Rental (length s.rentals + 1) in
+    let p : Place = place.Rental (last_number s.rentals + 1) in
     let x = docked_of s station dock d e in
     let with_rental = rental_added_bikes (at_moment s now k) r h in
     let can : IsPlaceable n d.bike p = record {
@@ -84,12 +84,12 @@ started_bikes s now k rider station dock (Some d) e fit h =
           let rows : b ≡ x.row = same_some b x.row (sym found ∙ x.found) in
           let state : b.state ≡ d.state = ap (λ (z : Bike). z.state) rows ∙ x.state_is in
           absurd (fit_bike d.state fit (subst (λ (z : BikeState). is_retired z ≡ true) state is));
-      free = free_rental n (length s.rentals + 1);
+      free = free_rental n (last_number s.rentals + 1);
     } in
     reported_bikes (bike_placed d.bike p (rental_added r s)) now k station (bike_placed_bikes n d.bike p can with_rental)
 
 -- a rental is closed that no bicycle is in any more, at a fare
-charged_bikes : (s : Operator) (now : ℕ) (k : List AcceptedRequest) (bike : ℕ) (p : Place) (r : RentalView) (to_station : Option (List ℕ)) → item_numbered r.number s.rentals ≡ Some r.rental
+charged_bikes : (s : Operator) (now : ℕ) (k : Numbered AcceptedRequest) (bike : ℕ) (p : Place) (r : RentalView) (to_station : Option (List ℕ)) → item_numbered r.number s.rentals ≡ Some r.rental
     → r.rental.bike ≡ bike
     → p ≢ place.Rental r.number → IsPlaceable (at_moment s now k) bike p → AreBikesSound (at_moment s now k) → AreBikesSound (at_moment (bike_placed bike p (with_fare r to_station now s)) now k)
 charged_bikes s now k bike p r to_station found bike_is other can h =
@@ -98,7 +98,7 @@ charged_bikes s now k bike p r to_station found bike_is other can h =
     let closed = rental_closed_bikes (bike_placed bike p at) r.number to_station now (fare_now r now) left (bike_placed_bikes at bike p can h) in
     same_bikes (rental_closed r.number to_station now (fare_now r now) (bike_placed bike p at)) (at_moment (bike_placed bike p (with_fare r to_station now s)) now k) refl closed
 
-ended_bikes : (s : Operator) (now : ℕ) (k : List AcceptedRequest) (bike : ℕ) (station : List ℕ) (dock : ℕ) (o : Option RentalView) → rental_of s (map.get s.bikes bike) ≡ o
+ended_bikes : (s : Operator) (now : ℕ) (k : Numbered AcceptedRequest) (bike : ℕ) (station : List ℕ) (dock : ℕ) (o : Option RentalView) → rental_of s (map.get s.bikes bike) ≡ o
     → HasDock (at_moment s now k) station dock → IsFree (at_moment s now k) (place.Dock station dock) → AreBikesSound (at_moment s now k)
     → AreBikesSound (at_moment (after_end bike station dock now o s) now k)
 ended_bikes s now k bike station dock None e has free h = h
@@ -119,7 +119,7 @@ ended_bikes s now k bike station dock (Some r) e has free h =
     reported_bikes (bike_placed bike (place.Dock station dock) (with_fare r (Some station) now s)) now k station
     (charged_bikes s now k bike (place.Dock station dock) r (Some station) x.rental bike_is (λ e. absurd cc) can h)
 
-recovered_bikes : (s : Operator) (now : ℕ) (k : List AcceptedRequest) (rental : ℕ) (o : Option RentalView) → rental_view s rental (item_numbered rental s.rentals) ≡ o
+recovered_bikes : (s : Operator) (now : ℕ) (k : Numbered AcceptedRequest) (rental : ℕ) (o : Option RentalView) → rental_view s rental (item_numbered rental s.rentals) ≡ o
     → AreBikesSound (at_moment s now k)
     → AreBikesSound (at_moment (after_recovery now o s) now k)
 recovered_bikes s now k rental None e h = h
@@ -129,7 +129,7 @@ recovered_bikes s now k rental (Some r) e h =
     let placed = charged_bikes s now k r.rental.bike place.Depot r None (rw x.number_is x.found) refl (λ e. absurd cc) can h in
     bike_marked_bikes (at_moment (bike_placed r.rental.bike place.Depot (with_fare r None now s)) now k) r.rental.bike Disabled (λ b found e. absurd cc) placed
 
-refunded_bikes : (s : Operator) (now : ℕ) (k : List AcceptedRequest) (amount : ℕ) (o : Option RentalView) → AreBikesSound (at_moment s now k)
+refunded_bikes : (s : Operator) (now : ℕ) (k : Numbered AcceptedRequest) (amount : ℕ) (o : Option RentalView) → AreBikesSound (at_moment s now k)
     → AreBikesSound (at_moment (refunded_by amount now o s) now k)
 refunded_bikes s now k amount None h = h
 refunded_bikes s now k amount (Some r) h = same_bikes (at_moment s now k) (at_moment (refunded_by amount now (Some r) s) now k) refl h
@@ -139,7 +139,7 @@ refunded_bikes s now k amount (Some r) h = same_bikes (at_moment s now k) (at_mo
 truck_depot : (truck : ℕ) (p : Place) → is_on_truck truck p ≡ true → p ≡ place.Depot → ⊥
 truck_depot truck p e is = let f : is_on_truck truck place.Depot ≡ true = subst (λ (z : Place). is_on_truck truck z ≡ true) is e in cc
 
-placed_at_end_bikes : (s : Operator) (now : ℕ) (k : List AcceptedRequest) (bike : ℕ) (e : OrderEnd) (dock : ℕ) → TakesBike (at_moment s now k) e dock
+placed_at_end_bikes : (s : Operator) (now : ℕ) (k : Numbered AcceptedRequest) (bike : ℕ) (e : OrderEnd) (dock : ℕ) → TakesBike (at_moment s now k) e dock
     → ((b : Bike) → map.get s.bikes bike ≡ Some b → is_retired b.state ≡ true → ⊥) → AreBikesSound (at_moment s now k) → AreBikesSound (at_moment (placed_at_end bike e dock now s) now k)
 placed_at_end_bikes s now k bike end.Depot dock takes fit h =
     bike_placed_bikes (at_moment s now k) bike place.Depot (record { placed = λ b found. tt; retired = λ b found is. refl; free = free_depot (at_moment s now k) }) h
@@ -148,11 +148,11 @@ placed_at_end_bikes s now k bike (end.Station station) dock takes fit h =
     (bike_placed_bikes (at_moment s now k) bike (place.Dock station dock)
     (record { placed = λ b found. takes.0; retired = λ b found is. absurd (fit b found is); free = free_dock (at_moment s now k) station dock h takes.1 }) h)
 
-takes_later : (s : Operator) (now : ℕ) (k : List AcceptedRequest) (e : OrderEnd) (dock : ℕ) → TakesBike s e dock → TakesBike (at_moment s now k) e dock
+takes_later : (s : Operator) (now : ℕ) (k : Numbered AcceptedRequest) (e : OrderEnd) (dock : ℕ) → TakesBike s e dock → TakesBike (at_moment s now k) e dock
 takes_later s now k end.Depot dock h = tt
 takes_later s now k (end.Station station) dock h = (record { row = h.0.row; found = h.0.found; low = h.0.low; high = h.0.high }, h.1)
 
-unloaded_bikes : (s : Operator) (now : ℕ) (k : List AcceptedRequest) (truck order bike : ℕ) (side : Side) (dock : ℕ) (x : Order) → IsUnloaded s truck order bike side dock x
+unloaded_bikes : (s : Operator) (now : ℕ) (k : Numbered AcceptedRequest) (truck order bike : ℕ) (side : Side) (dock : ℕ) (x : Order) → IsUnloaded s truck order bike side dock x
     → AreBikesSound (at_moment s now k)
     → AreBikesSound (at_moment (with_delivery order side (placed_at_end bike (end_at side x) dock now s)) now k)
 unloaded_bikes s now k truck order bike side dock x can h = go side placed where
@@ -169,7 +169,7 @@ unloaded_bikes s now k truck order bike side dock x can h = go side placed where
 
 -- ---- names
 
-own_named_bikes : (s : Operator) (now : ℕ) (k : List AcceptedRequest) (kind : NameKind) (id name : List ℕ) → AreBikesSound s → AreBikesSound (at_moment (own_name_set kind id name s) now k)
+own_named_bikes : (s : Operator) (now : ℕ) (k : Numbered AcceptedRequest) (kind : NameKind) (id name : List ℕ) → AreBikesSound s → AreBikesSound (at_moment (own_name_set kind id name s) now k)
 own_named_bikes s now k named.System id name h = same_bikes s (at_moment (own_name_set named.System id name s) now k) refl h
 own_named_bikes s now k named.Station id name h =
     let at : Operator = at_moment s now k in
@@ -182,7 +182,7 @@ own_named_bikes s now k named.Plan id name h = same_bikes s (at_moment (own_name
 own_named_bikes s now k named.Description id name h = same_bikes s (at_moment (own_name_set named.Description id name s) now k) refl h
 own_named_bikes s now k named.Region id name h = same_bikes s (at_moment (own_name_set named.Region id name s) now k) refl h
 
-named_bikes : (s : Operator) (now : ℕ) (k : List AcceptedRequest) (kind : NameKind) (id language name : List ℕ) (own : Bool) → AreBikesSound s
+named_bikes : (s : Operator) (now : ℕ) (k : Numbered AcceptedRequest) (kind : NameKind) (id language name : List ℕ) (own : Bool) → AreBikesSound s
     → AreBikesSound (at_moment (if own then own_name_set kind id name s else further_name_set kind id language name s) now k)
 named_bikes s now k kind id language name true h = own_named_bikes s now k kind id name h
 named_bikes s now k kind id language name false h = same_bikes s (at_moment (further_name_set kind id language name s) now k) refl h
@@ -190,7 +190,7 @@ named_bikes s now k kind id language name false h = same_bikes s (at_moment (fur
 -- ---- all commands
 
 -- a command that leaves the bicycles alone, and what they need
-unchanged : (s : Operator) (now : ℕ) (c : Command) (k : List AcceptedRequest) → bike_parts (effect s now c) ≡ bike_parts s → AreBikesSound s → AreBikesSound (at_moment (effect s now c) now k)
+unchanged : (s : Operator) (now : ℕ) (c : Command) (k : Numbered AcceptedRequest) → bike_parts (effect s now c) ≡ bike_parts s → AreBikesSound s → AreBikesSound (at_moment (effect s now c) now k)
 unchanged s now c k same h = same_bikes s (at_moment (effect s now c) now k) same h
 
 depot_of : (p : Place) → is_depot p ≡ true → p ≡ place.Depot

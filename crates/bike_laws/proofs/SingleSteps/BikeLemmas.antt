@@ -12,7 +12,7 @@ use Rattle.bike_operator.specs.declared.records.Place.TheVariants as place
 use Rattle.bike_operator.specs.declared.records.Bike.{Bike}
 use Rattle.bike_operator.specs.declared.records.Rental.{Rental}
 use Rattle.bike_operator.specs.declared.records.Order.{Order}
-use Rattle.bike_operator.specs.Operator.{Operator, Station, text_cmp, item_numbered, number_changed}
+use Rattle.bike_operator.specs.Operator.{Operator, Station, text_cmp, item_numbered, number_changed, Numbered, with_item}
 use Rattle.bike_operator.specs.Counts.{is_retired}
 use Rattle.bike_operator.specs.declared.limits.TheConstants.{MOST_BIKES}
 use Rattle.bike_operator.specs.Steps.{bike_placed, bike_marked, rental_added, rental_closed, order_added, order_changed}
@@ -24,11 +24,11 @@ use Rattle.bike_laws.proofs.SingleSteps.CatalogueLemmas.{same_docks}
 -- ---- what a place needs goes on being there
 
 same_ridden : (s n : Operator) → n.rentals ≡ s.rentals → (bike rental : ℕ) → IsRidden s bike rental → IsRidden n bike rental
-same_ridden s n e bike rental h = record { row = h.row; found = ap (λ (rs : List Rental). item_numbered rental rs) e ∙ h.found; not_closed = h.not_closed; bike_is = h.bike_is }
+same_ridden s n e bike rental h = record { row = h.row; found = ap (λ (rs : Numbered Rental). item_numbered rental rs) e ∙ h.found; not_closed = h.not_closed; bike_is = h.bike_is }
 
 same_carried : (s n : Operator) → n.orders ≡ s.orders → (type_id : List ℕ) (truck order : ℕ) → IsCarried s type_id truck order → IsCarried n type_id truck order
 same_carried s n e type_id truck order h =
-    record { row = h.row; found = ap (λ (os : List Order). item_numbered order os) e ∙ h.found; not_closed = h.not_closed; truck_is = h.truck_is; type_is = h.type_is }
+    record { row = h.row; found = ap (λ (os : Numbered Order). item_numbered order os) e ∙ h.found; not_closed = h.not_closed; truck_is = h.truck_is; type_is = h.type_is }
 
 same_place : (s n : Operator) → n.stations ≡ s.stations → n.rentals ≡ s.rentals → n.orders ≡ s.orders → (bike : ℕ) (type_id : List ℕ) (p : Place) → IsPlace s bike type_id p → IsPlace n bike type_id p
 same_place s n stations rentals orders bike type_id (place.Dock station dock) h = same_docks s n stations station dock h
@@ -64,7 +64,7 @@ bikes_stand s n stand h =
     }
 
 abbrev pub BikeParts : Type 0
-BikeParts = FinMap nat_cmp Bike × FinMap text_cmp TypeRow × FinMap text_cmp Station × List Rental × List Order
+BikeParts = FinMap nat_cmp Bike × FinMap text_cmp TypeRow × FinMap text_cmp Station × Numbered Rental × Numbered Order
 
 abbrev pub bike_parts : Operator → BikeParts
 bike_parts s = (s.bikes, s.types, s.stations, s.rentals, s.orders)
@@ -107,7 +107,7 @@ stations_bikes s stations docks h =
       carried = λ bike truck order b found is. same_carried s n refl b.type_id truck order;
     }) h
 
-rentals_bikes : (s : Operator) (rentals : List Rental)
+rentals_bikes : (s : Operator) (rentals : Numbered Rental)
     → ((bike rental : ℕ) (b : Bike) → map.get s.bikes bike ≡ Some b → b.place ≡ place.Rental rental → IsRidden s bike rental → IsRidden (record s { rentals = rentals }) bike rental)
     → AreBikesSound s → AreBikesSound (record s { rentals = rentals })
 rentals_bikes s rentals ridden h =
@@ -120,7 +120,7 @@ rentals_bikes s rentals ridden h =
       carried = λ bike truck order b found is. same_carried s n refl b.type_id truck order;
     }) h
 
-orders_bikes : (s : Operator) (orders : List Order)
+orders_bikes : (s : Operator) (orders : Numbered Order)
     → ((bike truck order : ℕ) (b : Bike) → map.get s.bikes bike ≡ Some b → b.place ≡ place.Truck truck order → IsCarried s b.type_id truck order
     → IsCarried (record s { orders = orders }) b.type_id truck order)
     → AreBikesSound s → AreBikesSound (record s { orders = orders })
@@ -136,7 +136,7 @@ orders_bikes s orders carried h =
 
 pub rental_added_bikes : (s : Operator) (r : Rental) → AreBikesSound s → AreBikesSound (rental_added r s)
 rental_added_bikes s r h =
-    rentals_bikes s (s.rentals ++ r ∷ []) (λ bike rental b found is i. record { row = i.row; found = number_stays rental s.rentals r i.row i.found; not_closed = i.not_closed; bike_is = i.bike_is }) h
+    rentals_bikes s (with_item r s.rentals) (λ bike rental b found is i. record { row = i.row; found = number_stays rental s.rentals r i.row i.found; not_closed = i.not_closed; bike_is = i.bike_is }) h
 
 abbrev closed_now : Option (List ℕ) → ℕ → ℤ → Rental → Rental
 closed_now to_station now fare r = record r { closing = Some (record { to_station = to_station; finish = now; fare = fare }) }
@@ -154,7 +154,7 @@ rental_closed_bikes s number to_station now fare empty h =
 
 pub order_added_bikes : (s : Operator) (o : Order) → AreBikesSound s → AreBikesSound (order_added o s)
 order_added_bikes s o h =
-    orders_bikes s (s.orders ++ o ∷ []) (λ bike truck order b found is i.
+    orders_bikes s (with_item o s.orders) (λ bike truck order b found is i.
     record { row = i.row; found = number_stays order s.orders o i.row i.found; not_closed = i.not_closed; truck_is = i.truck_is; type_is = i.type_is }) h
 
 -- an order is changed for which no bicycle is on a truck

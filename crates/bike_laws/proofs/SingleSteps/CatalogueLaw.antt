@@ -23,7 +23,7 @@ use Rattle.bike_operator.specs.declared.records.Order.{Order}
 use Rattle.bike_operator.specs.declared.view.DockedBike.{DockedBike}
 use Rattle.bike_operator.specs.declared.view.RentalView.{RentalView}
 use Rattle.bike_fields.specs.declared.numbers.TheConstants.{MOST_DOCKS}
-use Rattle.bike_operator.specs.Operator.{Operator, Station, AcceptedRequest, item_numbered}
+use Rattle.bike_operator.specs.Operator.{Operator, Station, AcceptedRequest, item_numbered, Numbered}
 use Rattle.bike_operator.specs.Counts.{docked_at}
 use Rattle.bike_operator.specs.Names.{is_own_language}
 use Rattle.bike_operator.specs.View.{view_of, station_view, docked_view, rental_of, rental_view, has_region}
@@ -36,7 +36,7 @@ use Rattle.bike_laws.proofs.SingleSteps.TestLemmas.{none_holds, dock_of, no_stat
 use Rattle.bike_laws.proofs.SingleSteps.CatalogueLemmas.{region_stands, catalogue_of, same_catalogue, system_set, system_changed, settings_kept, plan_added, plan_changed, type_added, type_changed}
 use Rattle.bike_laws.proofs.SingleSteps.CatalogueLemmas.{region_added, region_changed, station_added, station_changed, station_reported, dock_marked_catalogue}
 
-later_catalogue : (s : Operator) (now : ℕ) (k : List AcceptedRequest) → s.now ≤ now → IsCatalogueSound s → IsCatalogueSound (at_moment s now k)
+later_catalogue : (s : Operator) (now : ℕ) (k : Numbered AcceptedRequest) → s.now ≤ now → IsCatalogueSound s → IsCatalogueSound (at_moment s now k)
 later_catalogue s now k late h = same_catalogue s (at_moment s now k) late refl h
 
 -- the catalogue is the same, but for a station that reports
@@ -46,7 +46,7 @@ then_reported s n station late same h = station_reported (record n { stations = 
 
 -- ---- the commands that name a record which may be absent
 
-module _ (s : Operator) (now : ℕ) (k : List AcceptedRequest) (h : IsCatalogueSound (at_moment s now k)) where
+module _ (s : Operator) (now : ℕ) (k : Numbered AcceptedRequest) (h : IsCatalogueSound (at_moment s now k)) where
   started_catalogue : (rider : ℕ) (station : List ℕ) (o : Option DockedBike) → IsCatalogueSound (at_moment (after_start rider station now o s) now k)
   started_catalogue rider station None = h
   started_catalogue rider station (Some b) = then_reported (at_moment s now k) (at_moment (after_start rider station now (Some b) s) now k) station (omega arith) refl h
@@ -74,7 +74,7 @@ module _ (s : Operator) (now : ℕ) (k : List AcceptedRequest) (h : IsCatalogueS
   bike_reported_catalogue bikes None = same_catalogue (at_moment s now k) (at_moment (record s { bikes = bikes }) now k) (omega arith) refl h
   bike_reported_catalogue bikes (Some b) = place_reported_catalogue bikes b.place
 
-  placed_catalogue : (bike : ℕ) (e : OrderEnd) (dock : ℕ) (orders : List Order) → IsCatalogueSound (at_moment (record (placed_at_end bike e dock now s) { orders = orders }) now k)
+  placed_catalogue : (bike : ℕ) (e : OrderEnd) (dock : ℕ) (orders : Numbered Order) → IsCatalogueSound (at_moment (record (placed_at_end bike e dock now s) { orders = orders }) now k)
   placed_catalogue bike end.Depot dock orders = same_catalogue (at_moment s now k) (at_moment (record (placed_at_end bike end.Depot dock now s) { orders = orders }) now k) (omega arith) refl h
   placed_catalogue bike (end.Station station) dock orders =
       then_reported (at_moment s now k) (at_moment (record (placed_at_end bike (end.Station station) dock now s) { orders = orders }) now k) station (omega arith) refl h
@@ -87,7 +87,7 @@ module _ (s : Operator) (now : ℕ) (k : List AcceptedRequest) (h : IsCatalogueS
 -- ---- names
 
 -- a name within its bounds, in the system's language
-module _ (s : Operator) (now : ℕ) (k : List AcceptedRequest) (id name : List ℕ) (good : is_name name ≡ true) (h : IsCatalogueSound (at_moment s now k)) where
+module _ (s : Operator) (now : ℕ) (k : Numbered AcceptedRequest) (id name : List ℕ) (good : is_name name ≡ true) (h : IsCatalogueSound (at_moment s now k)) where
   own_named_catalogue : (kind : NameKind) → IsCatalogueSound (at_moment (own_name_set kind id name s) now k)
   own_named_catalogue named.System =
       system_set (at_moment s now k) (option_map (system_named name) s.system)
@@ -135,7 +135,7 @@ not_above n most few = grind (arith, nat_tests, few)
 -- ---- all commands
 
 -- a command that leaves the catalogue alone
-unchanged : (s : Operator) (now : ℕ) (c : Command) (k : List AcceptedRequest) → s.now ≤ now → catalogue_of (effect s now c) ≡ catalogue_of s → IsCatalogueSound s
+unchanged : (s : Operator) (now : ℕ) (c : Command) (k : Numbered AcceptedRequest) → s.now ≤ now → catalogue_of (effect s now c) ≡ catalogue_of s → IsCatalogueSound s
     → IsCatalogueSound (at_moment (effect s now c) now k)
 unchanged s now c k late same h = same_catalogue s (at_moment (effect s now c) now k) late same h
 

@@ -21,11 +21,11 @@ use Rattle.bike_operator.specs.declared.records.Bike.{Bike}
 use Rattle.bike_operator.specs.declared.records.Order.{Order}
 use Rattle.bike_operator.specs.declared.view.DockedBike.{DockedBike}
 use Rattle.bike_operator.specs.declared.view.RentalView.{RentalView}
-use Rattle.bike_operator.specs.Operator.{Operator, Station, AcceptedRequest, text_cmp, name_key, item_numbered}
+use Rattle.bike_operator.specs.Operator.{Operator, Station, AcceptedRequest, text_cmp, name_key, item_numbered, last_number, Numbered}
 use Rattle.bike_operator.specs.Counts.{docked_at}
 use Rattle.bike_operator.specs.Names.{is_own_language, has_named, has_language, further_names}
 use Rattle.bike_operator.specs.View.{view_of, end_at, docked_view, rental_of, rental_view}
-use Rattle.bike_operator.specs.Steps.{tests, effect, key_changed, with_report, place_reported, bike_reported, bike_marked, bike_placed, rental_added, with_fare, after_start, after_end, after_recovery}
+use Rattle.bike_operator.specs.Steps.{plan_for, own_plan, tests, effect, key_changed, with_report, place_reported, bike_reported, bike_marked, bike_placed, rental_added, with_fare, after_start, after_end, after_recovery}
 use Rattle.bike_operator.specs.Steps.{refunded_by, with_delivery, placed_at_end, after_unload, system_named, own_name_set, further_name_set, further_name_removed, new_station, dock_marked}
 use Rattle.bike_operator.specs.Sound.{AreNamesSound}
 use Rattle.bike_laws.specs.SingleSteps.Accepted.{AcceptedKeeps}
@@ -88,8 +88,8 @@ module _ (s : Operator) (now : ℕ) where
   started : (rider : ℕ) (station : List ℕ) (o : Option DockedBike) → KeepsNames s (after_start rider station now o s)
   started rider station None = others s s refl refl
   started rider station (Some b) =
-      let rides : Operator = rental_added (record { rider = rider; bike = b.bike; plan = b.plan; from_station = station; start = now; closing = None }) s in
-      let n : Operator = bike_placed b.bike (place.Rental (length s.rentals + 1)) rides in
+      let rides : Operator = rental_added (record { rider = rider; bike = b.bike; plan = plan_for (own_plan (map.get s.riders rider)) b.plan; from_station = station; start = now; closing = None }) s in
+      let n : Operator = bike_placed b.bike (place.Rental (last_number s.rentals + 1)) rides in
       reported n station (others s n refl refl)
 
   ended : (bike : ℕ) (station : List ℕ) (dock : ℕ) (o : Option RentalView) → KeepsNames s (after_end bike station dock now o s)
@@ -126,19 +126,19 @@ module _ (s : Operator) (now : ℕ) where
 -- ---- all commands
 
 -- the further names after a command that leaves them alone
-kept_names : (s n : Operator) (now : ℕ) (k : List AcceptedRequest) → KeepsNames s n → AreNamesSound s → AreNamesSound (at_moment n now k)
+kept_names : (s n : Operator) (now : ℕ) (k : Numbered AcceptedRequest) → KeepsNames s n → AreNamesSound s → AreNamesSound (at_moment n now k)
 kept_names s n now k keeps h = names_kept s (at_moment n now k) keeps.names
     (record { system = keeps.named.system; plans = keeps.named.plans; types = keeps.named.types; regions = keeps.named.regions; stations = keeps.named.stations }) h
 
 -- a command that leaves alone what has names, too
-unchanged : (s : Operator) (now : ℕ) (c : Command) (k : List AcceptedRequest) → (effect s now c).more_names ≡ s.more_names → named_parts (effect s now c) ≡ named_parts s → AreNamesSound s
+unchanged : (s : Operator) (now : ℕ) (c : Command) (k : Numbered AcceptedRequest) → (effect s now c).more_names ≡ s.more_names → named_parts (effect s now c) ≡ named_parts s → AreNamesSound s
     → AreNamesSound (at_moment (effect s now c) now k)
 unchanged s now c k names parts h = kept_names s (effect s now c) now k (others s (effect s now c) names parts) h
 
 -- ---- names that change
 
 -- the name in the system's language: the further names stay
-module _ (s : Operator) (now : ℕ) (k : List AcceptedRequest) (id name : List ℕ) (h : AreNamesSound s) where
+module _ (s : Operator) (now : ℕ) (k : Numbered AcceptedRequest) (id name : List ℕ) (h : AreNamesSound s) where
   own_named_names : (kind : NameKind) → AreNamesSound (at_moment (own_name_set kind id name s) now k)
   own_named_names named.System =
       let n : Operator = own_name_set named.System id name s in
@@ -165,7 +165,7 @@ further_there true there has further = absurd cc
 further_there false true has further = refl
 further_there false false has further = absurd cc
 
-module _ (s : Operator) (now : ℕ) (k : List AcceptedRequest) (kind : NameKind) (id language : List ℕ) (has : not (has_language s kind id language) ≡ false) (h : AreNamesSound s) where
+module _ (s : Operator) (now : ℕ) (k : Numbered AcceptedRequest) (kind : NameKind) (id language : List ℕ) (has : not (has_language s kind id language) ≡ false) (h : AreNamesSound s) where
   old_name : is_own_language s.system language ≡ false → (old : List ℕ) × (map.get s.more_names (name_key kind id language) ≡ Some old)
   old_name further =
       there_of (map.get s.more_names (name_key kind id language)) (further_there (is_own_language s.system language) (map.contains_key s.more_names (name_key kind id language)) has further)

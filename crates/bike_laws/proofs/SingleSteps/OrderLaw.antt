@@ -19,7 +19,7 @@ use Rattle.bike_operator.specs.declared.records.Order.{Order}
 use Rattle.bike_operator.specs.declared.view.DockedBike.{DockedBike}
 use Rattle.bike_operator.specs.declared.view.RentalView.{RentalView}
 use Rattle.bike_operator.specs.declared.view.TruckView.{TruckView}
-use Rattle.bike_operator.specs.Operator.{Operator, Station, AcceptedRequest, item_numbered}
+use Rattle.bike_operator.specs.Operator.{Operator, Station, AcceptedRequest, item_numbered, last_number, Numbered}
 use Rattle.bike_operator.specs.Counts.{docked_at, is_for_order, truck_load, order_load}
 use Rattle.bike_operator.specs.Names.{is_own_language}
 use Rattle.bike_operator.specs.View.{view_of, truck_view, docked_view, rental_of, rental_view, end_at, has_end}
@@ -34,37 +34,37 @@ use Rattle.bike_laws.proofs.SingleSteps.UnloadLemmas.{IsUnloaded, unloaded_of}
 use Rattle.bike_laws.proofs.SingleSteps.OrderLemmas.{end_stands, order_parts, same_orders, known_orders, bike_placed_orders, bike_marked_orders, bike_added_orders, bike_loaded_orders, one_less}
 use Rattle.bike_laws.proofs.SingleSteps.OrderLemmas.{none_loaded, none_on_truck, truck_added_orders, order_added_orders, order_changed_orders}
 
-later_orders : (s : Operator) (now : ℕ) (k : List AcceptedRequest) → AreOrdersSound s → AreOrdersSound (at_moment s now k)
+later_orders : (s : Operator) (now : ℕ) (k : Numbered AcceptedRequest) → AreOrdersSound s → AreOrdersSound (at_moment s now k)
 later_orders s now k h = same_orders s (at_moment s now k) refl h
 
 -- ---- stations that report
 
-reported_orders : (s : Operator) (now : ℕ) (k : List AcceptedRequest) (station : List ℕ) → AreOrdersSound (at_moment s now k) → AreOrdersSound (at_moment (with_report station now s) now k)
+reported_orders : (s : Operator) (now : ℕ) (k : Numbered AcceptedRequest) (station : List ℕ) → AreOrdersSound (at_moment s now k) → AreOrdersSound (at_moment (with_report station now s) now k)
 reported_orders s now k station h =
     known_orders (at_moment s now k) s.types (key_changed s.stations station (reports now)) (λ id known. known) (known_changed text_order s.stations station (reports now)) h
 
-place_reported_orders : (s : Operator) (now : ℕ) (k : List AcceptedRequest) (p : Place) → AreOrdersSound (at_moment s now k) → AreOrdersSound (at_moment (place_reported p now s) now k)
+place_reported_orders : (s : Operator) (now : ℕ) (k : Numbered AcceptedRequest) (p : Place) → AreOrdersSound (at_moment s now k) → AreOrdersSound (at_moment (place_reported p now s) now k)
 place_reported_orders s now k (place.Dock station dock) h = reported_orders s now k station h
 place_reported_orders s now k (place.Rental rental) h = h
 place_reported_orders s now k (place.Truck truck order) h = h
 place_reported_orders s now k place.Depot h = h
 
-bike_reported_orders : (s : Operator) (now : ℕ) (k : List AcceptedRequest) (o : Option Bike) → AreOrdersSound (at_moment s now k) → AreOrdersSound (at_moment (bike_reported o now s) now k)
+bike_reported_orders : (s : Operator) (now : ℕ) (k : Numbered AcceptedRequest) (o : Option Bike) → AreOrdersSound (at_moment s now k) → AreOrdersSound (at_moment (bike_reported o now s) now k)
 bike_reported_orders s now k None h = h
 bike_reported_orders s now k (Some b) h = place_reported_orders s now k b.place h
 
 -- ---- rentals: no bicycle comes on a truck
 
-started_orders : (s : Operator) (now : ℕ) (k : List AcceptedRequest) (rider : ℕ) (station : List ℕ) (o : Option DockedBike) → AreOrdersSound (at_moment s now k)
+started_orders : (s : Operator) (now : ℕ) (k : Numbered AcceptedRequest) (rider : ℕ) (station : List ℕ) (o : Option DockedBike) → AreOrdersSound (at_moment s now k)
     → AreOrdersSound (at_moment (after_start rider station now o s) now k)
 started_orders s now k rider station None h = h
 started_orders s now k rider station (Some d) h =
     let at : Operator = at_moment s now k in
-    let p : Place = place.Rental (length s.rentals + 1) in
+    let p : Place = place.Rental (last_number s.rentals + 1) in
     let n : Operator = record (at_moment (after_start rider station now (Some d) s) now k) { stations = s.stations } in
     reported_orders n now k station (same_orders (bike_placed d.bike p at) n refl (bike_placed_orders at d.bike p (λ truck. refl) (λ order. refl) h))
 
-ended_orders : (s : Operator) (now : ℕ) (k : List AcceptedRequest) (bike : ℕ) (station : List ℕ) (dock : ℕ) (o : Option RentalView) → AreOrdersSound (at_moment s now k)
+ended_orders : (s : Operator) (now : ℕ) (k : Numbered AcceptedRequest) (bike : ℕ) (station : List ℕ) (dock : ℕ) (o : Option RentalView) → AreOrdersSound (at_moment s now k)
     → AreOrdersSound (at_moment (after_end bike station dock now o s) now k)
 ended_orders s now k bike station dock None h = h
 ended_orders s now k bike station dock (Some r) h =
@@ -73,7 +73,7 @@ ended_orders s now k bike station dock (Some r) h =
     let n : Operator = record (at_moment (after_end bike station dock now (Some r) s) now k) { stations = s.stations } in
     reported_orders n now k station (same_orders (bike_placed bike p at) n refl (bike_placed_orders at bike p (λ truck. refl) (λ order. refl) h))
 
-recovered_orders : (s : Operator) (now : ℕ) (k : List AcceptedRequest) (o : Option RentalView) → AreOrdersSound (at_moment s now k) → AreOrdersSound (at_moment (after_recovery now o s) now k)
+recovered_orders : (s : Operator) (now : ℕ) (k : Numbered AcceptedRequest) (o : Option RentalView) → AreOrdersSound (at_moment s now k) → AreOrdersSound (at_moment (after_recovery now o s) now k)
 recovered_orders s now k None h = h
 recovered_orders s now k (Some r) h =
     let at : Operator = at_moment s now k in
@@ -82,7 +82,7 @@ recovered_orders s now k (Some r) h =
     same_orders (bike_marked bike Disabled (bike_placed bike place.Depot at)) (at_moment (after_recovery now (Some r) s) now k) refl
     (bike_marked_orders (bike_placed bike place.Depot at) bike Disabled placed)
 
-refunded_orders : (s : Operator) (now : ℕ) (k : List AcceptedRequest) (amount : ℕ) (o : Option RentalView) → AreOrdersSound (at_moment s now k)
+refunded_orders : (s : Operator) (now : ℕ) (k : Numbered AcceptedRequest) (amount : ℕ) (o : Option RentalView) → AreOrdersSound (at_moment s now k)
     → AreOrdersSound (at_moment (refunded_by amount now o s) now k)
 refunded_orders s now k amount None h = h
 refunded_orders s now k amount (Some r) h = same_orders (at_moment s now k) (at_moment (refunded_by amount now (Some r) s) now k) refl h
@@ -96,14 +96,14 @@ delivered_order s number o h filled = record { truck_is = h.truck_is; some = h.s
 closed_order : (s : Operator) (number : ℕ) (o : Order) → IsOrderAt s number o → IsOrderAt s number (record o { is_open = false })
 closed_order s number o h = record { truck_is = h.truck_is; some = h.some; from_is = h.from_is; to_is = h.to_is; ends = h.ends; type_is = h.type_is; filled = h.filled }
 
-placed_at_end_orders : (s : Operator) (now : ℕ) (k : List AcceptedRequest) (bike : ℕ) (e : OrderEnd) (dock : ℕ) → AreOrdersSound (at_moment s now k)
+placed_at_end_orders : (s : Operator) (now : ℕ) (k : Numbered AcceptedRequest) (bike : ℕ) (e : OrderEnd) (dock : ℕ) → AreOrdersSound (at_moment s now k)
     → AreOrdersSound (at_moment (placed_at_end bike e dock now s) now k)
 placed_at_end_orders s now k bike end.Depot dock h = bike_placed_orders (at_moment s now k) bike place.Depot (λ truck. refl) (λ order. refl) h
 placed_at_end_orders s now k bike (end.Station station) dock h =
     reported_orders (bike_placed bike (place.Dock station dock) s) now k station (bike_placed_orders (at_moment s now k) bike (place.Dock station dock) (λ truck. refl) (λ order. refl) h)
 
 -- a bicycle that leaves the truck at the other end is delivered
-brought : (s : Operator) (now : ℕ) (k : List AcceptedRequest) (order bike : ℕ) (e : OrderEnd) (dock : ℕ) (b : Bike) → map.get s.bikes bike ≡ Some b → is_for_order order b.place ≡ true
+brought : (s : Operator) (now : ℕ) (k : Numbered AcceptedRequest) (order bike : ℕ) (e : OrderEnd) (dock : ℕ) (b : Bike) → map.get s.bikes bike ≡ Some b → is_for_order order b.place ≡ true
     → AreOrdersSound (at_moment s now k) → AreOrdersSound (at_moment (with_delivery order To (placed_at_end bike e dock now s)) now k)
 brought s now k order bike end.Depot dock b found was h =
     let n : Operator = at_moment (placed_at_end bike end.Depot dock now s) now k in
@@ -118,7 +118,7 @@ brought s now k order bike (end.Station station) dock b found was h =
     order_changed_orders n order (λ o. record o { delivered = o.delivered + 1 })
     (λ o found. delivered_order n order o (placed.orders order o found) (let old : o.delivered + order_load s order ≤ o.count = (h.orders order o found).filled in omega (arith, less, old))) placed
 
-unloaded_orders : (s : Operator) (now : ℕ) (k : List AcceptedRequest) (truck order bike : ℕ) (side : Side) (dock : ℕ) (x : Order) → IsUnloaded s truck order bike side dock x
+unloaded_orders : (s : Operator) (now : ℕ) (k : Numbered AcceptedRequest) (truck order bike : ℕ) (side : Side) (dock : ℕ) (x : Order) → IsUnloaded s truck order bike side dock x
     → AreOrdersSound (at_moment s now k)
     → AreOrdersSound (at_moment (with_delivery order side (placed_at_end bike (end_at side x) dock now s)) now k)
 unloaded_orders s now k truck order bike From dock x can h = placed_at_end_orders s now k bike x.from_end dock h
@@ -132,12 +132,12 @@ below a b e = grind (arith, nat_tests, e)
 not_below : (a b : ℕ) → nat_lt a b ≡ false → b ≤ a
 not_below a b e = grind (arith, nat_tests, e)
 
-end_later : (s : Operator) (now : ℕ) (k : List AcceptedRequest) (e : OrderEnd) → has_end s e ≡ true → has_end (at_moment s now k) e ≡ true
+end_later : (s : Operator) (now : ℕ) (k : Numbered AcceptedRequest) (e : OrderEnd) → has_end s e ≡ true → has_end (at_moment s now k) e ≡ true
 end_later s now k e h = end_stands s (at_moment s now k) (λ id known. known) e h
 
 -- ---- names
 
-own_named_orders : (s : Operator) (now : ℕ) (k : List AcceptedRequest) (kind : NameKind) (id name : List ℕ) → AreOrdersSound s → AreOrdersSound (at_moment (own_name_set kind id name s) now k)
+own_named_orders : (s : Operator) (now : ℕ) (k : Numbered AcceptedRequest) (kind : NameKind) (id name : List ℕ) → AreOrdersSound s → AreOrdersSound (at_moment (own_name_set kind id name s) now k)
 own_named_orders s now k named.System id name h = same_orders s (at_moment (own_name_set named.System id name s) now k) refl h
 own_named_orders s now k named.Station id name h =
     let f : Station → Station = λ x. record x { row = record x.row { name = name } } in
@@ -149,7 +149,7 @@ own_named_orders s now k named.Plan id name h = same_orders s (at_moment (own_na
 own_named_orders s now k named.Description id name h = same_orders s (at_moment (own_name_set named.Description id name s) now k) refl h
 own_named_orders s now k named.Region id name h = same_orders s (at_moment (own_name_set named.Region id name s) now k) refl h
 
-named_orders : (s : Operator) (now : ℕ) (k : List AcceptedRequest) (kind : NameKind) (id language name : List ℕ) (own : Bool) → AreOrdersSound s
+named_orders : (s : Operator) (now : ℕ) (k : Numbered AcceptedRequest) (kind : NameKind) (id language name : List ℕ) (own : Bool) → AreOrdersSound s
     → AreOrdersSound (at_moment (if own then own_name_set kind id name s else further_name_set kind id language name s) now k)
 named_orders s now k kind id language name true h = own_named_orders s now k kind id name h
 named_orders s now k kind id language name false h = same_orders s (at_moment (further_name_set kind id language name s) now k) refl h
@@ -157,7 +157,7 @@ named_orders s now k kind id language name false h = same_orders s (at_moment (f
 -- ---- all commands
 
 -- a command that leaves trucks and orders alone, and what they need
-unchanged : (s : Operator) (now : ℕ) (c : Command) (k : List AcceptedRequest) → order_parts (effect s now c) ≡ order_parts s → AreOrdersSound s → AreOrdersSound (at_moment (effect s now c) now k)
+unchanged : (s : Operator) (now : ℕ) (c : Command) (k : Numbered AcceptedRequest) → order_parts (effect s now c) ≡ order_parts s → AreOrdersSound s → AreOrdersSound (at_moment (effect s now c) now k)
 unchanged s now c k same h = same_orders s (at_moment (effect s now c) now k) same h
 
 pub orders_law : AcceptedKeeps AreOrdersSound
@@ -194,14 +194,14 @@ orders_law s now (command.Refund rental amount) k order good free late = refunde
 orders_law s now (command.OpenOrder truck from_end to_end type_id count) k order good free late =
     let tested = none_holds (tests (view_of s (command.OpenOrder truck from_end to_end type_id count)) (command.OpenOrder truck from_end to_end type_id count)) free in
     let t = truck_of (map.get s.trucks truck) tested.0 in
-    let none : order_load s (length s.orders + 1) ≡ 0 = none_on_truck s order.bikes in
+    let none : order_load s (last_number s.orders + 1) ≡ 0 = none_on_truck s order.bikes in
     let enough : count ≤ t.0.capacity = not_below t.0.capacity count (on_view truck_view (λ (v : TruckView). nat_lt v.capacity count) (map.get s.trucks truck) t.0 t.1 tested.1.1.1.1.1.0) in
     let some : 1 ≤ count = good.1.1.1.1.0.0 in
     let at : Operator = at_moment s now k in
     let o : Order = record { truck = truck; from_end = from_end; to_end = to_end; type_id = type_id; count = count; delivered = 0; is_open = true } in
     let from_is : has_end at from_end ≡ true = end_later s now k from_end (holds (has_end s from_end) tested.1.0) in
     let to_is : has_end at to_end ≡ true = end_later s now k to_end (holds (has_end s to_end) tested.1.1.0) in
-    let fine : IsOrderAt at (length s.orders + 1) o = record {
+    let fine : IsOrderAt at (last_number s.orders + 1) o = record {
       truck_is = record { row = t.0; found = t.1; enough = enough };
       some = some;
       from_is = from_is;

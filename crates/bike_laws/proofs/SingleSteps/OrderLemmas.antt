@@ -12,7 +12,7 @@ use Rattle.bike_operator.specs.declared.records.Place.{Place}
 use Rattle.bike_operator.specs.declared.records.Place.TheVariants as place
 use Rattle.bike_operator.specs.declared.records.Bike.{Bike}
 use Rattle.bike_operator.specs.declared.records.Order.{Order}
-use Rattle.bike_operator.specs.Operator.{Operator, Station, Truck, text_cmp, item_numbered}
+use Rattle.bike_operator.specs.Operator.{Operator, Station, Truck, Numbered, text_cmp, item_numbered, last_number, with_item}
 use Rattle.bike_operator.specs.Counts.{count, is_on_truck, is_for_order, truck_load, order_load}
 use Rattle.bike_operator.specs.declared.limits.TheConstants.{MOST_TRUCKS, MOST_ORDERS}
 use Rattle.bike_operator.specs.View.{has_end}
@@ -20,7 +20,7 @@ use Rattle.bike_operator.specs.Steps.{key_changed, bike_placed, bike_marked, ord
 use Rattle.bike_operator.specs.Sound.{IsPlace, AreBikesSound, IsTruckAt, HasTruck, IsOrderAt, AreOrdersSound}
 use Rattle.bike_laws.proofs.SingleSteps.MapLemmas.{number_order, IsAdded, New, Old, added_at, kept_added, few_added}
 use Rattle.bike_laws.proofs.SingleSteps.TestLemmas.{same_number}
-use Rattle.bike_laws.proofs.SingleSteps.ItemLemmas.{number_or_last, number_within, IsTurned, Here, Elsewhere, number_turned, length-number_changed}
+use Rattle.bike_laws.proofs.SingleSteps.ItemLemmas.{number_or_last, number_within, IsTurned, Here, Elsewhere, number_turned, last_added, last_changed}
 use Rattle.bike_laws.proofs.SingleSteps.CountLemmas.{one, count-added, count-changed, count-most, none_counted}
 
 -- ---- what an order needs goes on being there
@@ -50,7 +50,7 @@ order_stands s n stand number o h filled = record {
 }
 
 abbrev pub OrderParts : Type 0
-OrderParts = FinMap nat_cmp Truck × List Order × FinMap text_cmp TypeRow × FinMap text_cmp Station × FinMap nat_cmp Bike
+OrderParts = FinMap nat_cmp Truck × Numbered Order × FinMap text_cmp TypeRow × FinMap text_cmp Station × FinMap nat_cmp Bike
 
 abbrev pub order_parts : Operator → OrderParts
 order_parts s = (s.trucks, s.orders, s.types, s.stations, s.bikes)
@@ -73,11 +73,12 @@ same_orders s n e h =
           let c : truck_load n q ≡ truck_load s q = ap (λ (m : FinMap nat_cmp Bike). count (λ e. is_on_truck q e.1.place) (map.entries m)) bikes in
           record { low = x.low; high = x.high; some = x.some; most = x.most; holds = rw c x.holds };
       orders = λ q o found.
-          let x = h.orders q o (ap (λ (os : List Order). item_numbered q os) (sym orders) ∙ found) in
+          let x = h.orders q o (ap (λ (os : Numbered Order). item_numbered q os) (sym orders) ∙ found) in
           let c : order_load n q ≡ order_load s q = ap (λ (m : FinMap nat_cmp Bike). count (λ e. is_for_order q e.1.place) (map.entries m)) bikes in
           order_stands s n stand q o x (rw c x.filled);
       few_trucks = rw trucks h.few_trucks;
       few_orders = rw orders h.few_orders;
+      all_orders = rw orders h.all_orders;
     }
 
 -- types and stations that were there still are
@@ -91,6 +92,7 @@ known_orders s types stations types_known stations_known h =
       orders = λ q o found. let x = h.orders q o found in order_stands s n stand q o x x.filled;
       few_trucks = h.few_trucks;
       few_orders = h.few_orders;
+      all_orders = h.all_orders;
     }
 
 -- ---- bicycles that are placed
@@ -107,6 +109,7 @@ bikes_orders s bikes holds filled h =
       orders = λ q o found. order_stands s n stand q o (h.orders q o found) (filled q o found);
       few_trucks = h.few_trucks;
       few_orders = h.few_orders;
+      all_orders = h.all_orders;
     }
 
 -- no more bicycles are on trucks
@@ -208,9 +211,9 @@ none_loaded s truck bikes h free = none_counted number_order (λ (y : Bike). is_
   off q type_id place.Depot is = refl
 
 -- none is on a truck for an order that isn't there
-pub none_on_truck : (s : Operator) → AreBikesSound s → order_load s (length s.orders + 1) ≡ 0
-none_on_truck s bikes = none_counted number_order (λ (y : Bike). is_for_order (length s.orders + 1) y.place) s.bikes (λ q y found. off q y.type_id y.place (bikes.bikes q y found).placed) where
-  off : (q : ℕ) (type_id : List ℕ) (p : Place) → IsPlace s q type_id p → is_for_order (length s.orders + 1) p ≡ false
+pub none_on_truck : (s : Operator) → AreBikesSound s → order_load s (last_number s.orders + 1) ≡ 0
+none_on_truck s bikes = none_counted number_order (λ (y : Bike). is_for_order (last_number s.orders + 1) y.place) s.bikes (λ q y found. off q y.type_id y.place (bikes.bikes q y found).placed) where
+  off : (q : ℕ) (type_id : List ℕ) (p : Place) → IsPlace s q type_id p → is_for_order (last_number s.orders + 1) p ≡ false
   off q type_id (place.Dock station dock) is = refl
   off q type_id (place.Rental rental) is = refl
   off q type_id (place.Truck on order) is = let within = number_within order s.orders is.row is.found in grind (arith, nat_tests, within)
@@ -226,29 +229,31 @@ truck_added_orders s truck t good free full h =
       orders = λ q o found. let x = h.orders q o found in order_stands s n stand q o x x.filled;
       few_trucks = few_added number_order s.trucks truck t MOST_TRUCKS full;
       few_orders = h.few_orders;
+      all_orders = h.all_orders;
     }
   where
     is_truck : (q : ℕ) (x : Truck) → IsAdded s.trucks truck t q x → IsTruckAt (record s { trucks = map.insert s.trucks truck t }) q x
     is_truck q x (New same is) = rw (same, is) (record { low = good.low; high = good.high; some = good.some; most = good.most; holds = good.holds })
     is_truck q x (Old apart found) = let y = h.trucks q x found in record { low = y.low; high = y.high; some = y.some; most = y.most; holds = y.holds }
 
-pub order_added_orders : (s : Operator) (o : Order) → IsOrderAt s (length s.orders + 1) o → leb MOST_ORDERS (length s.orders) ≡ false → AreOrdersSound s → AreOrdersSound (order_added o s)
+pub order_added_orders : (s : Operator) (o : Order) → IsOrderAt s (last_number s.orders + 1) o → leb MOST_ORDERS (last_number s.orders) ≡ false → AreOrdersSound s → AreOrdersSound (order_added o s)
 order_added_orders s o good full h = record {
   trucks = λ q t found. let x = h.trucks q t found in record { low = x.low; high = x.high; some = x.some; most = x.most; holds = x.holds };
   orders = λ q x found. is_order q x (number_or_last q s.orders o x found);
   few_trucks = h.few_trucks;
-  few_orders = few (length-append s.orders (o ∷ []));
+  few_orders = few (last_added s.orders o);
+  all_orders = h.all_orders;
 }
   where
     stand : OrdersStand s (order_added o s)
     stand = record { trucks = λ q x found. found; types = λ id known. known; stations = λ id known. known }
 
-    is_order : (q : ℕ) (x : Order) → (item_numbered q s.orders ≡ Some x) ⊎ (q ≡ length s.orders + 1) × (x ≡ o) → IsOrderAt (order_added o s) q x
+    is_order : (q : ℕ) (x : Order) → (item_numbered q s.orders ≡ Some x) ⊎ (q ≡ last_number s.orders + 1) × (x ≡ o) → IsOrderAt (order_added o s) q x
     is_order q x (inl found) = let y = h.orders q x found in order_stands s (order_added o s) stand q x y y.filled
-    is_order q x (inr last) = rw (last.0, last.1) (order_stands s (order_added o s) stand (length s.orders + 1) o good good.filled)
+    is_order q x (inr last) = rw (last.0, last.1) (order_stands s (order_added o s) stand (last_number s.orders + 1) o good good.filled)
 
-    few : length (s.orders ++ o ∷ []) ≡ length s.orders + 1 → length (s.orders ++ o ∷ []) ≤ MOST_ORDERS
-    few e = let b : length s.orders < MOST_ORDERS = grind (arith, nat_tests, full) in omega (arith, e, b)
+    few : last_number (with_item o s.orders) ≡ last_number s.orders + 1 → last_number (with_item o s.orders) ≤ MOST_ORDERS
+    few e = let b : last_number s.orders < MOST_ORDERS = grind (arith, nat_tests, full) in omega (arith, e, b)
 
 -- an order is changed to one that keeps its bounds
 pub order_changed_orders : (s : Operator) (number : ℕ) (f : Order → Order) → ((o : Order) → item_numbered number s.orders ≡ Some o → IsOrderAt s number (f o)) → AreOrdersSound s
@@ -257,7 +262,8 @@ order_changed_orders s number f good h = record {
   trucks = λ q t found. let x = h.trucks q t found in record { low = x.low; high = x.high; some = x.some; most = x.most; holds = x.holds };
   orders = λ q x found. is_order q x (number_turned number f s.orders q x found);
   few_trucks = h.few_trucks;
-  few_orders = rw (length-number_changed number f s.orders) h.few_orders;
+  few_orders = rw (last_changed number f s.orders) h.few_orders;
+  all_orders = h.all_orders;
 }
   where
     stand : OrdersStand s (order_changed number f s)

@@ -1,11 +1,12 @@
--- The texts that name the tables of stations of the earlier versions, and `counts`.
+-- The texts that name the tables of stations of the earlier versions, `counts` and `riders`.
 use Rattle.std.proofs.Common.{List, ℕ, codes, refl}
 use Rattle.sqlite_tied.specs.Compute.{everything}
 use Rattle.bike_recognition.specs.Wanted.{Defines, AsksRowidsOf}
-use Rattle.bike_recognition.proofs.RowidTexts.{IsParsed, AsksAlone, by_rowid}
+use Rattle.bike_recognition.proofs.RowidTexts.{IsParsed, AsksAlone, by_key, by_rowid}
 use Rattle.bike_recognition.specs.declared.earlier_versions.earlier.Earlier.TheVariants.{First, Second, Third}
 use Rattle.bike_recognition.specs.EarlierVersions.Counts.{counts_layout}
 use Rattle.bike_recognition.specs.EarlierVersions.Earlier.{stations_layout}
+use Rattle.bike_recognition.specs.EarlierVersions.Riders.{riders_layout}
 
 -- ---- what made them
 
@@ -40,6 +41,13 @@ counts_text =
 pub counts_defined : Defines counts_text counts_layout
 unfolding everything
 counts_defined = refl
+
+abbrev riders_text : List ℕ
+riders_text = codes "CREATE TABLE riders (rider INTEGER PRIMARY KEY, blocked INTEGER NOT NULL, balance INTEGER NOT NULL) STRICT"
+
+pub riders_defined : Defines riders_text riders_layout
+unfolding everything
+riders_defined = refl
 
 -- ---- their rowids
 
@@ -86,3 +94,7 @@ counts_asked = (λ tree low. rw (low, low) refl, refl)
 
 pub counts_rowids : AsksRowidsOf counts_layout (codes "SELECT rowid FROM counts ORDER BY rowid")
 counts_rowids = by_rowid counts_layout (codes "SELECT rowid FROM counts ORDER BY rowid") counts_parsed counts_asked
+
+pub riders_rowids : AsksRowidsOf riders_layout (codes "SELECT rider FROM riders ORDER BY rider")
+unfolding everything
+riders_rowids = by_key riders_layout (codes "SELECT rider FROM riders ORDER BY rider") (λ tree. refl, refl)

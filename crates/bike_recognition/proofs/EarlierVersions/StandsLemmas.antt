@@ -1,14 +1,14 @@
 -- When the tables of an earlier version stand.
-use Rattle.std.proofs.Common.{◌≡◌, inl, inr, ◌∙◌, List, [], ◌∷◌, Bool, true, false, IsTrue, refl, sym, subst}
-use Rattle.std.specs.Prelude.{◌↔◌}
+use Rattle.std.proofs.Common.{◌≡◌, inl, inr, ◌∙◌, List, [], ◌∷◌, Bool, true, false, IsTrue, Some, None, refl, sym, ap, subst}
+use Rattle.std.specs.Prelude.{◌↔◌, option_map, unwrap_or}
 use Rattle.std.specs.List.{AllByRecursion}
 use Rattle.std.proofs.lemmas.Bool.{true≢false, both_ways}
 use Rattle.sqlite.specs.Effect.{Database}
 use Rattle.bike_sql.specs.Found.{IsPlainTable}
 use Rattle.bike_sql.specs.Layout.{table_of}
 use Rattle.bike_sql.specs.Stands.{Stands}
-use Rattle.bike_sql.proofs.KeyLemmas.{IsKeyOf, columns_unique_at}
-use Rattle.bike_book.specs.Tables.{TableName, keys_of, is_table, Stations}
+use Rattle.bike_sql.proofs.KeyLemmas.{IsKeyOf, number_unique_at, columns_unique_at}
+use Rattle.bike_book.specs.Tables.{TableName, keys_of, Stations, Riders}
 use Rattle.bike_schema.specs.Layouts.{layout_of, every_table}
 use Rattle.bike_schema.proofs.TableLemmas.{of_every}
 use Rattle.bike_recognition.specs.Recognition.{TableStands}
@@ -18,7 +18,8 @@ use Rattle.bike_recognition.specs.declared.earlier_versions.earlier.Earlier.TheV
 use Rattle.bike_recognition.specs.declared.earlier_versions.old_table.OldTable.{OldTable}
 use Rattle.bike_recognition.specs.declared.earlier_versions.old_table.OldTable.TheVariants as old
 use Rattle.bike_recognition.specs.EarlierVersions.Counts.{counts_layout, HasCounts}
-use Rattle.bike_recognition.specs.EarlierVersions.Earlier.{stations_layout, old_keys, old_layout, has_table, layout_at, StandsAt, IsWhether, HasTablesAt, IsKeptAlone, IsAt}
+use Rattle.bike_recognition.specs.EarlierVersions.Riders.{riders_layout}
+use Rattle.bike_recognition.specs.EarlierVersions.Earlier.{stations_layout, old_keys, old_layout, has_table, table_before, layout_at, StandsAt, IsWhether, HasTablesAt, IsKeptAlone, IsAt}
 
 -- ---- an old table can be looked for
 
@@ -27,12 +28,14 @@ old_plain (old.Stations First) = no_defaults_in (stations_layout First) refl
 old_plain (old.Stations Second) = no_defaults_in (stations_layout Second) refl
 old_plain (old.Stations Third) = no_defaults_in (stations_layout Third) refl
 old_plain old.Counts = no_defaults_in counts_layout refl
+old_plain old.Riders = no_defaults_in riders_layout refl
 
 pub old_key : (t : OldTable) → IsKeyOf (old_keys t) (old_layout t)
 old_key (old.Stations First) = (columns_unique_at 1 (stations_layout First) 0 (1 ∷ []) refl refl refl (λ row. refl)).key
 old_key (old.Stations Second) = (columns_unique_at 1 (stations_layout Second) 0 (1 ∷ []) refl refl refl (λ row. refl)).key
 old_key (old.Stations Third) = (columns_unique_at 1 (stations_layout Third) 0 (1 ∷ []) refl refl refl (λ row. refl)).key
 old_key old.Counts = (columns_unique_at 2 counts_layout 0 (1 ∷ 2 ∷ []) refl refl refl (λ row. refl)).key
+old_key old.Riders = (number_unique_at riders_layout (λ row. refl)).key
 
 -- ---- a table
 
@@ -40,19 +43,24 @@ old_key old.Counts = (columns_unique_at 2 counts_layout 0 (1 ∷ 2 ∷ []) refl 
 pub not_there : (e : Earlier) (db : Database) (t : TableName) → has_table e t ≡ false → StandsAt e db t
 not_there e db t lacks = record { stands = λ there. absurd (both_ways (has_table e t) lacks there) }
 
-stations_is : (t : TableName) → is_table Stations t ≡ true → t ≡ Stations
-stations_is Stations is = refl
-stations_is _ is = absurd (true≢false (sym is))
+-- one in place of which the version has another
+pub before_stands_at : (e : Earlier) (db : Database) (t : TableName) (o : OldTable) → Some o ≡ table_before e t → (stands : Bool) → (IsTrue stands ↔ Stands db (old_keys o) (old_layout o))
+    → IsTrue stands ↔ StandsAt e db t
+before_stands_at e db Stations o is stands h =
+    let same : o ≡ old.Stations e = cc in
+    let told = subst (λ p. IsTrue stands ↔ Stands db (old_keys p) (old_layout p)) same h in
+    ((λ yes. record { stands = λ there. told.0 yes }), λ at. told.1 (at.stands refl))
+before_stands_at e db Riders o is stands h =
+    let same : o ≡ old.Riders = cc in
+    let told = subst (λ p. IsTrue stands ↔ Stands db (old_keys p) (old_layout p)) same h in
+    ((λ yes. record { stands = λ there. told.0 yes }), λ at. told.1 (at.stands refl))
+before_stands_at e db _ o is stands h = absurd (let never = is in cc)
 
 -- every other table is as it is today
-other_layout : (e : Earlier) (t : TableName) → is_table Stations t ≡ false → layout_at e t ≡ layout_of t
-other_layout e t is = rw is refl
+other_layout : (e : Earlier) (t : TableName) → None ≡ table_before e t → layout_at e t ≡ layout_of t
+other_layout e t is = ap (λ o. unwrap_or (option_map old_layout o) (layout_of t)) (sym is)
 
-pub stations_stand_at : (e : Earlier) (db : Database) (t : TableName) → is_table Stations t ≡ true → (stands : Bool) → (IsTrue stands ↔ Stands db 1 (stations_layout e))
-    → IsTrue stands ↔ StandsAt e db t
-stations_stand_at e db t is stands h = subst (λ u. IsTrue stands ↔ StandsAt e db u) (sym (stations_is t is)) ((λ yes. record { stands = λ there. h.0 yes }), λ at. h.1 (at.stands refl))
-
-pub other_stands_at : (e : Earlier) (db : Database) (t : TableName) → is_table Stations t ≡ false → has_table e t ≡ true → (stands : Bool) → (IsTrue stands ↔ TableStands t db)
+pub other_stands_at : (e : Earlier) (db : Database) (t : TableName) → None ≡ table_before e t → has_table e t ≡ true → (stands : Bool) → (IsTrue stands ↔ TableStands t db)
     → IsTrue stands ↔ StandsAt e db t
 other_stands_at e db t is has stands h =
     let layout = other_layout e t is in

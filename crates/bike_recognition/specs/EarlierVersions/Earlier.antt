@@ -1,6 +1,6 @@
 -- How a database holds the tables at an earlier version of the schema.
 use Rattle.std.specs.Prelude.{◌≡◌, ◌⊎◌, ℕ, Bool, true, false, if◌then◌else◌, List, [], ◌∷◌, ◌++◌, map, take, codes}
-use Rattle.std.specs.Prelude.{IsTrue}
+use Rattle.std.specs.Prelude.{IsTrue, Option, Some, None, option_map, unwrap_or}
 use Rattle.std.specs.List.{list_all, range_with_len}
 use Rattle.sqlite_value.specs.declared.value.Value.TheVariants.{Text}
 use Rattle.sqlite_value.specs.Order.{Row, column}
@@ -10,7 +10,7 @@ use Rattle.sqlite.specs.Effect.{Database}
 use Rattle.bike_sql.specs.Layout.{Layout}
 use Rattle.bike_sql.specs.Stands.{rows_of, Stands}
 use Rattle.bike_book.specs.declared.columns.stations.TheConstants as stations
-use Rattle.bike_book.specs.Tables.{TableName, Tables, is_table, Regions, Stations, History, MoreNames, keys_of}
+use Rattle.bike_book.specs.Tables.{TableName, Tables, Regions, Stations, Riders, History, MoreNames, Books, keys_of}
 use Rattle.bike_book.specs.Tables.{tables_by}
 use Rattle.bike_schema.specs.Layouts.{layout_of, name_of, keyed_layout}
 use Rattle.bike_schema.specs.Tables.{is_unused}
@@ -20,6 +20,7 @@ use Rattle.bike_recognition.specs.declared.earlier_versions.old_table.OldTable.{
 use Rattle.bike_recognition.specs.declared.earlier_versions.old_table.OldTable.TheVariants as old
 use Rattle.bike_recognition.specs.EarlierVersions.Counts.{counts_layout, HasCounts, old_counts, old_text}
 use Rattle.bike_recognition.specs.EarlierVersions.Kept.{KeptLies, kept_rows, history_rows}
+use Rattle.bike_recognition.specs.EarlierVersions.Riders.{riders_layout, old_riders, completed_rider}
 
 abbrev pub number_of : Earlier → ℕ
 number_of First = 1
@@ -55,10 +56,12 @@ completed counts row = with_text (old_text counts row) row
 abbrev pub old_layout : OldTable → Layout
 old_layout (old.Stations e) = stations_layout e
 old_layout old.Counts = counts_layout
+old_layout old.Riders = riders_layout
 
 abbrev pub old_keys : OldTable → ℕ
 old_keys (old.Stations e) = 1
 old_keys old.Counts = 2
+old_keys old.Riders = 1
 
 -- whether a station had fewer docks at most than today
 abbrev pub bounds_docks : Earlier → Bool
@@ -81,11 +84,18 @@ abbrev pub has_table : Earlier → TableName → Bool
 has_table e Regions = has_regions e
 has_table e MoreNames = has_names e
 has_table e History = false
+has_table e Books = false
 has_table e t = true
 
--- the table as it has to stand at the version: all but that of stations as at the newest
+-- the table that the version has in place of this one, if it is another
+abbrev pub table_before : Earlier → TableName → Option OldTable
+table_before e Stations = Some (old.Stations e)
+table_before e Riders = Some old.Riders
+table_before e t = None
+
+-- the table as it has to stand at the version: all but those of stations and of riders as at the newest
 abbrev pub layout_at : Earlier → TableName → Layout
-layout_at e t = if is_table Stations t then stations_layout e else layout_of t
+layout_at e t = unwrap_or (option_map old_layout (table_before e t)) (layout_of t)
 
 -- the rows of a table that only some versions have: none at one that doesn't have it
 abbrev pub rows_if_there : Earlier → Database → TableName → List Row
@@ -94,7 +104,9 @@ rows_if_there e db t = if has_table e t then rows_of (keys_of t) (name_of t) db 
 -- THE ROWS that a database holds at the version, as those of today
 abbrev pub rows_at : Earlier → Database → TableName → List Row
 rows_at e db Stations = map (completed (old_counts db)) (rows_of 1 (stations_name e) db)
+rows_at e db Riders = map completed_rider (old_riders db)
 rows_at e db History = history_rows (kept_rows db)
+rows_at e db Books = []
 rows_at e db Regions = rows_if_there e db Regions
 rows_at e db MoreNames = rows_if_there e db MoreNames
 rows_at e db t = rows_of (keys_of t) (name_of t) db
@@ -118,7 +130,7 @@ IsWhether e db (t ∷ tables) stand =
 -- ---- the names of later versions
 
 abbrev pub newest_names : List (List ℕ)
-newest_names = codes "history" ∷ codes "stations_4" ∷ []
+newest_names = codes "history" ∷ codes "stations_4" ∷ codes "riders_4" ∷ codes "books" ∷ []
 
 abbrev pub newer_names : Earlier → List (List ℕ)
 newer_names First = codes "regions" ∷ codes "stations_3" ∷ codes "more_names" ∷ newest_names

@@ -11,7 +11,7 @@ use Rattle.sqlite.specs.Effect.{Database}
 use Rattle.bike_sql.specs.Keyed.{in_order}
 use Rattle.bike_sql.specs.Layout.{Layout}
 use Rattle.bike_book.specs.Rows.{number_value}
-use Rattle.bike_book.specs.Stored.{with_numbers}
+use Rattle.bike_book.specs.Stored.{numbers_from}
 use Rattle.bike_schema.specs.Layouts.{text, keyed_layout}
 use Rattle.bike_recognition.specs.Wanted.{Lies}
 
@@ -66,4 +66,4 @@ past_row e = number_value e.0 ∷ number_value 0 ∷ e.1
 
 -- the rows of `kept` as those of `history`, numbered from 1
 abbrev pub history_rows : List Row → List Row
-history_rows rows = map past_row (with_numbers rows)
+history_rows rows = map past_row (numbers_from 1 rows)

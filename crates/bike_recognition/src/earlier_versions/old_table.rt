@@ -12,6 +12,8 @@ pub(crate) enum OldTable {
     Stations(Earlier),
     /// The table `counts` of each of them.
     Counts,
+    /// The table `riders` of each of them.
+    Riders,
 }
 
 impl OldTable {
@@ -25,6 +27,10 @@ impl OldTable {
                 "CREATE TABLE counts (station_id TEXT NOT NULL, type_id TEXT NOT NULL, available INTEGER NOT NULL, \
                  disabled INTEGER NOT NULL, PRIMARY KEY (station_id, type_id)) STRICT"
             }
+            OldTable::Riders => {
+                "CREATE TABLE riders (rider INTEGER PRIMARY KEY, blocked INTEGER NOT NULL, balance INTEGER NOT NULL) \
+                 STRICT"
+            }
         }
     }
 
@@ -35,6 +41,7 @@ impl OldTable {
         match self {
             OldTable::Stations(earlier) => earlier.stations_rowids(),
             OldTable::Counts => "SELECT rowid FROM counts ORDER BY rowid",
+            OldTable::Riders => "SELECT rider FROM riders ORDER BY rider",
         }
     }
 }

@@ -9,9 +9,9 @@ ghost use Rattle.bike_schema.specs.declared.fault.StatementFault.TheVariants.{No
 ghost use Rattle.bike_recognition.specs.Names.{table_named};
 ghost use Rattle.bike_recognition.specs.Recognition.{ReadsAny};
 ghost use Rattle.bike_recognition.specs.Wanted.{HasWanted};
-ghost use Rattle.bike_book.specs.Tables.{Stations, is_table};
 ghost use Rattle.bike_recognition.specs.EarlierVersions.Counts.{HasCounts};
-ghost use Rattle.bike_recognition.specs.EarlierVersions.Earlier.{old_keys, old_layout, has_table, newer_names};
+ghost use Rattle.bike_recognition.specs.EarlierVersions.Earlier.{old_keys, old_layout, has_table, table_before};
+ghost use Rattle.bike_recognition.specs.EarlierVersions.Earlier.{newest_names, newer_names};
 ghost use Rattle.bike_recognition.specs.EarlierVersions.Earlier.{StandsAt, IsWhether, IsKeptAlone, IsAt};
 
 use crate::earlier_versions::earlier::Earlier;
@@ -74,16 +74,20 @@ fn has_table(earlier: Earlier, table: TableName) -> bool
     match table {
         TableName::Regions => earlier != Earlier::First,
         TableName::MoreNames => earlier == Earlier::Third,
-        TableName::History => false,
+        TableName::History | TableName::Books => false,
         _ => true,
     }
 }
 
-/// Whether it is the table of stations.
-fn is_stations(table: TableName) -> bool
-    ensures { result ≡ is_table Stations (table_named table) }
+/// The table that the version has in place of this one, if it is another.
+fn table_before(earlier: Earlier, table: TableName) -> Option<OldTable>
+    ensures { result ≡ table_before earlier (table_named table) }
 {
-    matches!(table, TableName::Stations)
+    match table {
+        TableName::Stations => Some(OldTable::Stations(earlier)),
+        TableName::Riders => Some(OldTable::Riders),
+        _ => None,
+    }
 }
 
 /// Whether the table stands, if the version has it. It fails as `table_stands` does.
@@ -100,10 +104,9 @@ pub fn stands_at<S: Alter>(
         check_open(conn)?;
         return Ok(true);
     }
-    if is_stations(table) {
-        old_stands(alloc, conn, OldTable::Stations(earlier))
-    } else {
-        table_stands(alloc, conn, table)
+    match table_before(earlier, table) {
+        Some(before) => old_stands(alloc, conn, before),
+        None => table_stands(alloc, conn, table),
     }
 }
 
@@ -132,6 +135,16 @@ fn all_stand<S: Alter>(
     }
 }
 
+/// Whether no name is used that the newest version alone has.
+fn are_newest_free(schema: &Schema) -> bool
+    ensures { result ≡ list_all (is_unused schema.now) newest_names }
+{
+    is_unused(schema, b"history")
+        && is_unused(schema, b"stations_4")
+        && is_unused(schema, b"riders_4")
+        && is_unused(schema, b"books")
+}
+
 /// Whether no name of a later version is used.
 fn are_newer_free(schema: &Schema, earlier: Earlier) -> bool
     ensures { result ≡ list_all (is_unused schema.now) (newer_names earlier) }
@@ -141,16 +154,14 @@ fn are_newer_free(schema: &Schema, earlier: Earlier) -> bool
             is_unused(schema, b"regions")
                 && is_unused(schema, b"stations_3")
                 && is_unused(schema, b"more_names")
-                && is_unused(schema, b"history")
-                && is_unused(schema, b"stations_4")
+                && are_newest_free(schema)
         }
         Earlier::Second => {
             is_unused(schema, b"stations_3")
                 && is_unused(schema, b"more_names")
-                && is_unused(schema, b"history")
-                && is_unused(schema, b"stations_4")
+                && are_newest_free(schema)
         }
-        Earlier::Third => is_unused(schema, b"history") && is_unused(schema, b"stations_4"),
+        Earlier::Third => are_newest_free(schema),
     }
 }
 

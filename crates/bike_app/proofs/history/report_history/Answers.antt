@@ -1,21 +1,24 @@
-use Rattle.std.proofs.Common.{inl, inr, refl}
+use Rattle.std.proofs.Common.{inl, inr, refl, subst}
 use Rattle.std.proofs.KnownBytes.{Keeps-refl}
-use Rattle.bike_app.proofs.LookLemmas.{matched, seen_at, seen_operator, looked_kept, looked_stays}
+use Rattle.bike_app.specs.History.{RecountsAt}
+use Rattle.bike_app.proofs.LookLemmas.{matched, seen_at, seen_same, seen_tables, looked_kept, looked_stays}
 use Rattle.bike_app.proofs.ProgramLemmas.{ended_clean, by_look, refuses, refused_left}
 use Rattle.bike_app.proofs.history.report_history.Goals as goal
 
 pub returns-in-Ok-Sound-clause-told : goal.returns-in-Ok-Sound-clause-told
 returns-in-Ok-Sound-clause-told g c clean =
     let now = ended_clean g.S.Store c.recount_at-end.new.desk c.close.ensures.same clean in
-    let it = seen_operator g.S.Store (matched c.in-Ok-Sound.field-0-is c.in-Ok-Sound.ensures) c.over-desk.ensures c.recount_at-end.new.desk c.close.ensures.same clean c.recount_at-end.ensures.clean in
+    let it = seen_tables g.S.Store (matched c.in-Ok-Sound.field-0-is c.in-Ok-Sound.ensures) c.over-desk.ensures c.recount_at-end.new.desk c.close.ensures.same clean c.recount_at-end.ensures.clean in
     inr (inl (record {
       desk = c.recount_at-end.new.desk;
       conn = c.close.ensures.same;
       operator = it.0;
       was = it.1;
       recounted =
-          λ s stands. c.recount_at-end.ensures.told now s
-          (seen_at g.S.Store (matched c.in-Ok-Sound.field-0-is c.in-Ok-Sound.ensures) c.over-desk.ensures c.recount_at-end.new.desk c.close.ensures.same clean c.recount_at-end.ensures.clean s stands);
+          λ s stands. subst (λ db. RecountsAt c.args.after g.S.Store db c.recount_at-end.new.desk s (g.W.Write.contents c.args.writer.now) (g.W.Write.contents c.recount_at-end.new.writer) c.recount_at-end.result)
+          (seen_same g.S.Store (matched c.in-Ok-Sound.field-0-is c.in-Ok-Sound.ensures) c.over-desk.ensures c.recount_at-end.new.desk c.close.ensures.same clean c.recount_at-end.ensures.clean)
+          (c.recount_at-end.ensures.told now s
+          (seen_at g.S.Store (matched c.in-Ok-Sound.field-0-is c.in-Ok-Sound.ensures) c.over-desk.ensures c.recount_at-end.new.desk c.close.ensures.same clean c.recount_at-end.ensures.clean s stands));
     }))
 
 pub returns-in-Ok-Sound-clause-kept : goal.returns-in-Ok-Sound-clause-kept

@@ -1,4 +1,4 @@
-use Rattle.std.proofs.Common.{◌≡◌, ◌∙◌, ℕ, ap, ap₂, arith, refl, sym, codes, decimal, [], ◌∷◌, Option, Some, None, option_and_then, option_map}
+use Rattle.std.proofs.Common.{◌≡◌, ◌∙◌, ℕ, ap, ap₂, arith, refl, sym, codes, decimal, [], ◌∷◌, Option, Some, None, option_and_then}
 use Rattle.std.proofs.lemmas.Fmt.{decimal_digit}
 use Rattle.std.specs.Str.Parse.{digits_value}
 use Rattle.clap.specs.Words.{Text, subcommand_of}
@@ -16,7 +16,7 @@ use Rattle.bike_command_line.specs.Asked as want
 use Rattle.bike_command_line.specs.declared.task.Task.{Task}
 use Rattle.bike_command_line.specs.declared.task.Task.TheVariants.{OnFile, Serve}
 use Rattle.bike_command_line.specs.declared.task.FileTask.TheVariants.{Init, Check, Raise, Lines, Feed, Day, History, Import}
-use Rattle.bike_command_line.proofs.Asks.{feed_by, import_by, serve_by, word_asks}
+use Rattle.bike_command_line.proofs.Asks.{feed_by, history_by, import_by, serve_by, word_asks}
 use Rattle.bike_command_line.proofs.Bounds.{found_within}
 use Rattle.bike_command_line.proofs.Numbers.{no_number, number_read}
 use Rattle.bike_command_line.proofs.Parse.{faulty, fileless, taskless}
@@ -72,9 +72,6 @@ after_led : number_of 0 9223372036854775807 (codes "01") ≡ None
 unfolding number_of
 after_led = let one : decimal (digits_value 10 (codes "01")) ≡ codes "1" = decimal_digit 1 (omega arith) in rw one refl
 
-abbrev after_alone : Option ℕ → Option Wanted
-after_alone = option_map (λ (after : ℕ). want.History after)
-
 abbrev port_alone : Option ℕ → Option Wanted
 port_alone = option_and_then (λ (port : ℕ). Some (want.Serve port None))
 
@@ -103,9 +100,9 @@ returns c = record {
   no_table = taskless (parted (codes "day f riders 2024-03-31 UTC0")) refl;
   no_zone = taskless (parted (codes "day f entries 2024-03-31")) refl;
   history = (refl, (refl, refl));
-  history_after = (refl, (ap after_alone after_read, refl));
-  past = taskless (parted (codes "history f 9223372036854775808")) (ap after_alone after_past);
-  led = taskless (parted (codes "history f 01")) (ap after_alone after_led);
+  history_after = (refl, (ap history_by after_read, refl));
+  past = taskless (parted (codes "history f 9223372036854775808")) (ap history_by after_past);
+  led = taskless (parted (codes "history f 01")) (ap history_by after_led);
   below = faulty (parted (codes "history f -1")) refl;
   import = λ name is. (refl, (sym (ap (λ (n : Text). Some (want.Import n None)) is), refl));
   import_at = λ name is. (refl, (ap (import_by (Some (codes "harbor-2"))) moment_read ∙ sym (ap (λ (n : Text). Some (want.Import n (Some 1700000000))) is), refl));

@@ -25,8 +25,8 @@ returns-in-Some-clause-ok g c clean s keeps remembers =
     let ours = kept_ours old s keeps in
     let key : key_of c.as_str-caller.result.now c.as_str.result.now ≡ key_in q = ap₂ key_of (c.as_str-caller.ensures.value ∙ c.text-caller.ensures.text) c.as_str.ensures.text ∙ ap key_in c.request.view_is in
     let found = c.in_ok-kept.ensures.found clean ours s (kept_stores old s keeps) in
-    let same : KeepsSame (kept_under (key_in q) s.history) (Some c.in-Some.kept) = subst₂ (λ k o. KeepsSame (kept_under k s.history) o) key c.in-Some.is found in
-    let it = step_kept s c.args.moment q (kept_under (key_in q) s.history) c.in-Some.kept c.args.text.now refl same c.requires.text in
+    let same : KeepsSame (kept_under (key_in q) s.history.items) (Some c.in-Some.kept) = subst₂ (λ k o. KeepsSame (kept_under k s.history.items) o) key c.in-Some.is found in
+    let it = step_kept s c.args.moment q (kept_under (key_in q) s.history.items) c.in-Some.kept c.args.text.now refl same c.requires.text in
     record {
       reply = c.kept_answer.ensures ∙ it.0;
       keeps =
@@ -43,9 +43,9 @@ returns-in-None-clause-ok g c clean s keeps remembers =
     let key : key_of c.as_str-caller.result.now c.as_str.result.now ≡ key_in q = ap₂ key_of (c.as_str-caller.ensures.value ∙ c.text-caller.ensures.text) c.as_str.ensures.text ∙ ap key_in c.request.view_is in
     let seen : HasCleanDisk (state g.S.Store c.find_kept.new.conn) = omega (arith, clean, c.serve_anew.ensures.clean) in
     let found = c.in_ok-kept.ensures.found seen ours s (kept_stores old s keeps) in
-    let same : KeepsSame (kept_under (key_in q) s.history) None = subst₂ (λ k o. KeepsSame (kept_under k s.history) o) key c.in-None.is found in
+    let same : KeepsSame (kept_under (key_in q) s.history.items) None = subst₂ (λ k o. KeepsSame (kept_under k s.history.items) o) key c.in-None.is found in
     c.serve_anew.ensures.ok clean s (still g.S.Store c.args.conn.now c.find_kept.new.conn s keeps seen (c.in_ok-kept.ensures.same seen ours) c.find_kept.ensures.quiet) remembers
-    (none_kept s c.args.moment q (kept_under (key_in q) s.history) refl same)
+    (none_kept s c.args.moment q (kept_under (key_in q) s.history.items) refl same)
 
 pub returns-in-None-clause-failed : goal.returns-in-None-clause-failed
 returns-in-None-clause-failed g c clean s keeps remembers =
@@ -55,9 +55,9 @@ returns-in-None-clause-failed g c clean s keeps remembers =
     let key : key_of c.as_str-caller.result.now c.as_str.result.now ≡ key_in q = ap₂ key_of (c.as_str-caller.ensures.value ∙ c.text-caller.ensures.text) c.as_str.ensures.text ∙ ap key_in c.request.view_is in
     let seen : HasCleanDisk (state g.S.Store c.find_kept.new.conn) = omega (arith, clean, c.serve_anew.ensures.clean) in
     let found = c.in_ok-kept.ensures.found seen ours s (kept_stores old s keeps) in
-    let same : KeepsSame (kept_under (key_in q) s.history) None = subst₂ (λ k o. KeepsSame (kept_under k s.history) o) key c.in-None.is found in
+    let same : KeepsSame (kept_under (key_in q) s.history.items) None = subst₂ (λ k o. KeepsSame (kept_under k s.history.items) o) key c.in-None.is found in
     c.serve_anew.ensures.failed clean s (still g.S.Store c.args.conn.now c.find_kept.new.conn s keeps seen (c.in_ok-kept.ensures.same seen ours) c.find_kept.ensures.quiet) remembers
-    (none_kept s c.args.moment q (kept_under (key_in q) s.history) refl same)
+    (none_kept s c.args.moment q (kept_under (key_in q) s.history.items) refl same)
 
 pub returns-in-Some-clause-others : goal.returns-in-Some-clause-others
 returns-in-Some-clause-others g c clean s keeps remembers = others_same _ _ (c.in_ok-kept.ensures.same clean (kept_ours (state g.S.Store c.args.conn.now) s keeps)).0.now_is
@@ -71,10 +71,10 @@ returns-in-None-clause-others g c clean s keeps remembers =
     let seen : HasCleanDisk (state g.S.Store c.find_kept.new.conn) = omega (arith, clean, c.serve_anew.ensures.clean) in
     let read = c.in_ok-kept.ensures.same seen ours in
     let found = c.in_ok-kept.ensures.found seen ours s (kept_stores old s keeps) in
-    let same : KeepsSame (kept_under (key_in q) s.history) None = subst₂ (λ k o. KeepsSame (kept_under k s.history) o) key c.in-None.is found in
+    let same : KeepsSame (kept_under (key_in q) s.history.items) None = subst₂ (λ k o. KeepsSame (kept_under k s.history.items) o) key c.in-None.is found in
     subst (λ db. OnOk c.serve_anew.result (OthersStay db (state g.S.Store c.serve_anew.new.conn).now)) read.0.now_is
     (c.serve_anew.ensures.others clean s (still g.S.Store c.args.conn.now c.find_kept.new.conn s keeps seen read c.find_kept.ensures.quiet) remembers
-    (none_kept s c.args.moment q (kept_under (key_in q) s.history) refl same))
+    (none_kept s c.args.moment q (kept_under (key_in q) s.history.items) refl same))
 
 pub returns-in-Some-clause-rests : goal.returns-in-Some-clause-rests
 returns-in-Some-clause-rests g c clean s keeps remembers rests = (c.in_ok-kept.ensures.same clean (kept_ours (state g.S.Store c.args.conn.now) s keeps)).0.now_is
@@ -88,7 +88,7 @@ returns-in-None-clause-rests g c clean s keeps remembers rests =
     let seen : HasCleanDisk (state g.S.Store c.find_kept.new.conn) = omega (arith, clean, c.serve_anew.ensures.clean) in
     let read = c.in_ok-kept.ensures.same seen ours in
     let found = c.in_ok-kept.ensures.found seen ours s (kept_stores old s keeps) in
-    let same : KeepsSame (kept_under (key_in q) s.history) None = subst₂ (λ k o. KeepsSame (kept_under k s.history) o) key c.in-None.is found in
+    let same : KeepsSame (kept_under (key_in q) s.history.items) None = subst₂ (λ k o. KeepsSame (kept_under k s.history.items) o) key c.in-None.is found in
     subst (λ db. OnOk c.serve_anew.result ((state g.S.Store c.serve_anew.new.conn).now ≡ db)) read.0.now_is
     (c.serve_anew.ensures.rests clean s (still g.S.Store c.args.conn.now c.find_kept.new.conn s keeps seen read c.find_kept.ensures.quiet) remembers
-    (none_kept s c.args.moment q (kept_under (key_in q) s.history) refl same) rests)
+    (none_kept s c.args.moment q (kept_under (key_in q) s.history.items) refl same) rests)

@@ -1,9 +1,9 @@
 use Rattle.std.proofs.Common.{refl}
 use Rattle.sqlite_tied.specs.Compute.{everything}
-use Rattle.bike_book.specs.Tables.{Meta, System, Plans, Regions, Riders, Rentals, Entries, History, MoreNames}
+use Rattle.bike_book.specs.Tables.{Meta, System, Plans, Regions, Rentals, Entries, History, MoreNames, Books}
 use Rattle.bike_judges.proofs.RowTexts.{table_lines}
 use Rattle.bike_judges.proofs.SortedTexts.{history_key_lines}
-use Rattle.bike_judges.proofs.JoinTexts.{segments_lines, types_lines, station_rows_lines, docks_lines, bike_trucks_lines, entry_rentals_lines}
+use Rattle.bike_judges.proofs.JoinTexts.{segments_lines, types_lines, station_rows_lines, docks_lines, bike_trucks_lines, rider_rows_lines, entry_rentals_lines}
 use Rattle.bike_judges.proofs.TwoJoinTexts.{bike_names_lines, bike_uses_lines, order_names_lines, name_places_lines, name_offers_lines, order_ends_lines}
 use Rattle.bike_judges.proofs.UnionTexts.{bike_docks_lines, trucks_lines, order_bikes_lines}
 use Rattle.bike_judges.proofs.UnionOfThreeTexts.{stations_lines}
@@ -67,7 +67,7 @@ returns-in-Trucks c = rw c.in-Trucks.is (trucks_lines (λ tree more. (refl, refl
 
 pub returns-in-RiderRows : goal.returns-in-RiderRows
 unfolding everything
-returns-in-RiderRows c = rw c.in-RiderRows.is (table_lines Riders (λ tree. refl, refl))
+returns-in-RiderRows c = rw c.in-RiderRows.is (rider_rows_lines (λ tree more. refl, refl))
 
 pub returns-in-Rentals : goal.returns-in-Rentals
 unfolding everything
@@ -112,3 +112,7 @@ returns-in-NamePlaces c = rw c.in-NamePlaces.is (name_places_lines (λ tree more
 pub returns-in-NameOffers : goal.returns-in-NameOffers
 unfolding everything
 returns-in-NameOffers c = rw c.in-NameOffers.is (name_offers_lines (λ tree more last. refl, refl))
+
+pub returns-in-Books : goal.returns-in-Books
+unfolding everything
+returns-in-Books c = rw c.in-Books.is (table_lines Books (λ tree. refl, refl))

@@ -1,5 +1,5 @@
 use Rattle.bike_office_reads.proofs.RowLemmas.{last_read}
 use Rattle.bike_office_reads.proofs.kept.read_last.Goals as goal
 
-pub returns-in_ok-moment-in-Some : goal.returns-in_ok-moment-in-Some
-returns-in_ok-moment-in-Some c = last_read c.args.row.now c.in-Some.is c.in_ok-number-in-Some.ensures c.in_ok-moment-in-Some.ensures
+pub returns : goal.returns
+returns c = last_read c.args.row.now _ c.in_ok-number.ensures c.in_ok-moment.ensures

@@ -10,4 +10,4 @@ pub returns : goal.returns
 returns g c =
     let rider = c.args.rider in
     answers_then _ _ c.in_ok-row.ensures (λ s m sound listing is. IfOk-weaker c.last_number.result _ _
-    (λ x reads. reads (newest_number s rider) (subst (IsLast (newest_number s rider)) (sym is) (newest_last s.entries (newest_rental s rider)))) c.last_number.ensures)
+    (λ x reads. reads (newest_number s rider) (subst (IsLast 0 (newest_number s rider)) (sym is) (newest_last s.entries.items (newest_rental s rider)))) c.last_number.ensures)

@@ -6,7 +6,7 @@ use Rattle.bike_office_reads.proofs.newest.find_open_after.Goals as goal
 
 pub returns-in_ok-read_ride-in-Some : goal.returns-in_ok-read_ride-in-Some
 returns-in_ok-read_ride-in-Some g c =
-    answers_then _ _ c.in_ok-row.ensures (λ s m sound listing is. ride_told s.entries (open_after s c.args.number) (sym c.in-Some.is ∙ is) c.in_ok-read_ride-in-Some.ensures)
+    answers_then _ _ c.in_ok-row.ensures (λ s m sound listing is. ride_told s.entries.items (open_after s c.args.number) (sym c.in-Some.is ∙ is) c.in_ok-read_ride-in-Some.ensures)
 
 pub returns-in-None : goal.returns-in-None
-returns-in-None g c = answers_then _ _ c.in_ok-row.ensures (λ s m sound listing is. no_ride s.entries (open_after s c.args.number) (sym c.in-None.is ∙ is))
+returns-in-None g c = answers_then _ _ c.in_ok-row.ensures (λ s m sound listing is. no_ride s.entries.items (open_after s c.args.number) (sym c.in-None.is ∙ is))

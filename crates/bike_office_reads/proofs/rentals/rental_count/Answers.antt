@@ -1,11 +1,18 @@
-use Rattle.std.proofs.Common.{length, sym, subst}
+use Rattle.std.proofs.Common.{sym, ap, ◌∙◌}
 use Rattle.std.proofs.lemmas.Result.{IfOk-weaker}
-use Rattle.bike_book.specs.Found.{IsLast}
+use Rattle.bike_operator.specs.Operator.{last_number}
 use Rattle.bike_book.proofs.FoundNumbers.{found_numbers}
-use Rattle.bike_schema.proofs.AnswerLemmas.{answers_then}
+use Rattle.bike_schema.proofs.AnswerLemmas.{answers_then, answers_both}
+use Rattle.bike_office_reads.specs.declared.books.Archived.{Archived}
+use Rattle.bike_office_reads.proofs.RowLemmas.{last_counted, all_archived}
 use Rattle.bike_office_reads.proofs.rentals.rental_count.Goals as goal
 
-pub returns : goal.returns
-returns g c =
-    answers_then _ _ c.in_ok-row.ensures (λ s m sound listing is. IfOk-weaker c.last_number.result _ _
-    (λ x reads. reads (length s.rentals) (subst (IsLast (length s.rentals)) (sym is) (found_numbers s m sound listing).last_rental)) c.last_number.ensures)
+pub returns-in-Some : goal.returns-in-Some
+returns-in-Some g c =
+    answers_then _ _ c.in_ok-row.ensures (λ s m sound listing is. IfOk-weaker c.number_in.result _ _
+    (λ x reads. last_counted s.rentals.archived (last_number s.rentals) (sym c.in-Some.is ∙ is) (found_numbers s m sound listing).last_rental reads) c.number_in.ensures)
+
+pub returns-in_ok-find_archived-in-None : goal.returns-in_ok-find_archived-in-None
+returns-in_ok-find_archived-in-None g c =
+    answers_then _ _ (answers_both _ _ c.in_ok-row.ensures c.in_ok-find_archived-in-None.ensures) (λ s m sound listing both.
+    ap (λ (x : Archived). x.rentals) both.1 ∙ all_archived s.rentals.archived (last_number s.rentals) (sym c.in-None.is ∙ both.0) (found_numbers s m sound listing).last_rental)

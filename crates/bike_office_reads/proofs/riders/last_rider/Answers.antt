@@ -10,4 +10,4 @@ pub returns : goal.returns
 returns g c =
     answers_then _ _ c.in_ok-row.ensures (λ s m sound listing is.
     let most = riders_at_most s m sound listing in
-    IfOk-weaker c.last_number.result _ _ (λ x reads. subst (λ n. fin.len s.riders ≤ n) (sym (reads most.0 (subst (IsLast most.0) (sym is) most.1))) most.2) c.last_number.ensures)
+    IfOk-weaker c.last_number.result _ _ (λ x reads. subst (λ n. fin.len s.riders ≤ n) (sym (reads most.0 (subst (IsLast 0 most.0) (sym is) most.1))) most.2) c.last_number.ensures)

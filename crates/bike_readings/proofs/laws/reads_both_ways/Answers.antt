@@ -1,6 +1,6 @@
 use Rattle.bike_readings.proofs.CatalogueRows.{meta_reading, system_reading, plan_reading, segment_reading, type_reading, region_reading, station_reading, dock_reading, name_reading}
 use Rattle.bike_readings.proofs.FleetRows.{bike_reading, truck_reading, order_reading}
-use Rattle.bike_readings.proofs.LedgerRows.{rider_reading, rental_reading, entry_reading}
+use Rattle.bike_readings.proofs.LedgerRows.{rider_reading, rental_reading, entry_reading, books_reading}
 use Rattle.bike_readings.proofs.RequestRows.{request_reading}
 use Rattle.bike_readings.proofs.laws.reads_both_ways.Goals as goal
 
@@ -51,3 +51,6 @@ returns-clause-history c = request_reading
 
 pub returns-clause-more_names : goal.returns-clause-more_names
 returns-clause-more_names c = name_reading
+
+pub returns-clause-books : goal.returns-clause-books
+returns-clause-books c = books_reading

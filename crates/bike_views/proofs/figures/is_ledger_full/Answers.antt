@@ -1,12 +1,13 @@
-use Rattle.std.proofs.Common.{◌+◌, ◌<◌, arith, nat_le, length, sym, subst, ◌∙◌}
+use Rattle.std.proofs.Common.{◌+◌, ◌<◌, arith, nat_le, sym, subst, ◌∙◌}
 use Rattle.bike_sql.proofs.ChainLaws.{reads_as}
+use Rattle.bike_operator.specs.Operator.{last_number}
 use Rattle.bike_operator.specs.declared.limits.TheConstants.{MOST_BIKES, MOST_ENTRIES}
 use Rattle.bike_views.proofs.OpenLaws.{open_of, open_sound}
 use Rattle.bike_views.proofs.figures.is_ledger_full.Goals as goal
 
 pub returns-then-entries : goal.returns-then-entries
 returns-then-entries g c = open_sound _ (λ s m sound are.
-    let few : length s.entries + MOST_BIKES < MOST_ENTRIES = subst (λ n. n + MOST_BIKES < MOST_ENTRIES) are (omega arith) in
+    let few : last_number s.entries + MOST_BIKES < MOST_ENTRIES = subst (λ n. n + MOST_BIKES < MOST_ENTRIES) are (omega arith) in
     sym (c.ledger_room_law.ensures.room s sound few))
 
 pub returns : goal.returns

@@ -10,11 +10,11 @@ use Rattle.bike_views.proofs.rentals.find_rental_bike_at.Goals as goal
 
 pub returns-in-None : goal.returns-in-None
 returns-in-None g c = reads_as c.in_ok-find_rental.ensures (λ db it s h.
-    let none = rental_lacks c.args.rental s.entries (item_numbered c.args.rental s.rentals) (it s h) c.in-None.is in
+    let none = rental_lacks c.args.rental s.entries.items (item_numbered c.args.rental s.rentals) (it s h) c.in-None.is in
     λ i. record { bike = bike_of s (none i); rental = rental_view s c.args.rental (none i) })
 
 pub returns-in-Some : goal.returns-in-Some
 returns-in-Some g c = reads_weaker (reads_both c.in_ok-find_rental.ensures c.find_rental_bike.ensures) (λ db x it s h.
-    let found = rental_read c.args.rental s.entries (item_numbered c.args.rental s.rentals) (it.0 s h) c.in-Some.is in
+    let found = rental_read c.args.rental s.entries.items (item_numbered c.args.rental s.rentals) (it.0 s h) c.in-Some.is in
     let whole = λ (o : Option Rental). let ridden : RentalBike = record { bike = bike_of s o; rental = rental_view s c.args.rental o } in ridden in
     it.1 s h found.1 ∙ ap whole (sym found.0))

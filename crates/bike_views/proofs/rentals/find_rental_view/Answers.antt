@@ -8,9 +8,9 @@ use Rattle.bike_views.proofs.rentals.find_rental_view.Goals as goal
 
 pub returns-in-None : goal.returns-in-None
 returns-in-None g c = reads_as c.in_ok-find_rental.ensures (λ db it s h.
-    ap (rental_view s c.args.rental) (rental_lacks c.args.rental s.entries (item_numbered c.args.rental s.rentals) (it s h) c.in-None.is))
+    ap (rental_view s c.args.rental) (rental_lacks c.args.rental s.entries.items (item_numbered c.args.rental s.rentals) (it s h) c.in-None.is))
 
 pub returns-in-Some : goal.returns-in-Some
 returns-in-Some g c = reads_weaker (reads_both c.in_ok-find_rental.ensures c.find_planned_rental.ensures) (λ db x it s h.
-    let found = rental_read c.args.rental s.entries (item_numbered c.args.rental s.rentals) (it.0 s h) c.in-Some.is in
+    let found = rental_read c.args.rental s.entries.items (item_numbered c.args.rental s.rentals) (it.0 s h) c.in-Some.is in
     it.1 s h found.1 ∙ ap (rental_view s c.args.rental) (sym found.0))

@@ -7,20 +7,20 @@ use Rattle.bike_catalogue_rules.proofs.meta.MetaJudgeJudge.take.Goals as goal
 
 pub returns-then-self : goal.returns-then-self
 returns-then-self c = λ left verdict is.
-    row_behind is_meta c.args.self.now.seen c.args.line.now left verdict is c.if-self.true ∙ ap Some (sym c.in_ok-number_key.ensures)
+    row_behind (is_meta c.args.self.now.archived) c.args.self.now.seen c.args.line.now left verdict is c.if-self.true ∙ ap Some (sym c.in_ok-number_key.ensures)
 
 pub returns-then-is_meta : goal.returns-then-is_meta
 returns-then-is_meta c = λ left verdict is.
     let told = c.is_meta.ensures in
     let holds = c.if-is_meta.true in
-    let good : is_meta c.args.line.now ≡ true = cc in
-    good_first is_meta c.args.self.now.seen c.args.line.now left verdict is c.if-self.false good
+    let good : is_meta c.args.self.now.archived c.args.line.now ≡ true = cc in
+    good_first (is_meta c.args.self.now.archived) c.args.self.now.seen c.args.line.now left verdict is c.if-self.false good
 
 pub returns : goal.returns
 returns c = λ left verdict is.
     let told = c.is_meta.ensures in
     let fails = c.if-is_meta.false in
-    let bad : is_meta c.args.line.now ≡ false = cc in
-    found_least (λ (j : MetaJudge) lines found. first_meta is_meta j.seen lines ≡ found) c.args.self.now left verdict c.least.result _ one_key c.least.ensures
-    (bad_first is_meta c.args.self.now.seen c.args.line.now left verdict is c.if-self.false bad
+    let bad : is_meta c.args.self.now.archived c.args.line.now ≡ false = cc in
+    found_least (λ (j : MetaJudge) lines found. first_meta (is_meta j.archived) j.seen lines ≡ found) c.args.self.now left verdict c.least.result _ one_key c.least.ensures
+    (bad_first (is_meta c.args.self.now.archived) c.args.self.now.seen c.args.line.now left verdict is c.if-self.false bad
     ∙ ap (λ key. least_key (Some key) (Some one_key)) (sym c.in_ok-number_key-2.ensures))

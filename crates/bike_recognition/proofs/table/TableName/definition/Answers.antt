@@ -1,4 +1,4 @@
-use Rattle.bike_book.specs.Tables.{Meta, System, Plans, Segments, Types, Regions, Stations, Docks, Bikes, Trucks, Riders, Rentals, Orders, Entries, History, MoreNames}
+use Rattle.bike_book.specs.Tables.{Meta, System, Plans, Segments, Types, Regions, Stations, Docks, Bikes, Trucks, Riders, Rentals, Orders, Entries, History, MoreNames, Books}
 use Rattle.bike_schema.proofs.MakeFacts.{declared}
 use Rattle.bike_recognition.proofs.table.TableName.definition.Goals as goal
 
@@ -49,3 +49,6 @@ returns-in-History c = rw c.in-History.is (declared History).defined
 
 pub returns-in-MoreNames : goal.returns-in-MoreNames
 returns-in-MoreNames c = rw c.in-MoreNames.is (declared MoreNames).defined
+
+pub returns-in-Books : goal.returns-in-Books
+returns-in-Books c = rw c.in-Books.is (declared Books).defined

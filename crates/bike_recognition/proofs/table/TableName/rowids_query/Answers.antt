@@ -1,5 +1,5 @@
 use Rattle.bike_recognition.proofs.RowidTexts.{meta_rowids, system_rowids, plans_rowids, segments_rowids, types_rowids, regions_rowids, stations_rowids, docks_rowids, bikes_rowids, trucks_rowids}
-use Rattle.bike_recognition.proofs.RowidTexts.{riders_rowids, rentals_rowids, orders_rowids, entries_rowids, history_rowids, more_names_rowids}
+use Rattle.bike_recognition.proofs.RowidTexts.{riders_rowids, rentals_rowids, orders_rowids, entries_rowids, history_rowids, more_names_rowids, books_rowids}
 use Rattle.bike_recognition.proofs.table.TableName.rowids_query.Goals as goal
 
 pub returns-in-Meta : goal.returns-in-Meta
@@ -49,3 +49,6 @@ returns-in-History c = rw c.in-History.is history_rowids
 
 pub returns-in-MoreNames : goal.returns-in-MoreNames
 returns-in-MoreNames c = rw c.in-MoreNames.is more_names_rowids
+
+pub returns-in-Books : goal.returns-in-Books
+returns-in-Books c = rw c.in-Books.is books_rowids

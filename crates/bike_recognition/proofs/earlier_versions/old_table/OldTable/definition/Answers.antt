@@ -1,4 +1,4 @@
-use Rattle.bike_recognition.proofs.EarlierVersions.OldTexts.{counts_defined}
+use Rattle.bike_recognition.proofs.EarlierVersions.OldTexts.{counts_defined, riders_defined}
 use Rattle.bike_recognition.proofs.earlier_versions.old_table.OldTable.definition.Goals as goal
 
 pub returns-in-Stations : goal.returns-in-Stations
@@ -6,3 +6,6 @@ returns-in-Stations c = rw c.in-Stations.is c.stations_definition.ensures
 
 pub returns-in-Counts : goal.returns-in-Counts
 returns-in-Counts c = rw c.in-Counts.is counts_defined
+
+pub returns-in-Riders : goal.returns-in-Riders
+returns-in-Riders c = rw c.in-Riders.is riders_defined

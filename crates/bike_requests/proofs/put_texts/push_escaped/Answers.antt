@@ -1,6 +1,0 @@
-use Rattle.std.proofs.Common.{arith, rules}
-use Rattle.bike_requests.proofs.Escaping.{char_stays}
-use Rattle.bike_requests.proofs.put_texts.push_escaped.Goals as goal
-
-pub returns-in_default : goal.returns-in_default
-returns-in_default c = rw (char_stays c.args.c (omega arith) (omega arith) (omega arith) (omega arith)) (search rules)
