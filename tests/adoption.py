@@ -548,7 +548,7 @@ CHANGES = [
     ("ALTER TABLE riders_4 RENAME TO riders", "foreign"),
     ("DROP TABLE books", "foreign"),
     ("ALTER TABLE books ADD COLUMN orders INTEGER", "foreign"),
-    ("CREATE TABLE helmets (rider INTEGER REFERENCES riders)", "foreign"),
+    ("CREATE TABLE helmets (rider INTEGER REFERENCES riders)", None),
     ("CREATE TABLE riders (name TEXT UNIQUE); INSERT INTO riders VALUES ('x')", None),
     ("CREATE TABLE helmets (rider INTEGER REFERENCES riders_4)", "foreign"),
     ("CREATE TABLE offices (region TEXT REFERENCES regions)", "foreign"),

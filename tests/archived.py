@@ -3,7 +3,6 @@
 in it, that what was archived is there no more, and which of them are refused.
 """
 
-import itertools
 import sqlite3
 from pathlib import Path
 
@@ -56,8 +55,7 @@ def shown(program, file):
 
 def some_counts():
     """How many were archived: each alone, together, and all. Of a rental that stays, fare and refunds stay."""
-    each = itertools.product((0, 1, 20, REQUESTS), (0, 1, 3, ENTRIES), (0, RENTALS))
-    return [it for it in each if any(it) and (it[1] < 2 or it[2])]
+    return [(1, 0, 0), (REQUESTS, 0, 0), (0, 1, 0), (0, 0, 1), (0, 3, 1), (20, 3, 1), (REQUESTS, ENTRIES, RENTALS)]
 
 
 @quickly
