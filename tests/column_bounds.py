@@ -60,7 +60,7 @@ BY_HAND = [
     ("stations_4", "free", "a1", {LEAST: "stations_4 a1", MOST: "stations_4 a1"}),
     ("riders_4", "balance", 17, {LEAST: "riders_4 17", MOST: "riders_4 17"}),
     ("riders_4", "before", 17, {0: None, LEAST: "riders_4 17", MOST: "riders_4 17"}),
-    ("riders_4", "plan_id", 17, {"day": "riders_4 17", "Day": "riders_4 17", "-": "riders_4 17"}),
+    ("riders_4", "plan_id", 17, {"day": None, "night": "riders_4 17", "Day": "riders_4 17", "-": "riders_4 17"}),
 ]
 
 

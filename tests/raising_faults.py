@@ -20,8 +20,8 @@ import memory
 import stops
 import tampered
 from raising import (
-    COLUMNS, COUNTS_COLUMNS, DONE, KEPT, KEPT_COLUMNS, MOST_DOCKS, MOST_DOCKS_BEFORE, NEW, NEWEST, OLD, SECONDS, SEED,
-    UNSETTLED, WITHOUT_MEMORY, by_type_of, held, is_raised, lowered, newer, of_sql, older, quoted, raised, stays,
+    COLUMNS, COUNTS_COLUMNS, DONE, KEPT, KEPT_COLUMNS, MOST_DOCKS, MOST_DOCKS_BEFORE, NEW, NEWEST, OLD, RIDERS_COLUMNS,
+    SECONDS, SEED, UNSETTLED, WITHOUT_MEMORY, by_type_of, held, is_raised, lowered, newer, of_sql, older, quoted, raised, stays,
     unsound, where_built,
 )
 from shared import (
@@ -37,7 +37,8 @@ def read(file, version):
     """The tables of an earlier schema by the names of today, and `counts`, texts as bytes. What is kept is numbered by
     its rowids."""
     names = {it: it for it in audit.TABLES if it not in NEW[version]} | {"counts": "counts"}
-    tables = audit.read(file, {**names, "stations_4": OLD[version], "history": "kept ORDER BY rowid"})
+    olds = {"stations_4": OLD[version], "riders_4": "riders", "history": "kept ORDER BY rowid"}
+    tables = audit.read(file, {**names, **olds})
     return tables | {"history": [{"number": at, "moment": 0, **it} for at, it in enumerate(tables["history"], 1)]}
 
 
@@ -68,14 +69,16 @@ def verdict(file, version):
     # The sums tell nothing.
     row |= {"version": NEWEST, "cash": 0, "revenue": 0}
     stations = [station_of_today(it, tables["counts"]) for it in tables["stations_4"]]
-    whole = {name: tables.get(name, []) for name in audit.TABLES} | {"stations_4": stations}
+    riders = [{**it, "before": 0, "plan_id": None} for it in tables["riders_4"]]
+    whole = {name: tables.get(name, []) for name in audit.TABLES} | {"stations_4": stations, "riders_4": riders}
     most = MOST_DOCKS_BEFORE if version < 3 else MOST_DOCKS
     many = [("stations_4", [it["station_id"]]) for it in stations if it["docks"] > most]
     bad = [it for it in (*many, audit.Audit(whole).first_bad()) if it]
     if not bad:
         return DONE
     table, key = min(bad, key=lambda it: (list(audit.TABLES).index(it[0]), [audit.rank(value) for value in it[1]]))
-    return unsound(OLD[version] if table == "stations_4" else table, b"/".join(audit.shown(it) for it in key))
+    before = {"stations_4": OLD[version], "riders_4": "riders"}
+    return unsound(before.get(table, table), b"/".join(audit.shown(it) for it in key))
 
 
 def test_a_station_of_more_docks(program):
@@ -141,7 +144,8 @@ def changes_of(version, kind, tables):
                 sql, values = sql.replace("kept VALUES (?, ", f"kept (rowid, {', '.join(KEPT_COLUMNS)}) VALUES ("), [
                     values[0], *values[2:]
                 ]
-        yield name, tampered.by_sql(sql.replace("stations_4", OLD[version]), values, *more)
+        sql = sql.replace("stations_4", OLD[version]).replace("riders_4", "riders")
+        yield name, tampered.by_sql(sql, values, *more)
 
 
 def judged(program, city, version, changes, salt, wanted=None):
@@ -251,7 +255,7 @@ def test_tables_and_columns(program):
         changes = []
         for name, rows in tables.items():
             columns = KEPT_COLUMNS if name == "history" else list(rows[0])
-            name = {"stations_4": OLD[version], "history": "kept"}.get(name, name)
+            name = {"stations_4": OLD[version], "riders_4": "riders", "history": "kept"}.get(name, name)
             changes += [
                 f"DROP TABLE {name}",
                 f"ALTER TABLE {name} RENAME TO {name}_old",
@@ -273,7 +277,7 @@ def as_sqlite_reads(file, version):
     try:
         held(file)
         found = read(file, version)
-        others = {"stations_4": COLUMNS[version], "counts": COUNTS_COLUMNS}
+        others = {"stations_4": COLUMNS[version], "riders_4": RIDERS_COLUMNS, "counts": COUNTS_COLUMNS}
         columns = {name: others.get(name) or list(audit.BOUNDS[name]) for name in found}
         # A byte of a table's text may have changed the name of a column.
         same = all(list(rows[0]) == columns[name] for name, rows in found.items() if rows)

@@ -241,9 +241,14 @@ def updates(tables):
                     yield f"{sql} {[value, *found]!r:.200}", by_sql(sql, (value, *found))
 
 
+def filled(tables):
+    """The tables with rows. Nothing was archived here, so books has none: archived.py changes its row."""
+    return [(name, rows) for name, rows in tables.items() if rows]
+
+
 def unlike(tables):
     """Values that the columns can't hold: of another kind, or NULL, and texts that are not UTF-8."""
-    for name, rows in tables.items():
+    for name, rows in filled(tables):
         row = rows[-1]
         keys = list(row)[: TABLES[name]]
         where = " AND ".join(f"{it} IS ?" for it in keys)
@@ -260,7 +265,7 @@ def unlike(tables):
 
 
 def not_utf8(tables):
-    for name, rows in tables.items():
+    for name, rows in filled(tables):
         row = rows[-1]
         keys = list(row)[: TABLES[name]]
         where = " AND ".join(f"{it} = ?" for it in keys)
@@ -272,7 +277,7 @@ def not_utf8(tables):
 
 
 def rows_added_and_removed(tables):
-    for name, rows in tables.items():
+    for name, rows in filled(tables):
         columns = list(rows[0])
         keys = columns[: TABLES[name]]
         for row in rows:
@@ -312,7 +317,7 @@ def tables_of(city, program):
     file.write_bytes(city)
     tables = read(file)
     file.unlink()
-    assert verdict(tables) == SOUND and all(tables.values()), verdict(tables)
+    assert verdict(tables) == SOUND and all(rows for name, rows in tables.items() if name != "books"), verdict(tables)
     return tables
 
 
@@ -529,8 +534,8 @@ def test_tables_and_columns(program):
     city, _ = made(program)
     tables = tables_of(city, program)
     foreign, sound = [], []
-    for name, rows in tables.items():
-        columns = list(rows[0])
+    for name in tables:
+        columns = list(BOUNDS[name])
         foreign += [
             f"DROP TABLE {name}",
             f"ALTER TABLE {name} RENAME TO {name}_old",
