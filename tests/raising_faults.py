@@ -21,8 +21,8 @@ import stops
 import tampered
 from raising import (
     COLUMNS, COUNTS_COLUMNS, DONE, KEPT, KEPT_COLUMNS, MOST_DOCKS, MOST_DOCKS_BEFORE, NEW, NEWEST, OLD, RIDERS_COLUMNS,
-    SECONDS, SEED, UNSETTLED, WITHOUT_MEMORY, by_type_of, held, is_raised, lowered, newer, of_sql, older, quoted, raised, stays,
-    unsound, where_built,
+    SECONDS, SEED, UNSETTLED, WITHOUT_MEMORY, by_type_of, held, is_raised, lowered, newer, of_sql, older, quoted,
+    raised, stays, unsound, where_built,
 )
 from shared import (
     FOREIGN, KILLED, SOUND, STORE_FAILED, changed, disturbed, nothing_is, put, quickly, removed, taken, tell, told_with,
